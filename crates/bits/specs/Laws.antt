@@ -1,0 +1,8 @@
+-- Laws about the definitions, one idea a file. Code is not spoken of here.
+pub mod Digits
+pub mod Bytes
+pub mod Fields
+pub mod Puts
+pub mod Packing
+pub mod Rank
+pub mod Select

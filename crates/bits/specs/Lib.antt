@@ -1,0 +1,4 @@
+-- Bit strings: the definitions that the contracts cite, the laws about them, and worked examples.
+pub mod Bits
+pub mod Laws
+mod Examples
