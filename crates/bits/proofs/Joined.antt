@@ -1,0 +1,162 @@
+-- Bytes joined to a number are a field of their bits; shifts and masks cut smaller fields out of it.
+use mathlib.Core.Path.{_≡_, refl, sym, ap, _∙_}
+use mathlib.Core.List.{List, [], _∷_, _++_}
+use Prim.Native.Nat.{ℕ, zero, suc, _+_, _-_, _*_, _/_, _%_, _^_, _≤_, _<_}
+use native.Mathlib.Decide.{decLe}
+use native.Mathlib.Nat.{add-mul, mul-assoc, mod-eq-of-lt, one-mul}
+use native.Mathlib.Numerals.{add-one, add-two, towards-suc}
+use native.Mathlib.Omega.{arith}
+use lib.Dec.{lit<}
+use lib.ListN.{length, take, drop, getD, replicate, length-append}
+use lib.Pow.{pow-lt, pow-add, high, shr-shr}
+use lib.Seq.{drop-cons}
+use Rattle.bits.specs.Bits.{toBits, bits, value, field}
+use Rattle.bits.specs.Laws.Digits.{value-append, value-toBits}
+use Rattle.bits.specs.Laws.Bytes.{AreBytes, take-bytes, drop-bytes, length-bits, bits-append, part-bits}
+use Rattle.bits.specs.Laws.Fields.{field-inside, field-front, field-append}
+
+-- the bytes, one below the other, below the number a
+abbrev pub joined : ℕ → List ℕ → ℕ
+joined a [] = a
+joined a (b ∷ bytes) = joined (a * 256 + b) bytes
+
+joined-value : (a : ℕ) (bytes : List ℕ) → AreBytes bytes → joined a bytes ≡ a * 2 ^ (8 * length bytes) + value (bits bytes)
+unfolding bits value
+joined-value a [] h = omega arith
+joined-value a (b ∷ bytes) h =
+    let e : 8 * suc (length bytes) ≡ 8 + 8 * length bytes = omega arith in
+    rw (
+      joined-value (a * 256 + b) bytes (λ i. h (suc i)),
+      value-append (toBits 8 b) (bits bytes),
+      value-toBits 8 b,
+      length-bits bytes,
+      mod-eq-of-lt (h 0),
+      e,
+      pow-add 2 8 (8 * length bytes),
+      add-mul (a * 256) b (2 ^ (8 * length bytes)),
+      mul-assoc a 256 (2 ^ (8 * length bytes)),
+    )
+    (omega arith)
+
+pub value-joined : (bytes : List ℕ) → AreBytes bytes → value (bits bytes) ≡ joined 0 bytes
+value-joined bytes h = omega (arith, joined-value 0 bytes h)
+
+-- bytes that are given one by one
+pub data EachByte : List ℕ → Type 0 where
+  none : EachByte []
+  more : {b : ℕ} {bytes : List ℕ} → b < 256 → EachByte bytes → EachByte (b ∷ bytes)
+
+pub each-byte : {bytes : List ℕ} → EachByte bytes → AreBytes bytes
+each-byte none i = lit< tt
+each-byte (more h k) zero = h
+each-byte (more h k) (suc i) = each-byte k i
+
+-- n bytes from byte f on are the field of their bits
+pub field-bytes : (bytes : List ℕ) (f n : ℕ) → field (8 * n) (bits bytes) (8 * f) ≡ value (bits (take n (drop f bytes)))
+unfolding field
+field-bytes bytes f n = ap value (sym (part-bits n f bytes))
+
+pub field-joined : (bytes : List ℕ) (f n : ℕ) → AreBytes bytes → field (8 * n) (bits bytes) (8 * f) ≡ joined 0 (take n (drop f bytes))
+field-joined bytes f n h = field-bytes bytes f n ∙ value-joined (take n (drop f bytes)) (take-bytes n (drop f bytes) (drop-bytes f bytes h))
+
+-- ---- one, two, three and eight bytes from byte f on
+
+module _ (bytes : List ℕ) (f : ℕ) where
+  pub one-byte : f < length bytes → take 1 (drop f bytes) ≡ getD bytes f 0 ∷ []
+  one-byte h = rw (drop-cons bytes f 0 h)
+
+  pub two-bytes : f + 2 ≤ length bytes → take 2 (drop f bytes) ≡ getD bytes f 0 ∷ getD bytes (f + 1) 0 ∷ []
+  two-bytes h = rw (drop-cons bytes f 0 (omega arith), drop-cons bytes (suc f) 0 (omega arith), add-one f)
+
+  pub three-bytes : f + 3 ≤ length bytes → take 3 (drop f bytes) ≡ getD bytes f 0 ∷ getD bytes (f + 1) 0 ∷ getD bytes (f + 2) 0 ∷ []
+  three-bytes h =
+      rw (drop-cons bytes f 0 (omega arith), drop-cons bytes (suc f) 0 (omega arith), drop-cons bytes (suc (suc f)) 0 (omega arith), add-one f, add-two f)
+
+  eight-bytes : f + 8 ≤ length bytes
+      → take 8 (drop f bytes)
+      ≡ getD bytes f 0 ∷ getD bytes (f + 1) 0 ∷ getD bytes (f + 2) 0 ∷ getD bytes (f + 3) 0 ∷ getD bytes (f + 4) 0 ∷ getD bytes (f + 5) 0 ∷ getD bytes (f + 6) 0 ∷ getD bytes (f + 7) 0 ∷ []
+  eight-bytes h =
+      rw (
+        drop-cons bytes f 0 (omega arith),
+        drop-cons bytes (suc f) 0 (omega arith),
+        drop-cons bytes (suc (suc f)) 0 (omega arith),
+        drop-cons bytes (suc (suc (suc f))) 0 (omega arith),
+        drop-cons bytes (suc (suc (suc (suc f)))) 0 (omega arith),
+        drop-cons bytes (suc (suc (suc (suc (suc f))))) 0 (omega arith),
+        drop-cons bytes (suc (suc (suc (suc (suc (suc f)))))) 0 (omega arith),
+        drop-cons bytes (suc (suc (suc (suc (suc (suc (suc f))))))) 0 (omega arith),
+      )
+      (simp towards-suc)
+
+-- the eight bytes from byte f on, with zeros past the end
+abbrev pub eight : List ℕ → ℕ → List ℕ
+eight bytes f =
+    getD bytes f 0 ∷ getD bytes (f + 1) 0 ∷ getD bytes (f + 2) 0 ∷ getD bytes (f + 3) 0 ∷ getD bytes (f + 4) 0 ∷ getD bytes (f + 5) 0 ∷ getD bytes (f + 6) 0 ∷ getD bytes (f + 7) 0 ∷ []
+
+pub word-field : (bytes : List ℕ) (f : ℕ) → f + 8 ≤ length bytes → value (bits (eight bytes f)) ≡ field 64 (bits bytes) (8 * f)
+word-field bytes f h = sym (field-bytes bytes f 8 ∙ ap (λ (l : List ℕ). value (bits l)) (eight-bytes bytes f h))
+
+zeros-at : (n i : ℕ) → _≡_ {A = ℕ} (getD (replicate n 0) i 0) 0
+zeros-at zero i = refl
+zeros-at (suc n) zero = refl
+zeros-at (suc n) (suc i) = zeros-at n i
+
+padded-at : (bytes : List ℕ) (n i : ℕ) → getD (bytes ++ replicate n 0) i 0 ≡ getD bytes i 0
+padded-at [] n i = zeros-at n i
+padded-at (b ∷ bytes) n zero = refl
+padded-at (b ∷ bytes) n (suc i) = padded-at bytes n i
+
+-- the first n of these 64 bits, where the bytes hold them
+pub short-field : (bytes : List ℕ) (f n k : ℕ) → n + k ≡ 64 → 8 * f + n ≤ 8 * length bytes → f ≤ length bytes
+    → value (bits (eight bytes f)) / 2 ^ k ≡ field n (bits bytes) (8 * f)
+short-field bytes f n k e h l =
+    let padded : List ℕ = bytes ++ replicate 8 0 in
+    let lp : length padded ≡ length bytes + 8 = length-append bytes (replicate 8 0) in
+    let lb : length (bits padded) ≡ 8 * length padded = length-bits padded in
+    let w : value (bits (eight bytes f)) ≡ field 64 (bits padded) (8 * f) = simp (padded-at bytes 8) at (word-field padded f (omega arith)) in
+    let t : field n (bits padded) (8 * f) ≡ field (n + k) (bits padded) (8 * f) / 2 ^ k = field-front (bits padded) (8 * f) n k (omega arith) in
+    rw (w, ← e, ← t, bits-append bytes (replicate 8 0)) (field-append n (bits bytes) (bits (replicate 8 0)) (8 * f) (rw (length-bits bytes) h))
+
+-- ---- fields by shifts and masks
+
+-- the mask (1 << w) - 1, at 64 bits
+pub shifted-one : (w : ℕ) → w < 64 → 1 * 2 ^ w % 2 ^ 64 ≡ 2 ^ w
+shifted-one w h = rw (one-mul (2 ^ w)) (mod-eq-of-lt (pow-lt h))
+
+-- a field inside n bytes, with k bits below it
+field-in-bytes : (bytes : List ℕ) (start w k n : ℕ) → AreBytes bytes → start / 8 + n ≤ length bytes → start % 8 + w + k ≡ 8 * n
+    → joined 0 (take n (drop (start / 8) bytes)) / 2 ^ k % 2 ^ w ≡ field w (bits bytes) start
+field-in-bytes bytes start w k n hb h e =
+    let f : ℕ = start / 8 in
+    let r : ℕ = start % 8 in
+    let s : 8 * f + r ≡ start = omega arith in
+    let i : field w (bits bytes) (8 * f + r) ≡ field (r + w + k) (bits bytes) (8 * f) / 2 ^ k % 2 ^ w =
+    field-inside (bits bytes) (8 * f) r w k (rw (length-bits bytes) (omega arith)) in
+    sym (rw (s, e, field-joined bytes f n hb) at i)
+
+pub field-in-byte : (bytes : List ℕ) (start w k : ℕ) → AreBytes bytes → start / 8 < length bytes → start % 8 + w + k ≡ 8
+    → getD bytes (start / 8) 0 / 2 ^ k % 2 ^ w ≡ field w (bits bytes) start
+field-in-byte bytes start w k hb h e =
+    let one : joined 0 (take 1 (drop (start / 8) bytes)) ≡ getD bytes (start / 8) 0 = ap (joined 0) (one-byte bytes (start / 8) h) ∙ omega arith in
+    rw one at (field-in-bytes bytes start w k 1 hb (omega arith) e)
+
+-- a field of 9 to 16 bits: its first byte, the next, and the byte in which it ends, which is the next or the one after
+pub field-in-three : (bytes : List ℕ) (start w : ℕ) → AreBytes bytes → 9 ≤ w → w ≤ 16 → start + w ≤ 8 * length bytes
+    → joined 0 (getD bytes (start / 8) 0 ∷ getD bytes (start / 8 + 1) 0 ∷ getD bytes (start / 8 + (start % 8 + w - 1) / 8) 0 ∷ []) / 2 ^ (24 - w - start % 8) % 2 ^ w
+    ≡ field w (bits bytes) start
+field-in-three bytes start w hb h9 h16 hl = go (decLe (start % 8 + w) 16)
+  where
+    go : Dec (start % 8 + w ≤ 16)
+        → joined 0 (getD bytes (start / 8) 0 ∷ getD bytes (start / 8 + 1) 0 ∷ getD bytes (start / 8 + (start % 8 + w - 1) / 8) 0 ∷ []) / 2 ^ (24 - w - start % 8) % 2 ^ w
+        ≡ field w (bits bytes) start
+    go (yes h) =
+        let last : (start % 8 + w - 1) / 8 ≡ 1 = omega arith in
+        let k : ℕ = 16 - w - start % 8 in
+        let shift : 24 - w - start % 8 ≡ 8 + k = omega arith in
+        let two : ℕ = joined 0 (getD bytes (start / 8) 0 ∷ getD bytes (start / 8 + 1) 0 ∷ []) in
+        rw (last, shift, ← shr-shr (two * 256 + getD bytes (start / 8 + 1) 0) 8 k, high two 8 (hb (start / 8 + 1)))
+        (rw (two-bytes bytes (start / 8) (omega arith)) at (field-in-bytes bytes start w k 2 hb (omega arith) (omega arith)))
+    go (no h) =
+        let last : (start % 8 + w - 1) / 8 ≡ 2 = omega arith in
+        rw last
+        (rw (three-bytes bytes (start / 8) (omega arith)) at (field-in-bytes bytes start w (24 - w - start % 8) 3 hb (omega arith) (omega arith)))

@@ -1,0 +1,112 @@
+-- Bytes stored into a slice: the bytes of a number into which a field was put are that field put into the slice's bits.
+use mathlib.Core.Path.{_≡_, sym, ap, _∙_}
+use mathlib.Core.Bool.{Bool}
+use mathlib.Core.List.{List, [], _∷_, _++_, append-assoc, append-nil}
+use Prim.Native.Nat.{ℕ, _+_, _-_, _*_, _/_, _%_, _^_, _≤_, _<_}
+use native.Mathlib.Nat.{lt-of-lt-of-le, div-mul-le-self, mul-assoc, add-mul, mod-eq-of-lt, mod-lt}
+use native.Mathlib.Numerals.{add-one, add-two}
+use native.Mathlib.Omega.{arith}
+use lib.Bits.{bitAnd, bitOr, or-shifted, and-mask}
+use lib.ListN.{length, take, drop, getD, set, length-drop}
+use lib.Pow.{shl-lt, pow-mono, pow-add, pow-pos}
+use lib.Seq.{sets, sets-eq, length-take-le}
+use Rattle.bits.specs.Bits.{toBits, bits, field, put}
+use Rattle.bits.specs.Laws.Digits.{toBits-agree, toBits-append, toBits-value}
+use Rattle.bits.specs.Laws.Bytes.{AreBytes, length-bits, bits-append, take-bits, drop-bits}
+use Rattle.bits.specs.Laws.Puts.{put-number, put-part}
+use Rattle.bits.proofs.Joined.{joined, field-joined, one-byte, two-bytes, three-bytes}
+
+-- the number x with v in the w bits above its k lowest
+abbrev pub replace : ℕ → ℕ → ℕ → ℕ → ℕ
+replace x w k v = (x / 2 ^ (w + k) * 2 ^ w + v) * 2 ^ k + x % 2 ^ k
+
+put-above : (hi w k v : ℕ) → hi * 2 ^ (w + k) + v * 2 ^ k ≡ (hi * 2 ^ w + v) * 2 ^ k
+put-above hi w k v = rw (pow-add 2 w k, ← mul-assoc hi (2 ^ w) (2 ^ k)) (sym (add-mul (hi * 2 ^ w) v (2 ^ k)))
+
+-- by shifts and masks
+pub replace-masked : (x w k v : ℕ) → w + k ≤ 24 → x < 2 ^ 24 → v < 2 ^ w
+    → bitOr (bitOr (x / 2 ^ (w + k) * 2 ^ (w + k) % 2 ^ 64) (v * 2 ^ k % 2 ^ 64)) (bitAnd x (2 ^ k - 1)) ≡ replace x w k v
+replace-masked x w k v hw hx hv =
+    let top : ℕ = w + k in
+    let hi : ℕ = x / 2 ^ top in
+    let vl : v * 2 ^ k < 2 ^ top = shl-lt w k hv in
+    let v64 : v * 2 ^ k < 2 ^ 64 = lt-of-lt-of-le vl (pow-mono {i = top} {j = 64} (omega arith)) in
+    let h64 : hi * 2 ^ top < 2 ^ 64 = omega (arith, div-mul-le-self x (2 ^ top)) in
+    rw (mod-eq-of-lt h64, mod-eq-of-lt v64, or-shifted hi top (v * 2 ^ k) vl, put-above hi w k v, and-mask x k)
+    (or-shifted (hi * 2 ^ w + v) k (x % 2 ^ k) (mod-lt x (pow-pos k)))
+
+-- ---- the bytes of a number
+
+above : (k y : ℕ) (vs : List ℕ) → bits vs ≡ toBits k y → bits (y / 2 ^ k % 256 ∷ vs) ≡ toBits (8 + k) y
+unfolding bits
+above k y vs e = rw (e, toBits-append 8 k y, toBits-agree 8 (y / 2 ^ k % 256) (y / 2 ^ k) (omega arith))
+
+bits-one : (y : ℕ) → bits (y % 256 ∷ []) ≡ toBits 8 y
+unfolding bits
+bits-one y = append-nil (toBits 8 (y % 256)) ∙ toBits-agree 8 (y % 256) y (omega arith)
+
+bits-two : (y : ℕ) → bits (y / 2 ^ 8 % 256 ∷ y % 256 ∷ []) ≡ toBits 16 y
+bits-two y = above 8 y (y % 256 ∷ []) (bits-one y)
+
+bits-three : (y : ℕ) → bits (y / 2 ^ 16 % 256 ∷ y / 2 ^ 8 % 256 ∷ y % 256 ∷ []) ≡ toBits 24 y
+bits-three y = above 16 y (y / 2 ^ 8 % 256 ∷ y % 256 ∷ []) (bits-two y)
+
+-- ---- stores
+
+-- bytes vs stored from byte f on
+stored : (bytes vs : List ℕ) (f : ℕ) → f + length vs ≤ length bytes
+    → bits (sets bytes f vs) ≡ take (8 * f) (bits bytes) ++ (bits vs ++ drop (8 * f + 8 * length vs) (bits bytes))
+stored bytes vs f h =
+    let e : 8 * f + 8 * length vs ≡ 8 * (f + length vs) = omega arith in
+    rw (
+      sets-eq vs bytes f h,
+      append-assoc (take f bytes) vs (drop (f + length vs) bytes),
+      bits-append (take f bytes) (vs ++ drop (f + length vs) bytes),
+      bits-append vs (drop (f + length vs) bytes),
+      e,
+      take-bits f bytes,
+      drop-bits (f + length vs) bytes,
+    )
+
+-- a field inside the bytes vs, which are those of the number y: the former ones' number with v put into it
+write : (bytes vs : List ℕ) (start w k v x y : ℕ) → start / 8 + length vs ≤ length bytes → start % 8 + (w + k) ≡ 8 * length vs → v < 2 ^ w
+    → x ≡ field (8 * length vs) (bits bytes) (8 * (start / 8)) → y ≡ replace x w k v → bits vs ≡ toBits (8 * length vs) y
+    → bits (sets bytes (start / 8) vs) ≡ put w v (bits bytes) start
+unfolding field
+write bytes vs start w k v x y h e hv ex ey eb =
+    let f : ℕ = start / 8 in
+    let r : ℕ = start % 8 in
+    let m : ℕ = 8 * length vs in
+    let part : List Bool = take m (drop (8 * f) (bits bytes)) in
+    let lb : length (bits bytes) ≡ 8 * length bytes = length-bits bytes in
+    let lp : length part ≡ m = length-take-le m (drop (8 * f) (bits bytes)) (simp length-drop (omega arith)) in
+    let old : toBits m x ≡ part = rw ex (toBits-value m part lp) in
+    let new : bits vs ≡ put w v part r = rw (eb, ey, ← old, ← e) (put-number r w k x v hv) in
+    let s : 8 * f + r ≡ start = omega arith in
+    stored bytes vs f h
+    ∙ ap (λ (t : List Bool). take (8 * f) (bits bytes) ++ (t ++ drop (8 * f + m) (bits bytes))) new
+    ∙ put-part w v (bits bytes) (8 * f) m r (omega arith) (omega arith)
+    ∙ ap (put w v (bits bytes)) s
+
+-- what a write of one, two or three bytes leaves
+module _ (bytes : List ℕ) (start w k v x y : ℕ) (hb : AreBytes bytes) (hv : v < 2 ^ w) (ey : y ≡ replace x w k v) where
+  pub write-one : start / 8 < length bytes → start % 8 + (w + k) ≡ 8 → x ≡ getD bytes (start / 8) 0
+      → bits (set bytes (start / 8) (y % 256)) ≡ put w v (bits bytes) start
+  write-one h e ex =
+      write bytes (y % 256 ∷ []) start w k v x y (omega arith) e hv
+      (ex ∙ sym (field-joined bytes (start / 8) 1 hb ∙ ap (joined 0) (one-byte bytes (start / 8) h) ∙ omega arith)) ey (bits-one y)
+
+  pub write-two : start / 8 + 2 ≤ length bytes → start % 8 + (w + k) ≡ 16 → x ≡ joined 0 (getD bytes (start / 8) 0 ∷ getD bytes (start / 8 + 1) 0 ∷ [])
+      → bits (set (set bytes (start / 8) (y / 2 ^ 8 % 256)) (start / 8 + 1) (y % 256)) ≡ put w v (bits bytes) start
+  write-two h e ex =
+      rw (add-one (start / 8))
+      (write bytes (y / 2 ^ 8 % 256 ∷ y % 256 ∷ []) start w k v x y h e hv
+      (ex ∙ sym (field-joined bytes (start / 8) 2 hb ∙ ap (joined 0) (two-bytes bytes (start / 8) h))) ey (bits-two y))
+
+  pub write-three : start / 8 + 3 ≤ length bytes → start % 8 + (w + k) ≡ 24
+      → x ≡ joined 0 (getD bytes (start / 8) 0 ∷ getD bytes (start / 8 + 1) 0 ∷ getD bytes (start / 8 + 2) 0 ∷ [])
+      → bits (set (set (set bytes (start / 8) (y / 2 ^ 16 % 256)) (start / 8 + 1) (y / 2 ^ 8 % 256)) (start / 8 + 2) (y % 256)) ≡ put w v (bits bytes) start
+  write-three h e ex =
+      rw (add-one (start / 8), add-two (start / 8))
+      (write bytes (y / 2 ^ 16 % 256 ∷ y / 2 ^ 8 % 256 ∷ y % 256 ∷ []) start w k v x y h e hv
+      (ex ∙ sym (field-joined bytes (start / 8) 3 hb ∙ ap (joined 0) (three-bytes bytes (start / 8) h))) ey (bits-three y))

@@ -1,0 +1,27 @@
+-- `words::short_ones` meets its contract: the ones of a field are those of its bits.
+use mathlib.Core.Path.{_≡_, _∙_, ap}
+use Prim.Native.Nat.{_*_}
+use native.Mathlib.Omega.{arith}
+use borrow.Author.Needs.{needs}
+use lib.Count.{ones}
+use lib.ListN.{take, drop}
+use Rattle.bits.specs.Bits.{bits, count}
+use Rattle.bits.specs.Laws.Rank.{count-take-le, ones-field}
+use Rattle.bits.proofs.words.short_ones.Statement.{statement}
+use Rattle.bits.proofs.words.short_ones.Tie as tie
+
+short-word-requires : tie.Need-short-word-requires
+short-word-requires c κs = search needs
+
+ones-of-requires : tie.Need-ones-of-requires
+ones-of-requires c κs = search needs
+
+returns : tie.Need-returns
+returns c =
+    let s = bits (c .before .before .before .args .bytes .now) in
+    let e : c .ones-of .result ≡ count (take (c .before .before .before .args .n) (drop (8 * c .before .before .before .args .at) s)) =
+    c .ones-of .ensures .0 ∙ ap ones (c .before .short-word .ensures) ∙ ones-field (c .before .before .before .args .n) s (8 * c .before .before .before .args .at) in
+    (e, omega (arith, count-take-le (c .before .before .before .args .n) (drop (8 * c .before .before .before .args .at) s)))
+
+pub short-ones-spec : {M : Type 1} → statement M
+short-ones-spec = tie.close (tie.spec short-word-requires ones-of-requires returns)

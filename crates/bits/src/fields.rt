@@ -1,0 +1,106 @@
+// Bits and fields, read and written by shifts and masks at any starting bit. Bits count from 0 for the first bit of the first byte.
+ghost use mathlib.Core.Path.{_≡_};
+ghost use mathlib.Core.Bool.{false};
+ghost use Prim.Native.Nat.{_+_, _*_, _/_, _%_, _^_, _<_, _≤_};
+ghost use lib.ListN.{length, getD, set};
+ghost use Rattle.bits.specs.Bits.{bits, bit as bitOf, field, put};
+use super::words::join;
+use super::words::wide;
+
+// The bit at `place`.
+pub fn read_bit(bytes: &[u8], place: usize) -> bool
+    requires { ⌜ place < 8 * length (now bytes) ⌝ }
+    ensures { λ r. ⌜ r ≡ getD (bits (now (bytes .entry))) place false ⌝ }
+{
+    (wide(bytes[place / 8]) >> (7 - place % 8)) & 1 == 1
+}
+
+// The field of `width` bits from bit `start` on. It lies in two bytes or in three: the last of the three read is where it ends.
+fn read_field(bytes: &[u8], start: usize, width: usize) -> usize
+    requires { ⌜ (9 ≤ width) × (width ≤ 16) × (start + width ≤ 8 * length (now bytes)) ⌝ }
+    ensures { λ r. ⌜ (r ≡ field width (bits (now (bytes .entry))) start) × (r < 2 ^ width) ⌝ }
+{
+    let first = start / 8;
+    let off = start % 8;
+    let last = first + (off + width - 1) / 8;
+    let x = join(join(join(0, bytes[first]), bytes[first + 1]), bytes[last]);
+    ((x >> (24 - width - off)) & ((1 << width) - 1)) as usize
+}
+
+// The field of 12 bits from bit `start` on.
+pub fn read12(bytes: &[u8], start: usize) -> usize
+    requires { ⌜ start + 12 ≤ 8 * length (now bytes) ⌝ }
+    ensures { λ r. ⌜ (r ≡ field 12 (bits (now (bytes .entry))) start) × (r < 4096) ⌝ }
+{
+    read_field(bytes, start, 12)
+}
+
+// The field of 13 bits from bit `start` on.
+pub fn read13(bytes: &[u8], start: usize) -> usize
+    requires { ⌜ start + 13 ≤ 8 * length (now bytes) ⌝ }
+    ensures { λ r. ⌜ (r ≡ field 13 (bits (now (bytes .entry))) start) × (r < 8192) ⌝ }
+{
+    read_field(bytes, start, 13)
+}
+
+// The field of 15 bits from bit `start` on.
+pub fn read15(bytes: &[u8], start: usize) -> usize
+    requires { ⌜ start + 15 ≤ 8 * length (now bytes) ⌝ }
+    ensures { λ r. ⌜ (r ≡ field 15 (bits (now (bytes .entry))) start) × (r < 32768) ⌝ }
+{
+    read_field(bytes, start, 15)
+}
+
+// The lowest byte of x.
+fn low_byte(x: u64) -> u8
+    ensures { λ r. ⌜ r ≡ x % 256 ⌝ }
+{
+    (x & 0xFF) as u8
+}
+
+fn bit(on: bool) -> u64
+    ensures { λ r. ⌜ (r ≡ bitOf on) × (r < 2) ⌝ }
+{
+    if on { 1 } else { 0 }
+}
+
+// x with v in the `width` bits above its `low` lowest.
+fn replaced(x: u64, low: usize, width: usize, v: u64) -> u64
+    requires { ⌜ (low + width ≤ 24) × (x < 2 ^ 24) × (v < 2 ^ width) ⌝ }
+    ensures { λ r. ⌜ r ≡ (x / 2 ^ (width + low) * 2 ^ width + v) * 2 ^ low + x % 2 ^ low ⌝ }
+{
+    let top = width + low;
+    ((x >> top) << top) | (v << low) | (x & ((1 << low) - 1))
+}
+
+// The bit at `place` becomes `on`, and nothing else changes.
+pub fn write_bit(bytes: &mut [u8], place: usize, on: bool)
+    requires { ⌜ place < 8 * length (now bytes) ⌝ }
+    ensures { λ _. ⌜ (bits (now (bytes .exit)) ≡ set (bits (now (bytes .entry))) place on) × (length (now (bytes .exit)) ≡ length (now (bytes .entry))) ⌝ }
+{
+    let at = place / 8;
+    let x = wide(bytes[at]);
+    bytes[at] = low_byte(replaced(x, 7 - place % 8, 1, bit(on)));
+}
+
+// The field of 12 bits from bit `start` on becomes v, and nothing else changes.
+pub fn write12(bytes: &mut [u8], start: usize, v: usize)
+    requires { ⌜ (start + 12 ≤ 8 * length (now bytes)) × (v < 4096) ⌝ }
+    ensures { λ _. ⌜ (bits (now (bytes .exit)) ≡ put 12 v (bits (now (bytes .entry))) start) × (length (now (bytes .exit)) ≡ length (now (bytes .entry))) ⌝ }
+{
+    let first = start / 8;
+    let off = start % 8;
+    let next = first + 1;
+    let x = join(join(0, bytes[first]), bytes[next]);
+    if off <= 4 {
+        let y = replaced(x, 4 - off, 12, v as u64);
+        bytes[first] = low_byte(y >> 8);
+        bytes[next] = low_byte(y);
+    } else {
+        let last = first + 2;
+        let y = replaced(join(x, bytes[last]), 12 - off, 12, v as u64);
+        bytes[first] = low_byte(y >> 16);
+        bytes[next] = low_byte(y >> 8);
+        bytes[last] = low_byte(y);
+    }
+}

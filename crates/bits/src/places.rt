@@ -1,0 +1,90 @@
+// The place of the k-th one of a string that its bytes hold: by words, then by bytes, then by the table.
+ghost use mathlib.Core.Path.{_≡_};
+ghost use Prim.Native.Nat.{_+_, _*_, _≤_};
+ghost use lib.ListN.{length, take, drop};
+ghost use Rattle.bits.specs.Bits.{bits, count, select as selectOf};
+ghost use Rattle.bits.specs.Laws.Select.{within as withinOf};
+use super::table::in_byte;
+use super::words::byte_ones;
+use super::words::byte_rest;
+use super::words::tail;
+use super::words::wide;
+use super::words::word_ones;
+
+// A byte to go on from, and how many ones are left to go.
+pub struct Rest {
+    pub at: usize,
+    pub left: usize,
+}
+
+// Passes over whole words that have fewer ones than are left to go.
+fn skip_words(bytes: &[u8], k: usize) -> Rest
+    requires { ⌜ 1 ≤ k ⌝ }
+    ensures { λ r. ⌜ (r .at ≤ length (now (bytes .entry))) × (1 ≤ r .left) × (count (take (8 * r .at) (bits (now (bytes .entry)))) + r .left ≡ k) ⌝ }
+{
+    let mut at = 0;
+    let mut left = k;
+    while at + 8 <= bytes.len() {
+        let c = word_ones(bytes, at);
+        if left <= c {
+            return Rest { at, left };
+        }
+        left -= c;
+        at += 8;
+    }
+    Rest { at, left }
+}
+
+// Place t of byte `at` as a place of the string, or 0 past the limit.
+fn within(limit: usize, at: usize, t: usize) -> usize
+    requires { ⌜ (1 ≤ t) × (t ≤ 8) ⌝ }
+    ensures { λ r. ⌜ r ≡ withinOf limit (8 * at + t) ⌝ }
+{
+    if limit / 8 < at {
+        return 0;
+    }
+    let before = 8 * at;
+    if limit - before < t {
+        return 0;
+    }
+    before + t
+}
+
+// The place of the k-th one of the first `limit` bits, or 0.
+fn place_of(bytes: &[u8], limit: usize, k: usize) -> usize
+    requires { ⌜ 1 ≤ k ⌝ }
+    ensures { λ r. ⌜ r ≡ selectOf (take limit (bits (now (bytes .entry)))) k ⌝ }
+{
+    let rest = skip_words(bytes, k);
+    let mut at = rest.at;
+    let mut left = rest.left;
+    while at < bytes.len() {
+        let b = wide(bytes[at]);
+        let c = byte_ones(b);
+        if left <= c {
+            return within(limit, at, in_byte(b, left));
+        }
+        left -= c;
+        at += 1;
+    }
+    0
+}
+
+// The place of the k-th one of the `places` bits from bit `start` on, or 0: in what is left of the first byte, or after it.
+pub fn place_from(bytes: &[u8], start: usize, places: usize, k: usize) -> usize
+    requires { ⌜ (1 ≤ k) × (1 ≤ places) × (start + places ≤ 8 * length (now bytes)) ⌝ }
+    ensures { λ r. ⌜ r ≡ selectOf (take places (drop start (bits (now (bytes .entry))))) k ⌝ }
+{
+    let off = start % 8;
+    let room = 8 - off;
+    let b = byte_rest(bytes, start);
+    let c = byte_ones(b);
+    if k <= c {
+        return within(places, 0, in_byte(b, k) - off);
+    }
+    if places <= room {
+        return 0;
+    }
+    let p = place_of(tail(bytes, start / 8 + 1), places - room, k - c);
+    if p == 0 { 0 } else { room + p }
+}

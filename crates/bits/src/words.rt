@@ -1,0 +1,119 @@
+// Bytes joined to numbers, most significant byte first, and the count of ones of a number.
+ghost use mathlib.Core.Path.{_≡_};
+ghost use mathlib.Core.List.{[], _∷_};
+ghost use Prim.Native.Nat.{_+_, _-_, _*_, _%_, _^_, _<_, _≤_};
+ghost use lib.Count.{ones};
+ghost use lib.ListN.{length, take, drop, getD};
+ghost use Rattle.bits.specs.Bits.{bits, count, value, field};
+
+pub fn wide(b: u8) -> u64
+    ensures { λ r. ⌜ (r ≡ b) × (r < 256) ⌝ }
+{
+    b as u64
+}
+
+// The bytes so far, and one more below them.
+pub fn join(acc: u64, b: u8) -> u64
+    requires { ⌜ acc < 2 ^ 56 ⌝ }
+    ensures { λ r. ⌜ (r ≡ acc * 256 + b) × (b < 256) ⌝ }
+{
+    acc << 8 | (b as u64)
+}
+
+// Eight bytes as one number.
+fn join8(a: u8, b: u8, c: u8, d: u8, e: u8, f: u8, g: u8, h: u8) -> u64
+    ensures { λ r. ⌜ r ≡ value (bits (a ∷ b ∷ c ∷ d ∷ e ∷ f ∷ g ∷ h ∷ [])) ⌝ }
+{
+    let high = join(join(join(join(0, a), b), c), d);
+    join(join(join(join(high, e), f), g), h)
+}
+
+// The 64 bits from byte `at` on.
+fn word(bytes: &[u8], at: usize) -> u64
+    requires { ⌜ at + 8 ≤ length (now bytes) ⌝ }
+    ensures { λ r. ⌜ r ≡ field 64 (bits (now (bytes .entry))) (8 * at) ⌝ }
+{
+    join8(
+        bytes[at],
+        bytes[at + 1],
+        bytes[at + 2],
+        bytes[at + 3],
+        bytes[at + 4],
+        bytes[at + 5],
+        bytes[at + 6],
+        bytes[at + 7],
+    )
+}
+
+// Byte `at`, or 0 past the end.
+fn byte_or_zero(bytes: &[u8], at: usize) -> u8
+    ensures { λ r. ⌜ r ≡ getD (now (bytes .entry)) at 0 ⌝ }
+{
+    if at < bytes.len() { bytes[at] } else { 0 }
+}
+
+// The n bits from byte `at` on, at most 64, where the slice may end before a whole word does.
+fn short_word(bytes: &[u8], at: usize, n: usize) -> u64
+    requires { ⌜ (1 ≤ n) × (n ≤ 64) × (8 * at + n ≤ 8 * length (now bytes)) ⌝ }
+    ensures { λ r. ⌜ r ≡ field n (bits (now (bytes .entry))) (8 * at) ⌝ }
+{
+    let w = join8(
+        byte_or_zero(bytes, at),
+        byte_or_zero(bytes, at + 1),
+        byte_or_zero(bytes, at + 2),
+        byte_or_zero(bytes, at + 3),
+        byte_or_zero(bytes, at + 4),
+        byte_or_zero(bytes, at + 5),
+        byte_or_zero(bytes, at + 6),
+        byte_or_zero(bytes, at + 7),
+    );
+    w >> (64 - n)
+}
+
+// The bytes from byte `at` on.
+pub fn tail(bytes: &[u8], at: usize) -> &[u8]
+    requires { ⌜ at ≤ length (now bytes) ⌝ }
+    ensures { λ r. ⌜ now r ≡ drop at (now (bytes .entry)) ⌝ }
+{
+    &bytes[at..]
+}
+
+// The bits from bit `start` on to the end of its byte.
+pub fn byte_rest(bytes: &[u8], start: usize) -> u64
+    requires { ⌜ start < 8 * length (now bytes) ⌝ }
+    ensures { λ r. ⌜ (r ≡ field (8 - start % 8) (bits (now (bytes .entry))) start) × (r < 256) ⌝ }
+{
+    let room = 8 - start % 8;
+    wide(bytes[start / 8]) & ((1 << room) - 1)
+}
+
+// The language's count of ones.
+pub fn ones_of(x: u64) -> usize
+    ensures { λ r. ⌜ (r ≡ ones x) × (r ≤ 64) ⌝ }
+{
+    u64::count_ones(x) as usize
+}
+
+// The ones of a byte.
+pub fn byte_ones(b: u64) -> usize
+    requires { ⌜ b < 256 ⌝ }
+    ensures { λ r. ⌜ (r ≡ ones b) × (r ≤ 8) ⌝ }
+{
+    ones_of(b)
+}
+
+// The ones of the 64 bits from byte `at` on.
+pub fn word_ones(bytes: &[u8], at: usize) -> usize
+    requires { ⌜ at + 8 ≤ length (now bytes) ⌝ }
+    ensures { λ r. ⌜ (r ≡ count (take 64 (drop (8 * at) (bits (now (bytes .entry)))))) × (r ≤ 64) ⌝ }
+{
+    ones_of(word(bytes, at))
+}
+
+// The ones of the n bits from byte `at` on, at most 64.
+pub fn short_ones(bytes: &[u8], at: usize, n: usize) -> usize
+    requires { ⌜ (1 ≤ n) × (n ≤ 64) × (8 * at + n ≤ 8 * length (now bytes)) ⌝ }
+    ensures { λ r. ⌜ (r ≡ count (take n (drop (8 * at) (bits (now (bytes .entry)))))) × (r ≤ n) ⌝ }
+{
+    ones_of(short_word(bytes, at, n))
+}
