@@ -1,0 +1,104 @@
+"""Compares the stored output of the program bits_vectors with a plain computation, written from document 01's words alone.
+
+The stored output is what `rt ci` holds the proved program to. Here each of its lines is found again, a bit string being a list of
+bits that are looked at one by one. With an argument it prints the lines instead.
+"""
+import sys
+from pathlib import Path
+
+STORED = Path(__file__).parent.parent / "crates" / "bits_vectors" / "stdout"
+
+
+SAMPLE = bytes.fromhex("00300059 22A00200 10000020 01003000 00200500 40")
+MIXED = bytes.fromhex(
+    "FFFFFFFFFFFFFFFF 0000000000000000 80010000 08107FFE A55AC33C 12345678 9ABCDEF0 00000000 00000000 01000080"
+)
+LARGEST = 2**64 - 1
+ASKED = [0, 1, 2, 3, 7, 8, 9, 15, 16, 17, 63, 64, 65, 72, 100, 128, 129, 200, 384, LARGEST]
+
+
+def bits(data):
+    """The bits of the bytes, most significant first."""
+    return [byte >> (7 - i) & 1 for byte in data for i in range(8)]
+
+
+def string(data, start, places):
+    """The bit string; empty where the bytes don't hold it in full."""
+    return bits(data)[start : start + places] if start + places <= 8 * len(data) else []
+
+
+def rank(s, p):
+    return sum(s[:p])
+
+
+def select(s, k):
+    ones = [place for place, bit in enumerate(s, 1) if bit]
+    return ones[k - 1] if 1 <= k <= len(ones) else 0
+
+
+def number(s):
+    return int("".join(map(str, s)) or "0", 2)
+
+
+def ask(data, start, places):
+    s = string(data, start, places)
+    yield f"string {start} {places}: " + " ".join(f"{rank(s, n)}/{select(s, n)}" for n in ASKED)
+
+
+def fields(data, start):
+    s = bits(data)[start:]
+    if len(s) >= 15:
+        yield f"fields {start}: {s[0]} {number(s[:12])} {number(s[:13])} {number(s[:15])}"
+
+
+def write(start, v, on):
+    s = bits(bytes(4) + bytes([255] * 4))
+    s[start : start + 12] = [int(c) for c in f"{v:012b}"]
+    yield f"field {start}: " + shown(s)
+    s[start] = on
+    yield f"bit {start}: " + shown(s)
+
+
+def shown(s):
+    return " ".join(f"{number(s[i:i + 8]):02x}" for i in range(0, len(s), 8))
+
+
+def lines():
+    yield from fields(SAMPLE, 0)
+    yield from fields(SAMPLE, 13)
+    yield from ask(SAMPLE, 28, 16)
+    for start in (44, 56, 153, 154):
+        yield from fields(SAMPLE, start)
+    for start, places in ((0, 168), (168, 0), (1, 168), (169, 0), (1, LARGEST), (LARGEST, LARGEST)):
+        yield from ask(SAMPLE, start, places)
+    yield from ask(b"", 0, 0)
+    for shift in range(9):
+        yield from ask(MIXED, shift, 375)
+        yield from ask(MIXED, 190 + shift, 130)
+        yield from ask(MIXED, 60 + shift, 5)
+        yield from fields(MIXED, 192 + shift)
+        yield from fields(MIXED, 361 + shift)
+        yield from write(20 + shift, 0xABC, 1)
+        yield from write(43 + shift, 0x543, 0)
+
+
+def compare():
+    """Prints each line that differs, and the tally."""
+    found = STORED.read_text().splitlines()
+    expected = list(lines())
+    wrong = 0
+    for number_of_line in range(max(len(found), len(expected))):
+        pair = [texts[number_of_line] if number_of_line < len(texts) else "nothing" for texts in (expected, found)]
+        if pair[0] != pair[1]:
+            wrong += 1
+            print(f"line {number_of_line + 1}: expected {pair[0]}, stored {pair[1]}")
+    print(f"{len(expected)} lines of {STORED.name} compared")
+    print(f"{0 if wrong else 1} passed, {1 if wrong else 0} failed")
+    return 1 if wrong else 0
+
+
+if __name__ == "__main__":
+    if len(sys.argv) > 1:
+        print("\n".join(lines()))
+    else:
+        sys.exit(compare())
