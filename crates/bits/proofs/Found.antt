@@ -3,39 +3,68 @@ use mathlib.Core.Path.{_≡_, refl, sym, ap, _∙_}
 use mathlib.Core.Bool.{Bool}
 use mathlib.Core.List.{List, _++_}
 use Prim.Native.Nat.{ℕ, suc, _+_, _-_, _*_, _/_, _^_, _≤_, _<_}
-use native.Mathlib.Nat.{mod-eq-of-lt, zero-mod, div-eq-of-lt}
+use native.Mathlib.Nat.{mod-eq-of-lt, zero-add, zero-mod, div-eq-of-lt}
 use native.Mathlib.Omega.{arith}
 use lib.Count.{ones}
-use lib.ListN.{length, take, drop, getD, take-append-drop}
+use lib.ListN.{length, take, drop, take-append-drop}
 use lib.Seq.{length-take-le, take-all, take-at}
 use Rattle.bits.specs.Bits.{toBits, bits, count, select, value}
+use Rattle.bits.specs.Scan.{IsByte, Passed, within}
 use Rattle.bits.specs.Laws.Digits.{length-toBits, value-toBits, value-lt, toBits-value, toBits-append}
 use Rattle.bits.specs.Laws.Bytes.{length-bits, byte-on}
 use Rattle.bits.specs.Laws.Rank.{count-append, count-take-add, ones-value}
-use Rattle.bits.specs.Laws.Select.{within, within-in, select-none, select-bounds, select-left, select-right, select-take}
+use Rattle.bits.specs.Laws.Select.{within-in, select-none, select-bounds, select-left, select-right, select-take}
 
--- b is byte `at`, and `left` of the k ones are to go when it is reached
-module _ (bytes : List ℕ) (at left k b : ℕ) (h : at < length bytes) (eb : b ≡ getD bytes at 0) (hb : b < 256) where
+-- ---- on the way
+
+pub passed-none : (bytes : List ℕ) (k : ℕ) → 1 ≤ k → Passed bytes k 0 k
+unfolding count
+passed-none bytes k h = record { inside = omega arith; some = h; sum = zero-add k }
+
+-- past the n bits from byte `at` on, with c ones
+passed-on : {bytes : List ℕ} {k at left : ℕ} (n c : ℕ) → Passed bytes k at left → at + n ≤ length bytes
+    → c ≡ count (take (8 * n) (drop (8 * at) (bits bytes))) → c < left → Passed bytes k (at + n) (left - c)
+passed-on {bytes} {k} {at} n c p h e l =
+    let m : 8 * (at + n) ≡ 8 * at + 8 * n = omega arith in
+    let s : count (take (8 * (at + n)) (bits bytes)) ≡ count (take (8 * at) (bits bytes)) + count (take (8 * n) (drop (8 * at) (bits bytes))) =
+    ap (λ (x : ℕ). count (take x (bits bytes))) m ∙ count-take-add (bits bytes) (8 * at) (8 * n) in
+    let t = p .sum in
+    record { inside = h; some = omega arith; sum = omega arith }
+
+pub passed-word : {bytes : List ℕ} {k at left : ℕ} (c : ℕ) → Passed bytes k at left → at + 8 ≤ length bytes
+    → c ≡ count (take 64 (drop (8 * at) (bits bytes))) → c < left → Passed bytes k (at + 8) (left - c)
+passed-word c p h e l = passed-on 8 c p h e l
+
+-- the bytes have fewer ones
+pub missing : {bytes : List ℕ} {k at left : ℕ} (limit : ℕ) → Passed bytes k at left → length bytes ≤ at → select (take limit (bits bytes)) k ≡ 0
+missing {bytes} {k} {at} limit p h =
+    let all : take (8 * at) (bits bytes) ≡ bits bytes = take-all (8 * at) (bits bytes) (rw (length-bits bytes) (omega arith)) in
+    let c = ap count all in
+    rw (select-take (bits bytes) limit k, select-none (bits bytes) k (omega arith)) (within-in limit 0 (omega arith))
+
+-- ---- at a byte
+
+module _ {bytes : List ℕ} {at b : ℕ} (byte : IsByte bytes at b) where
   ones-byte : ones b ≡ count (toBits 8 b)
-  ones-byte = ap ones (sym (value-toBits 8 b ∙ mod-eq-of-lt hb)) ∙ ones-value (toBits 8 b)
+  ones-byte = ap ones (sym (value-toBits 8 b ∙ mod-eq-of-lt (byte .small))) ∙ ones-value (toBits 8 b)
 
   from-byte : drop (8 * at) (bits bytes) ≡ toBits 8 b ++ bits (drop (suc at) bytes)
-  from-byte = rw eb (byte-on at bytes h)
+  from-byte = rw (byte .same) (byte-on at bytes (byte .inside))
 
-  -- the ones up to the next byte
-  pub count-byte : count (take (8 * (at + 1)) (bits bytes)) ≡ count (take (8 * at) (bits bytes)) + ones b
-  count-byte =
-      let e : 8 * (at + 1) ≡ 8 * at + 8 = omega arith in
-      rw (e, count-take-add (bits bytes) (8 * at) 8, from-byte, take-at (toBits 8 b) (bits (drop (suc at) bytes)) 8 (length-toBits 8 b), ones-byte)
+  pub passed-byte : {k left : ℕ} (c : ℕ) → Passed bytes k at left → c ≡ ones b → c < left → Passed bytes k (at + 1) (left - c)
+  passed-byte c p e l =
+      passed-on 1 c p (let i = byte .inside in omega arith)
+      (e ∙ ones-byte ∙ sym (rw (from-byte, take-at (toBits 8 b) (bits (drop (suc at) bytes)) 8 (length-toBits 8 b)))) l
 
-  module _ (e : count (take (8 * at) (bits bytes)) + left ≡ k) (h₁ : 1 ≤ left) (l : left ≤ ones b) where
+  module _ {k left : ℕ} (p : Passed bytes k at left) (l : left ≤ ones b) where
     pub place-bounds : (1 ≤ select (toBits 8 b) left) × (select (toBits 8 b) left ≤ 8)
-    place-bounds = let s = select-bounds (toBits 8 b) left h₁ (rw ones-byte at l) in omega (arith, length-toBits 8 b)
+    place-bounds = let s = select-bounds (toBits 8 b) left (p .some) (rw ones-byte at l) in omega (arith, length-toBits 8 b)
 
     -- the k-th one is in it
     found : select (bits bytes) k ≡ 8 * at + select (toBits 8 b) left
     found =
         let s : List Bool = bits bytes in
+        let i = byte .inside in
         let rest : List Bool = bits (drop (suc at) bytes) in
         let len : length (take (8 * at) s) ≡ 8 * at = length-take-le (8 * at) s (rw (length-bits bytes) (omega arith)) in
         let whole : s ≡ take (8 * at) s ++ (toBits 8 b ++ rest) = rw (← from-byte, take-append-drop (8 * at) s) in
@@ -46,20 +75,12 @@ module _ (bytes : List ℕ) (at left k b : ℕ) (h : at < length bytes) (eb : b 
         ap (λ (t : List Bool). select t k) whole ∙ r ∙ rw (len, d, select-left (toBits 8 b) rest left m)
 
     pub found-within : (limit t : ℕ) → t ≡ select (toBits 8 b) left → within limit (8 * at + t) ≡ select (take limit (bits bytes)) k
-    found-within limit t et = rw (et, ← found) (sym (select-take (bits bytes) limit k))
-
--- the bytes have fewer ones
-pub missing : (bytes : List ℕ) (at left k limit : ℕ) → length bytes ≤ at → count (take (8 * at) (bits bytes)) + left ≡ k → 1 ≤ left
-    → select (take limit (bits bytes)) k ≡ 0
-missing bytes at left k limit h e h₁ =
-    let all : take (8 * at) (bits bytes) ≡ bits bytes = take-all (8 * at) (bits bytes) (rw (length-bits bytes) (omega arith)) in
-    let c = ap count all in
-    rw (select-take (bits bytes) limit k, select-none (bits bytes) k (omega arith)) (within-in limit 0 (omega arith))
+    found-within limit t e = rw (e, ← found) (sym (select-take (bits bytes) limit k))
 
 -- the k-th one of a string inside a byte, with zeros before it
 pub found-inside : (s : List Bool) (off k : ℕ) → off + length s ≡ 8 → 1 ≤ k → k ≤ count s → select (toBits 8 (value s)) k ≡ off + select s k
-unfolding count ones
-found-inside s off k e h₁ l =
+unfolding ones
+found-inside s off k e h l =
     let z : toBits off (value s / 2 ^ length s) ≡ toBits off 0 = ap (toBits off) (div-eq-of-lt (value-lt s)) in
     let c : count (toBits off 0) ≡ 0 = sym (ones-value (toBits off 0)) ∙ ap ones (value-toBits off 0 ∙ zero-mod (2 ^ off)) in
     let d : k - count (toBits off 0) ≡ k = omega arith in

@@ -8,107 +8,117 @@ use lib.Count.{ones}
 use lib.ListN.{length, take, drop, length-take, length-drop, take-append-drop}
 use lib.Seq.{length-take-le, take-add, take-take}
 use Rattle.bits.specs.Bits.{toBits, bits, count, rank, select, field}
+use Rattle.bits.specs.Scan.{IsRest, within}
 use Rattle.bits.specs.Laws.Bytes.{length-bits, after-byte}
 use Rattle.bits.specs.Laws.Fields.{field-front}
 use Rattle.bits.specs.Laws.Rank.{count-take-add, rank-le, ones-field}
-use Rattle.bits.specs.Laws.Select.{within, select-none, select-bounds, select-le, select-left, select-join, select-join-none, select-take}
+use Rattle.bits.specs.Laws.Select.{select-none, select-bounds, select-le, select-left, select-join, select-join-none, select-take}
 use Rattle.bits.proofs.Found.{found-inside}
 
--- the bits from bit `start` on, and those of the bytes after its own
+-- the bits from bit `start` on; how many of them are left of its byte; the bits of the bytes after it
 abbrev pub from : List ℕ → ℕ → List Bool
 from bytes start = drop start (bits bytes)
 
-abbrev pub rest : List ℕ → ℕ → List Bool
-rest bytes start = bits (drop (start / 8 + 1) bytes)
+abbrev pub room : ℕ → ℕ
+room start = 8 - start % 8
 
--- b is the value of the `room` bits that are left of the byte
-module _ (bytes : List ℕ) (start room b : ℕ) (e : start % 8 + room ≡ 8) (h : start < 8 * length bytes) (eb : b ≡ field room (bits bytes) start) where
-  inside : start + room ≤ length (bits bytes)
-  inside = rw (length-bits bytes) (omega arith)
+abbrev pub after : List ℕ → ℕ → List Bool
+after bytes start = bits (drop (start / 8 + 1) bytes)
+
+module _ {bytes : List ℕ} {start b : ℕ} (rest : IsRest bytes start b) where
+  -- the bits of b
+  own : List Bool
+  own = take (room start) (from bytes start)
+
+  held : start + room start ≤ length (bits bytes)
+  held = let i = rest .inside in rw (length-bits bytes) (omega arith)
+
+  length-own : length own ≡ room start
+  unfolding own
+  length-own = length-take-le (room start) (from bytes start) (let h = held in simp length-drop (omega arith))
+
+  after-own : drop (room start) (from bytes start) ≡ after bytes start
+  after-own = after-byte bytes start (room start) (omega arith)
 
   -- ---- counting
 
-  pub ones-rest : ones b ≡ count (take room (from bytes start))
-  ones-rest = ap ones eb ∙ ones-field room (bits bytes) start
+  ones-own : ones b ≡ count own
+  unfolding own
+  ones-own = ap ones (rest .same) ∙ ones-field (room start) (bits bytes) start
 
-  pub ones-within : (n : ℕ) → n ≤ room → ones (b / 2 ^ (room - n)) ≡ count (take n (from bytes start))
+  pub ones-within : (n : ℕ) → n ≤ room start → ones (b / 2 ^ (room start - n)) ≡ count (take n (from bytes start))
   ones-within n l =
-      let i = inside in
-      let s : n + (room - n) ≡ room = omega arith in
-      let f : field n (bits bytes) start ≡ field (n + (room - n)) (bits bytes) start / 2 ^ (room - n) =
-      field-front (bits bytes) start n (room - n) (omega arith) in
-      rw eb (ap ones (sym (rw s at f)) ∙ ones-field n (bits bytes) start)
+      let h = held in
+      let s : n + (room start - n) ≡ room start = omega arith in
+      let f : field n (bits bytes) start ≡ field (n + (room start - n)) (bits bytes) start / 2 ^ (room start - n) =
+      field-front (bits bytes) start n (room start - n) (omega arith) in
+      rw (rest .same) (ap ones (sym (rw s at f)) ∙ ones-field n (bits bytes) start)
 
   -- x ones in what is left of the byte, and y after it
-  pub ones-beyond : (n x y : ℕ) → room ≤ n → x ≡ ones b → y ≡ count (take (n - room) (rest bytes start)) → x + y ≡ count (take n (from bytes start))
+  pub ones-beyond : (n x y : ℕ) → room start ≤ n → x ≡ ones b → y ≡ count (take (n - room start) (after bytes start))
+      → x + y ≡ count (take n (from bytes start))
+  unfolding own
   ones-beyond n x y l ex ey =
-      let s : room + (n - room) ≡ n = omega arith in
-      rw (ex, ey, ones-rest, ← after-byte bytes start room (omega arith))
-      (sym (count-take-add (from bytes start) room (n - room)) ∙ ap (λ (m : ℕ). count (take m (from bytes start))) s)
+      let s : room start + (n - room start) ≡ n = omega arith in
+      rw (ex, ey, ones-own, ← after-own)
+      (sym (count-take-add (from bytes start) (room start) (n - room start)) ∙ ap (λ (m : ℕ). count (take m (from bytes start))) s)
 
-  -- ---- the k-th one
+  -- ---- the k-th one, in what is left of the byte
 
-  length-rest : length (take room (from bytes start)) ≡ room
-  length-rest = length-take-le room (from bytes start) (let i = inside in simp length-drop (omega arith))
-
-  -- in what is left of the byte
-  module _ (k t : ℕ) (h₁ : 1 ≤ k) (l : k ≤ ones b) (et : t ≡ select (toBits 8 b) k) where
-    place : t ≡ start % 8 + select (take room (from bytes start)) k
-    unfolding field
+  module _ {k t : ℕ} (some : 1 ≤ k) (few : k ≤ ones b) (table : t ≡ select (toBits 8 b) k) where
+    place : t ≡ start % 8 + select own k
+    unfolding own field
     place =
-        let r = length-rest in
-        et ∙ ap (λ (x : ℕ). select (toBits 8 x) k) eb
-        ∙ found-inside (take room (from bytes start)) (start % 8) k (omega arith) h₁ (rw ones-rest at l)
+        let l = length-own in
+        table ∙ ap (λ (x : ℕ). select (toBits 8 x) k) (rest .same) ∙ found-inside own (start % 8) k (omega arith) some (rw ones-own at few)
 
     pub place-bounds : (start % 8 < t) × (t ≤ 8)
     place-bounds =
         let p = place in
-        let r = length-rest in
-        let s = select-bounds (take room (from bytes start)) k h₁ (rw ones-rest at l) in
+        let l = length-own in
+        let s = select-bounds own k some (rw ones-own at few) in
         omega arith
 
     pub place-within : (places : ℕ) → within places (8 * 0 + (t - start % 8)) ≡ select (take places (from bytes start)) k
+    unfolding own
     place-within places =
         let p = place in
-        let q : 8 * 0 + (t - start % 8) ≡ select (take room (from bytes start)) k = omega arith in
-        let w = take-append-drop room (from bytes start) in
-        rw (q, ← select-left (take room (from bytes start)) (drop room (from bytes start)) k (rw ones-rest at l), w)
+        let q : 8 * 0 + (t - start % 8) ≡ select own k = omega arith in
+        rw (q, ← select-left own (drop (room start) (from bytes start)) k (rw ones-own at few), take-append-drop (room start) (from bytes start))
         (sym (select-take (from bytes start) places k))
 
-  -- after it
-  module _ (places k : ℕ) (l : ones b < k) where
-    pub place-none : places ≤ room → select (take places (from bytes start)) k ≡ 0
-    unfolding rank
-    place-none m =
-        let s : List Bool = from bytes start in
-        let c = ones-rest in
-        let r = rank-le (take room s) places in
-        let t = ap count (take-take places room s m) in
-        select-none (take places s) k (omega arith)
+  -- ---- after it
 
-    split : room ≤ places → take places (from bytes start) ≡ take room (from bytes start) ++ take (places - room) (rest bytes start)
-    split m =
-        let s : places ≡ room + (places - room) = omega arith in
-        ap (λ (n : ℕ). take n (from bytes start)) s ∙ take-add room (places - room) (from bytes start)
-        ∙ ap (λ (x : List Bool). take room (from bytes start) ++ take (places - room) x) (after-byte bytes start room (omega arith))
+  module _ {k : ℕ} (places : ℕ) (more : ones b < k) where
+    pub place-none : places ≤ room start → select (take places (from bytes start)) k ≡ 0
+    unfolding rank own
+    place-none l =
+        let c = ones-own in
+        let r = rank-le own places in
+        let t = ap count (take-take places (room start) (from bytes start) l) in
+        select-none (take places (from bytes start)) k (omega arith)
 
-    module _ (m : room ≤ places) (p : ℕ) (ep : p ≡ select (take (places - room) (rest bytes start)) (k - ones b)) where
-      pub place-le : p ≤ places - room
+    split : room start ≤ places → take places (from bytes start) ≡ own ++ take (places - room start) (after bytes start)
+    unfolding own
+    split l =
+        let s : places ≡ room start + (places - room start) = omega arith in
+        ap (λ (n : ℕ). take n (from bytes start)) s ∙ take-add (room start) (places - room start) (from bytes start)
+        ∙ ap (λ (x : List Bool). own ++ take (places - room start) x) after-own
+
+    module _ {p : ℕ} (far : room start ≤ places) (same : p ≡ select (take (places - room start) (after bytes start)) (k - ones b)) where
+      pub place-le : p ≤ places - room start
       place-le =
-          let t : List Bool = take (places - room) (rest bytes start) in
-          let l = select-le t (k - ones b) in
-          let m = length-take (places - room) (rest bytes start) in
+          let l = select-le (take (places - room start) (after bytes start)) (k - ones b) in
+          let m = length-take (places - room start) (after bytes start) in
           omega arith
 
       pub place-missing : p ≡ 0 → select (take places (from bytes start)) k ≡ 0
       place-missing z =
-          rw (split m)
-          (select-join-none (take room (from bytes start)) (take (places - room) (rest bytes start)) k (rw ones-rest at l)
-          (rw ones-rest at (sym ep ∙ z)))
+          rw (split far)
+          (select-join-none own (take (places - room start) (after bytes start)) k (rw ones-own at more) (rw ones-own at (sym same ∙ z)))
 
-      pub place-beyond : 1 ≤ p → room + p ≡ select (take places (from bytes start)) k
+      pub place-beyond : 1 ≤ p → room start + p ≡ select (take places (from bytes start)) k
       place-beyond z =
-          let q : p ≡ select (take (places - room) (rest bytes start)) (k - count (take room (from bytes start))) = rw ones-rest at ep in
-          ap₂ _+_ (sym length-rest) q
-          ∙ sym (rw (split m)
-          (select-join (take room (from bytes start)) (take (places - room) (rest bytes start)) k (rw ones-rest at l) (rw q at z)))
+          let q : p ≡ select (take (places - room start) (after bytes start)) (k - count own) = rw ones-own at same in
+          ap₂ _+_ (sym length-own) q
+          ∙ sym (rw (split far) (select-join own (take (places - room start) (after bytes start)) k (rw ones-own at more) (rw q at z)))

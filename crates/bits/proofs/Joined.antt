@@ -9,10 +9,11 @@ use native.Mathlib.Omega.{arith}
 use lib.Dec.{lit<}
 use lib.ListN.{length, take, drop, getD, replicate, length-append}
 use lib.Pow.{pow-lt, pow-add, high, shr-shr}
-use lib.Seq.{drop-cons}
+use lib.Seq.{drop-cons, take-at}
 use Rattle.bits.specs.Bits.{toBits, bits, value, field}
-use Rattle.bits.specs.Laws.Digits.{value-append, value-toBits}
-use Rattle.bits.specs.Laws.Bytes.{AreBytes, take-bytes, drop-bytes, length-bits, bits-append, part-bits}
+use Rattle.bits.specs.Laws.Digits.{length-toBits, value-append, value-toBits}
+use Rattle.bits.specs.Laws.Bytes.{AreBytes, take-bytes, drop-bytes, length-bits, bits-append, part-bits, byte-on}
+use Rattle.bits.specs.Scan.{IsByte}
 use Rattle.bits.specs.Laws.Fields.{field-inside, field-front, field-append}
 
 -- the bytes, one below the other, below the number a
@@ -59,12 +60,9 @@ field-bytes bytes f n = ap value (sym (part-bits n f bytes))
 pub field-joined : (bytes : List ℕ) (f n : ℕ) → AreBytes bytes → field (8 * n) (bits bytes) (8 * f) ≡ joined 0 (take n (drop f bytes))
 field-joined bytes f n h = field-bytes bytes f n ∙ value-joined (take n (drop f bytes)) (take-bytes n (drop f bytes) (drop-bytes f bytes h))
 
--- ---- one, two, three and eight bytes from byte f on
+-- ---- two, three and eight bytes from byte f on
 
 module _ (bytes : List ℕ) (f : ℕ) where
-  pub one-byte : f < length bytes → take 1 (drop f bytes) ≡ getD bytes f 0 ∷ []
-  one-byte h = rw (drop-cons bytes f 0 h)
-
   pub two-bytes : f + 2 ≤ length bytes → take 2 (drop f bytes) ≡ getD bytes f 0 ∷ getD bytes (f + 1) 0 ∷ []
   two-bytes h = rw (drop-cons bytes f 0 (omega arith), drop-cons bytes (suc f) 0 (omega arith), add-one f)
 
@@ -134,11 +132,20 @@ field-in-bytes bytes start w k n hb h e =
     field-inside (bits bytes) (8 * f) r w k (rw (length-bits bytes) (omega arith)) in
     sym (rw (s, e, field-joined bytes f n hb) at i)
 
-pub field-in-byte : (bytes : List ℕ) (start w k : ℕ) → AreBytes bytes → start / 8 < length bytes → start % 8 + w + k ≡ 8
-    → getD bytes (start / 8) 0 / 2 ^ k % 2 ^ w ≡ field w (bits bytes) start
-field-in-byte bytes start w k hb h e =
-    let one : joined 0 (take 1 (drop (start / 8) bytes)) ≡ getD bytes (start / 8) 0 = ap (joined 0) (one-byte bytes (start / 8) h) ∙ omega arith in
-    rw one at (field-in-bytes bytes start w k 1 hb (omega arith) e)
+-- the bits of one byte
+pub byte-field : {bytes : List ℕ} {at b : ℕ} → IsByte bytes at b → field 8 (bits bytes) (8 * at) ≡ b
+unfolding field
+byte-field {bytes} {at} {b} byte =
+    rw (byte-on at bytes (byte .inside), ← byte .same, take-at (toBits 8 b) (bits (drop (suc at) bytes)) 8 (length-toBits 8 b), value-toBits 8 b)
+    (mod-eq-of-lt (byte .small))
+
+pub field-in-byte : {bytes : List ℕ} {b : ℕ} (start w k : ℕ) → IsByte bytes (start / 8) b → start % 8 + w + k ≡ 8
+    → b / 2 ^ k % 2 ^ w ≡ field w (bits bytes) start
+field-in-byte {bytes} start w k byte e =
+    let s : 8 * (start / 8) + start % 8 ≡ start = omega arith in
+    let h = byte .inside in
+    let i = field-inside (bits bytes) (8 * (start / 8)) (start % 8) w k (rw (length-bits bytes) (omega arith)) in
+    sym (rw (s, e, byte-field byte) at i)
 
 -- a field of 9 to 16 bits: its first byte, the next, and the byte in which it ends, which is the next or the one after
 pub field-in-three : (bytes : List ℕ) (start w : ℕ) → AreBytes bytes → 9 ≤ w → w ≤ 16 → start + w ≤ 8 * length bytes

@@ -14,7 +14,8 @@ use Rattle.bits.specs.Bits.{toBits, bits, field, put}
 use Rattle.bits.specs.Laws.Digits.{toBits-agree, toBits-append, toBits-value}
 use Rattle.bits.specs.Laws.Bytes.{AreBytes, length-bits, bits-append, take-bits, drop-bits}
 use Rattle.bits.specs.Laws.Puts.{put-number, put-part}
-use Rattle.bits.proofs.Joined.{joined, field-joined, one-byte, two-bytes, three-bytes}
+use Rattle.bits.specs.Scan.{IsByte}
+use Rattle.bits.proofs.Joined.{joined, field-joined, byte-field, two-bytes, three-bytes}
 
 -- the number x with v in the w bits above its k lowest
 abbrev pub replace : ℕ → ℕ → ℕ → ℕ → ℕ
@@ -89,13 +90,12 @@ write bytes vs start w k v x y h e hv ex ey eb =
     ∙ ap (put w v (bits bytes)) s
 
 -- what a write of one, two or three bytes leaves
-module _ (bytes : List ℕ) (start w k v x y : ℕ) (hb : AreBytes bytes) (hv : v < 2 ^ w) (ey : y ≡ replace x w k v) where
-  pub write-one : start / 8 < length bytes → start % 8 + (w + k) ≡ 8 → x ≡ getD bytes (start / 8) 0
-      → bits (set bytes (start / 8) (y % 256)) ≡ put w v (bits bytes) start
-  write-one h e ex =
-      write bytes (y % 256 ∷ []) start w k v x y (omega arith) e hv
-      (ex ∙ sym (field-joined bytes (start / 8) 1 hb ∙ ap (joined 0) (one-byte bytes (start / 8) h) ∙ omega arith)) ey (bits-one y)
+pub write-one : {bytes : List ℕ} {x : ℕ} (start w k v y : ℕ) → IsByte bytes (start / 8) x → start % 8 + (w + k) ≡ 8 → v < 2 ^ w → y ≡ replace x w k v
+    → bits (set bytes (start / 8) (y % 256)) ≡ put w v (bits bytes) start
+write-one {bytes} {x} start w k v y byte e hv ey =
+    write bytes (y % 256 ∷ []) start w k v x y (let h = byte .inside in omega arith) e hv (sym (byte-field byte)) ey (bits-one y)
 
+module _ (bytes : List ℕ) (start w k v x y : ℕ) (hb : AreBytes bytes) (hv : v < 2 ^ w) (ey : y ≡ replace x w k v) where
   pub write-two : start / 8 + 2 ≤ length bytes → start % 8 + (w + k) ≡ 16 → x ≡ joined 0 (getD bytes (start / 8) 0 ∷ getD bytes (start / 8 + 1) 0 ∷ [])
       → bits (set (set bytes (start / 8) (y / 2 ^ 8 % 256)) (start / 8 + 1) (y % 256)) ≡ put w v (bits bytes) start
   write-two h e ex =

@@ -4,15 +4,15 @@ ghost use mathlib.Core.Bool.{false};
 ghost use Prim.Native.Nat.{_+_, _*_, _/_, _%_, _^_, _<_, _≤_};
 ghost use lib.ListN.{length, getD, set};
 ghost use Rattle.bits.specs.Bits.{bits, bit as bitOf, field, put};
+use super::words::byte_at;
 use super::words::join;
-use super::words::wide;
 
 // The bit at `place`.
 pub fn read_bit(bytes: &[u8], place: usize) -> bool
     requires { ⌜ place < 8 * length (now bytes) ⌝ }
     ensures { λ r. ⌜ r ≡ getD (bits (now (bytes .entry))) place false ⌝ }
 {
-    (wide(bytes[place / 8]) >> (7 - place % 8)) & 1 == 1
+    (byte_at(bytes, place / 8) >> (7 - place % 8)) & 1 == 1
 }
 
 // The field of `width` bits from bit `start` on. It lies in two bytes or in three: the last of the three read is where it ends.
@@ -79,7 +79,7 @@ pub fn write_bit(bytes: &mut [u8], place: usize, on: bool)
     ensures { λ _. ⌜ (bits (now (bytes .exit)) ≡ set (bits (now (bytes .entry))) place on) × (length (now (bytes .exit)) ≡ length (now (bytes .entry))) ⌝ }
 {
     let at = place / 8;
-    let x = wide(bytes[at]);
+    let x = byte_at(bytes, at);
     bytes[at] = low_byte(replaced(x, 7 - place % 8, 1, bit(on)));
 }
 

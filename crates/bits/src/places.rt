@@ -2,13 +2,13 @@
 ghost use mathlib.Core.Path.{_≡_};
 ghost use Prim.Native.Nat.{_+_, _*_, _≤_};
 ghost use lib.ListN.{length, take, drop};
-ghost use Rattle.bits.specs.Bits.{bits, count, select as selectOf};
-ghost use Rattle.bits.specs.Laws.Select.{within as withinOf};
+ghost use Rattle.bits.specs.Bits.{bits, select as selectOf};
+ghost use Rattle.bits.specs.Scan.{Passed, within as withinOf};
 use super::table::in_byte;
+use super::words::byte_at;
 use super::words::byte_ones;
 use super::words::byte_rest;
 use super::words::tail;
-use super::words::wide;
 use super::words::word_ones;
 
 // A byte to go on from, and how many ones are left to go.
@@ -20,7 +20,7 @@ pub struct Rest {
 // Passes over whole words that have fewer ones than are left to go.
 fn skip_words(bytes: &[u8], k: usize) -> Rest
     requires { ⌜ 1 ≤ k ⌝ }
-    ensures { λ r. ⌜ (r .at ≤ length (now (bytes .entry))) × (1 ≤ r .left) × (count (take (8 * r .at) (bits (now (bytes .entry)))) + r .left ≡ k) ⌝ }
+    ensures { λ r. ⌜ Passed (now (bytes .entry)) k (r .at) (r .left) ⌝ }
 {
     let mut at = 0;
     let mut left = k;
@@ -59,7 +59,7 @@ fn place_of(bytes: &[u8], limit: usize, k: usize) -> usize
     let mut at = rest.at;
     let mut left = rest.left;
     while at < bytes.len() {
-        let b = wide(bytes[at]);
+        let b = byte_at(bytes, at);
         let c = byte_ones(b);
         if left <= c {
             return within(limit, at, in_byte(b, left));

@@ -5,6 +5,7 @@ ghost use Prim.Native.Nat.{_+_, _-_, _*_, _%_, _^_, _<_, _≤_};
 ghost use lib.Count.{ones};
 ghost use lib.ListN.{length, take, drop, getD};
 ghost use Rattle.bits.specs.Bits.{bits, count, value, field};
+ghost use Rattle.bits.specs.Scan.{IsByte, IsRest};
 
 pub fn wide(b: u8) -> u64
     ensures { λ r. ⌜ (r ≡ b) × (r < 256) ⌝ }
@@ -70,6 +71,14 @@ fn short_word(bytes: &[u8], at: usize, n: usize) -> u64
     w >> (64 - n)
 }
 
+// Byte `at`.
+pub fn byte_at(bytes: &[u8], at: usize) -> u64
+    requires { ⌜ at < length (now bytes) ⌝ }
+    ensures { λ r. ⌜ IsByte (now (bytes .entry)) at r ⌝ }
+{
+    wide(bytes[at])
+}
+
 // The bytes from byte `at` on.
 pub fn tail(bytes: &[u8], at: usize) -> &[u8]
     requires { ⌜ at ≤ length (now bytes) ⌝ }
@@ -81,10 +90,10 @@ pub fn tail(bytes: &[u8], at: usize) -> &[u8]
 // The bits from bit `start` on to the end of its byte.
 pub fn byte_rest(bytes: &[u8], start: usize) -> u64
     requires { ⌜ start < 8 * length (now bytes) ⌝ }
-    ensures { λ r. ⌜ (r ≡ field (8 - start % 8) (bits (now (bytes .entry))) start) × (r < 256) ⌝ }
+    ensures { λ r. ⌜ IsRest (now (bytes .entry)) start r ⌝ }
 {
     let room = 8 - start % 8;
-    wide(bytes[start / 8]) & ((1 << room) - 1)
+    byte_at(bytes, start / 8) & ((1 << room) - 1)
 }
 
 // The language's count of ones.

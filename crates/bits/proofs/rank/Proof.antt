@@ -4,7 +4,7 @@ use Prim.Native.Nat.{_+_, _*_}
 use native.Mathlib.Nat.{le-of-lt}
 use native.Mathlib.Omega.{arith}
 use borrow.Author.Needs.{needs}
-use borrow.Author.Tests.{leb-true, leb-false}
+use borrow.Author.Tests.{leb-true}
 use lib.ListN.{length}
 use Rattle.bits.specs.Laws.Rank.{rank-inside, rank-beyond, rank-not-held}
 use Rattle.bits.proofs.rank.Statement.{statement}
@@ -27,17 +27,17 @@ ones-from-requires-2 c κs =
 returns : tie.Need-returns
 returns c =
     let a = c .before .before .before .before .before .args in
-    c .ones-from .ensures ∙ sym (rank-inside (a .bytes .now) (a .start) (a .places) (a .p) (leb-true (a .start + a .places) (8 * length (a .bytes .now)) (sym (c .before .before .before .holds .ensures) ∙ c .before .before .if1 .taken)) (le-of-lt (c .before .if2 .taken)))
+    c .ones-from .ensures ∙ sym (rank-inside (a .bytes .now) (a .start) (a .places) (a .p) (sym (c .before .before .before .holds .ensures) ∙ c .before .before .if1 .taken) (le-of-lt (c .before .if2 .taken)))
 
 returns-2 : tie.Need-returns-2
 returns-2 c =
     let a = c .before .before .before .before .before .args in
-    c .ones-from2 .ensures ∙ sym (rank-beyond (a .bytes .now) (a .start) (a .places) (a .p) (leb-true (a .start + a .places) (8 * length (a .bytes .now)) (sym (c .before .before .before .holds .ensures) ∙ c .before .before .if1 .taken)) (c .before .if2 .left))
+    c .ones-from2 .ensures ∙ sym (rank-beyond (a .bytes .now) (a .start) (a .places) (a .p) (sym (c .before .before .before .holds .ensures) ∙ c .before .before .if1 .taken) (c .before .if2 .left))
 
 returns-3 : tie.Need-returns-3
 returns-3 c =
     let a = c .before .before .before .args in
-    sym (rank-not-held (a .bytes .now) (a .start) (a .places) (a .p) (leb-false (a .start + a .places) (8 * length (a .bytes .now)) (sym (c .before .holds .ensures) ∙ c .if1 .left)))
+    sym (rank-not-held (a .bytes .now) (a .start) (a .places) (a .p) (sym (c .before .holds .ensures) ∙ c .if1 .left))
 
 pub rank-spec : {M : Type 1} → statement M
 rank-spec =

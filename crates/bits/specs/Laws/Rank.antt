@@ -3,11 +3,10 @@ use mathlib.Core.Path.{_≡_, refl, sym, ap, ap₂, _∙_}
 use mathlib.Core.Bool.{Bool, true, false}
 use mathlib.Core.List.{List, [], _∷_, _++_}
 use Prim.Native.Nat.{ℕ, _+_, _*_, _≤_, _<_}
-use native.Mathlib.Decide.{decLe}
 use native.Mathlib.Nat.{le-trans, min-le-left}
 use native.Mathlib.Numerals.{add-one}
 use native.Mathlib.Omega.{arith}
-use borrow.Author.Tests.{le-leb, lt-leb}
+use lib.Dec.{leb}
 use lib.Count.{ones, ones-cat}
 use lib.ListN.{length, take, drop, getD, length-take, take-append-drop}
 use lib.Seq.{take-add, take-all, take-nil, take-suc, take-take}
@@ -58,21 +57,21 @@ ones-field w s start = ones-value (take w (drop start s))
 
 -- ---- a string that its bytes hold, and one that they don't
 
-pub held : (bytes : List ℕ) (start places : ℕ) → start + places ≤ 8 * length bytes
-    → string bytes start places ≡ take places (drop start (bits bytes))
-unfolding string
-held bytes start places h = rw (le-leb (start + places) (8 * length bytes) h, string)
+module _ (bytes : List ℕ) (start places : ℕ) where
+  pub held : leb (start + places) (8 * length bytes) ≡ true → string bytes start places ≡ take places (drop start (bits bytes))
+  unfolding string
+  held h = rw (h, string)
 
-pub not-held : (bytes : List ℕ) (start places : ℕ) → 8 * length bytes < start + places → string bytes start places ≡ []
-unfolding string
-not-held bytes start places h = rw (lt-leb (start + places) (8 * length bytes) h, string)
+  pub not-held : leb (start + places) (8 * length bytes) ≡ false → string bytes start places ≡ []
+  unfolding string
+  not-held h = rw (h, string)
 
-pub no-places : (bytes : List ℕ) (start : ℕ) → string bytes start 0 ≡ []
-no-places bytes start = go (decLe (start + 0) (8 * length bytes))
-  where
-    go : Dec (start + 0 ≤ 8 * length bytes) → string bytes start 0 ≡ []
-    go (yes h) = held bytes start 0 h
-    go (no h) = not-held bytes start 0 (omega arith)
+  pub length-string : length (string bytes start places) ≤ places
+  length-string = go (leb (start + places) (8 * length bytes)) refl
+    where
+      go : (t : Bool) → leb (start + places) (8 * length bytes) ≡ t → length (string bytes start places) ≤ places
+      go true h = rw (held h, length-take) (min-le-left places (length (drop start (bits bytes))))
+      go false h = rw (not-held h) (omega arith)
 
 -- ---- rank
 
@@ -102,15 +101,16 @@ rank-le s p = omega (arith, count-append (take p s) (drop p s), ap count (take-a
 
 -- of a string by its bytes: up to a place in it, past its end, and where the bytes don't hold it
 module _ (bytes : List ℕ) (start places p : ℕ) where
-  pub rank-inside : start + places ≤ 8 * length bytes → p ≤ places → rank (string bytes start places) p ≡ count (take p (drop start (bits bytes)))
+  pub rank-inside : leb (start + places) (8 * length bytes) ≡ true → p ≤ places
+      → rank (string bytes start places) p ≡ count (take p (drop start (bits bytes)))
   unfolding rank
   rank-inside h l = rw (held bytes start places h) (ap count (take-take p places (drop start (bits bytes)) l))
 
-  pub rank-beyond : start + places ≤ 8 * length bytes → places ≤ p → rank (string bytes start places) p ≡ count (take places (drop start (bits bytes)))
+  pub rank-beyond : leb (start + places) (8 * length bytes) ≡ true → places ≤ p
+      → rank (string bytes start places) p ≡ count (take places (drop start (bits bytes)))
   rank-beyond h l =
-      rw (held bytes start places h)
-      (rank-past (take places (drop start (bits bytes))) p (simp length-take (le-trans (min-le-left places (length (drop start (bits bytes)))) l)))
+      rank-past (string bytes start places) p (le-trans (length-string bytes start places) l) ∙ ap count (held bytes start places h)
 
-  pub rank-not-held : 8 * length bytes < start + places → rank (string bytes start places) p ≡ 0
+  pub rank-not-held : leb (start + places) (8 * length bytes) ≡ false → rank (string bytes start places) p ≡ 0
   unfolding rank count
   rank-not-held h = rw (not-held bytes start places h, take-nil {A = Bool} p)

@@ -12,7 +12,8 @@ use lib.Dec.{leb}
 use lib.ListN.{length, take, drop, getD, length-take, take-append-drop, List·getD-append, List·getD-eq-default}
 use lib.Seq.{getD-append-add, length-take-le, take-all}
 use Rattle.bits.specs.Bits.{bits, string, count, rank, places, select, bit}
-use Rattle.bits.specs.Laws.Rank.{count-cons, count-append, held, not-held, no-places, rank-le}
+use Rattle.bits.specs.Scan.{within}
+use Rattle.bits.specs.Laws.Rank.{count-cons, count-append, held, not-held, length-string, rank-le}
 
 -- ---- the places of the ones
 
@@ -112,10 +113,6 @@ select-join-none s t k h e = go (decLe k (count s + count t))
 
 -- ---- a limit
 
--- the place p, or 0 where it is past the limit
-unfoldable pub within : ℕ → ℕ → ℕ
-within limit p = elim (leb p limit) [ true ↦ p | false ↦ 0 ]
-
 pub within-in : (limit p : ℕ) → p ≤ limit → within limit p ≡ p
 unfolding within
 within-in limit p h = rw (le-leb p limit h, within)
@@ -123,13 +120,6 @@ within-in limit p h = rw (le-leb p limit h, within)
 pub within-out : (limit p : ℕ) → limit < p → within limit p ≡ 0
 unfolding within
 within-out limit p h = rw (lt-leb p limit h, within)
-
-pub within-le : (limit p : ℕ) → within limit p ≤ limit
-within-le limit p = go (decLe p limit)
-  where
-    go : Dec (p ≤ limit) → within limit p ≤ limit
-    go (yes h) = rw (within-in limit p h) h
-    go (no h) = rw (within-out limit p (omega arith)) (omega arith)
 
 -- a prefix has the places up to its end
 pub select-take : (s : List Bool) (n k : ℕ) → select (take n s) k ≡ within n (select s k)
@@ -199,15 +189,12 @@ select-rank (b ∷ s) (suc i) e = later b s i (select-rank s i e)
 
 -- ---- of a string by its bytes: where they hold it, where they don't, and of no places
 
-select-nil : (k : ℕ) → select [] k ≡ 0
-select-nil k = omega (arith, select-le [] k)
-
 module _ (bytes : List ℕ) (start places k : ℕ) where
-  pub select-held : start + places ≤ 8 * length bytes → select (string bytes start places) k ≡ select (take places (drop start (bits bytes))) k
+  pub select-held : leb (start + places) (8 * length bytes) ≡ true → select (string bytes start places) k ≡ select (take places (drop start (bits bytes))) k
   select-held h = ap (λ (s : List Bool). select s k) (held bytes start places h)
 
-  pub select-not-held : 8 * length bytes < start + places → select (string bytes start places) k ≡ 0
-  select-not-held h = ap (λ (s : List Bool). select s k) (not-held bytes start places h) ∙ select-nil k
+  pub select-not-held : leb (start + places) (8 * length bytes) ≡ false → select (string bytes start places) k ≡ 0
+  select-not-held h = let l = select-le (string bytes start places) k in omega (arith, ap length (not-held bytes start places h))
 
 pub select-empty : (bytes : List ℕ) (start k : ℕ) → select (string bytes start 0) k ≡ 0
-select-empty bytes start k = ap (λ (s : List Bool). select s k) (no-places bytes start) ∙ select-nil k
+select-empty bytes start k = omega (arith, select-le (string bytes start 0) k, length-string bytes start 0)

@@ -1,19 +1,19 @@
 -- `counts::ones_from` meets its contract, by the laws of a string that starts inside a byte.
 use mathlib.Core.List.{List}
 use mathlib.Core.Path.{_∙_, ap, sym}
-use Prim.Native.Nat.{ℕ, _-_, _%_}
+use Prim.Native.Nat.{ℕ, _-_}
 use native.Mathlib.Omega.{arith}
 use borrow.Author.Needs.{needs}
-use lib.ListN.{take, drop, length-drop}
+use lib.ListN.{take, length-drop}
 use Rattle.bits.specs.Bits.{bits, count}
 use Rattle.bits.specs.Laws.Rank.{count-take-le}
-use Rattle.bits.proofs.FromBit.{ones-within, ones-beyond}
+use Rattle.bits.proofs.FromBit.{from, room, ones-within, ones-beyond}
 use Rattle.bits.proofs.counts.ones_from.Statement.{statement}
 use Rattle.bits.proofs.counts.ones_from.Tie as tie
 
 returns : tie.Need-returns
 unfolding count
-returns c = sym (ap (λ (n : ℕ). count (take n (drop (c .before .before .args .start) (bits (c .before .before .args .bytes .now))))) (c .if1 .taken))
+returns c = sym (ap (λ (n : ℕ). count (take n (from (c .before .before .args .bytes .now) (c .before .before .args .start)))) (c .if1 .taken))
 
 sub-room : tie.Need-sub-room
 sub-room c = search needs
@@ -28,7 +28,7 @@ ones-of-requires : tie.Need-ones-of-requires
 ones-of-requires c κs = search needs
 
 returns-2 : tie.Need-returns-2
-returns-2 c = c .ones-of .ensures .0 ∙ ones-within (c .before .before .before .before .before .args .bytes .now) (c .before .before .before .before .before .args .start) (8 - c .before .before .before .before .before .args .start % 8) (c .before .before .byte-rest .result) (omega arith) (omega arith) (c .before .before .byte-rest .ensures .0) (c .before .before .before .before .before .args .n) (c .before .if2 .taken)
+returns-2 c = c .ones-of .ensures .0 ∙ ones-within (c .before .before .byte-rest .ensures) (c .before .before .before .before .before .args .n) (c .before .if2 .taken)
 
 ones-of-requires-2 : tie.Need-ones-of-requires-2
 ones-of-requires-2 c κs = search needs
@@ -47,14 +47,14 @@ ones-before-requires c κs = rw (c .tail .ensures, length-drop) (omega arith)
 
 add-result : tie.Need-add-result
 add-result c =
-    let s = ones-beyond (c .before .before .before .before .before .before .before .args .bytes .now) (c .before .before .before .before .before .before .before .args .start) (8 - c .before .before .before .before .before .before .before .args .start % 8) (c .before .before .before .before .byte-rest .result) (omega arith) (omega arith) (c .before .before .before .before .byte-rest .ensures .0) (c .before .before .before .before .before .before .before .args .n) (c .before .before .ones-of2 .result) (c .ones-before .result) (omega arith) (c .before .before .ones-of2 .ensures .0)
-    (c .ones-before .ensures ∙ ap (λ (t : List ℕ). count (take (c .before .before .before .before .before .before .before .args .n - (8 - c .before .before .before .before .before .before .before .args .start % 8)) (bits t))) (c .before .tail .ensures)) in
-    omega (arith, count-take-le (c .before .before .before .before .before .before .before .args .n) (drop (c .before .before .before .before .before .before .before .args .start) (bits (c .before .before .before .before .before .before .before .args .bytes .now))))
+    let s = ones-beyond (c .before .before .before .before .byte-rest .ensures) (c .before .before .before .before .before .before .before .args .n) (c .before .before .ones-of2 .result) (c .ones-before .result) (omega arith) (c .before .before .ones-of2 .ensures .0)
+    (c .ones-before .ensures ∙ ap (λ (t : List ℕ). count (take (c .before .before .before .before .before .before .before .args .n - room (c .before .before .before .before .before .before .before .args .start)) (bits t))) (c .before .tail .ensures)) in
+    omega (arith, count-take-le (c .before .before .before .before .before .before .before .args .n) (from (c .before .before .before .before .before .before .before .args .bytes .now) (c .before .before .before .before .before .before .before .args .start)))
 
 returns-3 : tie.Need-returns-3
 returns-3 c =
-    ones-beyond (c .before .before .before .before .before .before .before .args .bytes .now) (c .before .before .before .before .before .before .before .args .start) (8 - c .before .before .before .before .before .before .before .args .start % 8) (c .before .before .before .before .byte-rest .result) (omega arith) (omega arith) (c .before .before .before .before .byte-rest .ensures .0) (c .before .before .before .before .before .before .before .args .n) (c .before .before .ones-of2 .result) (c .ones-before .result) (omega arith) (c .before .before .ones-of2 .ensures .0)
-    (c .ones-before .ensures ∙ ap (λ (t : List ℕ). count (take (c .before .before .before .before .before .before .before .args .n - (8 - c .before .before .before .before .before .before .before .args .start % 8)) (bits t))) (c .before .tail .ensures))
+    ones-beyond (c .before .before .before .before .byte-rest .ensures) (c .before .before .before .before .before .before .before .args .n) (c .before .before .ones-of2 .result) (c .ones-before .result) (omega arith) (c .before .before .ones-of2 .ensures .0)
+    (c .ones-before .ensures ∙ ap (λ (t : List ℕ). count (take (c .before .before .before .before .before .before .before .args .n - room (c .before .before .before .before .before .before .before .args .start)) (bits t))) (c .before .tail .ensures))
 
 pub ones-from-spec : {M : Type 1} → statement M
 ones-from-spec =

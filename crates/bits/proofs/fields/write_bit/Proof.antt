@@ -11,11 +11,8 @@ use Rattle.bits.proofs.Stored.{write-one}
 use Rattle.bits.proofs.fields.write_bit.Statement.{statement}
 use Rattle.bits.proofs.fields.write_bit.Tie as tie
 
-slice-read-wide : tie.Need-slice-read-wide
-slice-read-wide c = search needs
-
-wide-requires : tie.Need-wide-requires
-wide-requires c κs = search needs
+byte-at-requires : tie.Need-byte-at-requires
+byte-at-requires c κs = search needs
 
 sub-replaced : tie.Need-sub-replaced
 sub-replaced c = search needs
@@ -38,10 +35,9 @@ same-length c = search needs
 returns : tie.Need-returns
 returns c =
     let bytes = c .before .before .before .before .before .before .args .bytes .now in
-    let place = c .before .before .before .before .before .before .args .place in
-    let y = c .before .replaced .result in (
+    let place = c .before .before .before .before .before .before .args .place in (
       ap (λ (x : ℕ). bits (set bytes (place / 8) x)) (c .low-byte .ensures)
-          ∙ write-one bytes place 1 (7 - place % 8) (c .before .before .bit .result) (c .before .before .before .wide .result) y (λ i. c .before .before .before .before .slice-known2 .given i .fits) (c .before .before .bit .ensures .1) (c .before .replaced .ensures) (omega arith) (omega arith) (c .before .before .before .wide .ensures .0)
+          ∙ write-one place 1 (7 - place % 8) (c .before .before .bit .result) (c .before .replaced .result) (c .before .before .before .byte-at .ensures) (omega arith) (c .before .before .bit .ensures .1) (c .before .replaced .ensures)
           ∙ ap (λ (v : ℕ). put 1 v (bits bytes) place) (c .before .before .bit .ensures .0)
           ∙ put-one (c .before .before .before .before .before .before .args .on) (bits bytes) place (rw (length-bits bytes) (omega arith)),
       simp length-set,
@@ -51,8 +47,7 @@ pub write-bit-spec : {M : Type 1} → statement M
 write-bit-spec =
     tie.close
     (tie.spec
-    slice-read-wide
-    wide-requires
+    byte-at-requires
     sub-replaced
     bit-requires
     replaced-requires

@@ -1,24 +1,20 @@
--- `places::skip_words` meets its contract. The invariant: the ones passed and those left to go are k.
-use mathlib.Core.Path.{_≡_, _∙_, ap}
-use Prim.Native.Nat.{ℕ, _+_, _-_, _*_, _≤_}
-use native.Mathlib.Nat.{zero-add}
+-- `places::skip_words` meets its contract: the words passed have fewer ones than are looked for.
+use Prim.Native.Nat.{_-_}
 use native.Mathlib.Omega.{arith}
-use borrow.Author.Needs.{needs}
-use lib.ListN.{length, take, drop}
-use Rattle.bits.specs.Bits.{bits, count}
-use Rattle.bits.specs.Laws.Rank.{count-take-add}
+use lib.ListN.{length}
+use Rattle.bits.specs.Scan.{Passed}
+use Rattle.bits.proofs.Found.{passed-none, passed-word}
 use Rattle.bits.proofs.places.skip_words.Statement.{statement}
 use Rattle.bits.proofs.places.skip_words.Tie as tie
 
 abbrev Inv-loop : tie.InvT-loop
-Inv-loop bytes k at₀ left₀ at left = (at ≤ length bytes) × (1 ≤ left) × (count (take (8 * at) (bits bytes)) + left ≡ k)
+Inv-loop bytes k at₀ left₀ at left = Passed bytes k at left
 
 abbrev μ-loop : tie.MeasureT-loop
 μ-loop bytes k at₀ left₀ at left = length bytes - at
 
 loop-holds : tie.Need-loop-holds Inv-loop μ-loop
-unfolding count
-loop-holds c = (omega arith, c .before .pre, zero-add (c .before .args .k))
+loop-holds c = passed-none (c .before .args .bytes .now) (c .before .args .k) (c .before .pre)
 
 add-loop : tie.Need-add-loop Inv-loop μ-loop
 add-loop c = omega arith
@@ -27,7 +23,7 @@ word-ones-requires : tie.Need-word-ones-requires Inv-loop μ-loop
 word-ones-requires c κs = omega arith
 
 returns : tie.Need-returns Inv-loop μ-loop
-returns c = search needs
+returns c = c .before .before .before .loop .inv
 
 sub-left : tie.Need-sub-left Inv-loop μ-loop
 sub-left c = omega arith
@@ -39,16 +35,10 @@ loop-less : tie.Need-loop-less Inv-loop μ-loop
 loop-less c = omega arith
 
 loop-again : tie.Need-loop-again Inv-loop μ-loop
-loop-again c =
-    let s = bits (c .before .before .before .before .before .args .bytes .now) in
-    let at = c .before .before .before .loop .at in
-    let e : 8 * (at + 8) ≡ 8 * at + 64 = omega arith in
-    let n : count (take (8 * (at + 8)) s) ≡ count (take (8 * at) s) + count (take 64 (drop (8 * at) s)) =
-    ap (λ (x : ℕ). count (take x s)) e ∙ count-take-add s (8 * at) 64 in
-    (omega arith, omega arith, omega arith)
+loop-again c = passed-word (c .before .word-ones .result) (c .before .before .before .loop .inv) (c .before .before .loop-test .taken) (c .before .word-ones .ensures .0) (c .if1 .left)
 
 returns-2 : tie.Need-returns-2 Inv-loop μ-loop
-returns-2 c = search needs
+returns-2 c = c .before .loop .inv
 
 pub skip-words-spec : {M : Type 1} → statement M
 skip-words-spec =

@@ -1,0 +1,30 @@
+-- What a scan for ones knows on its way: the records that contracts inside this crate cite. No caller outside sees them.
+use mathlib.Core.Path.{_≡_}
+use mathlib.Core.Bool.{true, false}
+use mathlib.Core.List.{List}
+use Prim.Native.Nat.{ℕ, _+_, _-_, _*_, _%_, _≤_, _<_}
+use lib.Dec.{leb}
+use lib.ListN.{length, take, getD}
+use Rattle.bits.specs.Bits.{bits, count, field}
+
+-- b is byte `at`
+pub record IsByte (bytes : List ℕ) (at b : ℕ) : Type 0 where
+  pub inside : at < length bytes
+  pub same : b ≡ getD bytes at 0
+  pub small : b < 256
+
+-- b is what is left of a byte, from bit `start` on to its end
+pub record IsRest (bytes : List ℕ) (start b : ℕ) : Type 0 where
+  pub inside : start < 8 * length bytes
+  pub same : b ≡ field (8 - start % 8) (bits bytes) start
+  pub small : b < 256
+
+-- k ones are looked for, and `left` of them are to go from byte `at` on
+pub record Passed (bytes : List ℕ) (k at left : ℕ) : Type 0 where
+  pub inside : at ≤ length bytes
+  pub some : 1 ≤ left
+  pub sum : count (take (8 * at) (bits bytes)) + left ≡ k
+
+-- the place p, or 0 where it is past the limit
+unfoldable pub within : ℕ → ℕ → ℕ
+within limit p = elim (leb p limit) [ true ↦ p | false ↦ 0 ]
