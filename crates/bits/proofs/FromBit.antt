@@ -89,11 +89,15 @@ module _ {bytes : List ℕ} {start b : ℕ} (rest : IsRest bytes start b) where
 
   -- ---- after it
 
-  module _ {k : ℕ} (places : ℕ) (more : ones b < k) where
+  -- b has c ones
+  module _ {k c : ℕ} (places : ℕ) (ones-of : c ≡ ones b) (more : c < k) where
+    count-own : c ≡ count own
+    count-own = ones-of ∙ ones-own
+
     pub place-none : places ≤ room start → select (take places (from bytes start)) k ≡ 0
     unfolding rank own
     place-none l =
-        let c = ones-own in
+        let c = count-own in
         let r = rank-le own places in
         let t = ap count (take-take places (room start) (from bytes start) l) in
         select-none (take places (from bytes start)) k (omega arith)
@@ -105,20 +109,20 @@ module _ {bytes : List ℕ} {start b : ℕ} (rest : IsRest bytes start b) where
         ap (λ (n : ℕ). take n (from bytes start)) s ∙ take-add (room start) (places - room start) (from bytes start)
         ∙ ap (λ (x : List Bool). own ++ take (places - room start) x) after-own
 
-    module _ {p : ℕ} (far : room start ≤ places) (same : p ≡ select (take (places - room start) (after bytes start)) (k - ones b)) where
+    module _ {p : ℕ} (far : room start ≤ places) (same : p ≡ select (take (places - room start) (after bytes start)) (k - c)) where
       pub place-le : p ≤ places - room start
       place-le =
-          let l = select-le (take (places - room start) (after bytes start)) (k - ones b) in
+          let l = select-le (take (places - room start) (after bytes start)) (k - c) in
           let m = length-take (places - room start) (after bytes start) in
           omega arith
 
       pub place-missing : p ≡ 0 → select (take places (from bytes start)) k ≡ 0
       place-missing z =
           rw (split far)
-          (select-join-none own (take (places - room start) (after bytes start)) k (rw ones-own at more) (rw ones-own at (sym same ∙ z)))
+          (select-join-none own (take (places - room start) (after bytes start)) k (rw count-own at more) (rw count-own at (sym same ∙ z)))
 
       pub place-beyond : 1 ≤ p → room start + p ≡ select (take places (from bytes start)) k
       place-beyond z =
-          let q : p ≡ select (take (places - room start) (after bytes start)) (k - count own) = rw ones-own at same in
+          let q : p ≡ select (take (places - room start) (after bytes start)) (k - count own) = rw count-own at same in
           ap₂ _+_ (sym length-own) q
-          ∙ sym (rw (split far) (select-join own (take (places - room start) (after bytes start)) k (rw ones-own at more) (rw q at z)))
+          ∙ sym (rw (split far) (select-join own (take (places - room start) (after bytes start)) k (rw count-own at more) (rw q at z)))

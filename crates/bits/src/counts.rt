@@ -1,6 +1,6 @@
 // The ones of a string that its bytes hold, counted a 64-bit word at a time.
 ghost use mathlib.Core.Path.{_≡_};
-ghost use Prim.Native.Nat.{_+_, _*_, _≤_};
+ghost use Prim.Native.Nat.{_+_, _*_, _/_, _≤_};
 ghost use lib.ListN.{length, take, drop};
 ghost use Rattle.bits.specs.Bits.{bits, count};
 use super::words::byte_rest;
@@ -28,6 +28,14 @@ fn ones_before(bytes: &[u8], n: usize) -> usize
     sum + short_ones(bytes, 8 * words, rest)
 }
 
+// How many of the first n bits after the byte of bit `start` are ones.
+fn ones_after(bytes: &[u8], start: usize, n: usize) -> usize
+    requires { ⌜ 8 * (start / 8 + 1) + n ≤ 8 * length (now bytes) ⌝ }
+    ensures { λ r. ⌜ r ≡ count (take n (bits (drop (start / 8 + 1) (now (bytes .entry))))) ⌝ }
+{
+    ones_before(tail(bytes, start / 8 + 1), n)
+}
+
 // How many of the n bits from bit `start` on are ones: those up to the end of its byte, and then from whole bytes.
 pub fn ones_from(bytes: &[u8], start: usize, n: usize) -> usize
     requires { ⌜ start + n ≤ 8 * length (now bytes) ⌝ }
@@ -41,5 +49,5 @@ pub fn ones_from(bytes: &[u8], start: usize, n: usize) -> usize
     if n <= room {
         return ones_of(b >> (room - n));
     }
-    ones_of(b) + ones_before(tail(bytes, start / 8 + 1), n - room)
+    ones_of(b) + ones_after(bytes, start, n - room)
 }

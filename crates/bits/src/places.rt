@@ -1,6 +1,6 @@
 // The place of the k-th one of a string that its bytes hold: by words, then by bytes, then by the table.
 ghost use mathlib.Core.Path.{_≡_};
-ghost use Prim.Native.Nat.{_+_, _*_, _≤_};
+ghost use Prim.Native.Nat.{_+_, _*_, _/_, _<_, _≤_};
 ghost use lib.ListN.{length, take, drop};
 ghost use Rattle.bits.specs.Bits.{bits, select as selectOf};
 ghost use Rattle.bits.specs.Scan.{Passed, within as withinOf};
@@ -70,6 +70,14 @@ fn place_of(bytes: &[u8], limit: usize, k: usize) -> usize
     0
 }
 
+// The place of the k-th one of the first `limit` bits after the byte of bit `start`, or 0.
+fn place_after(bytes: &[u8], start: usize, limit: usize, k: usize) -> usize
+    requires { ⌜ (1 ≤ k) × (start / 8 < length (now bytes)) ⌝ }
+    ensures { λ r. ⌜ r ≡ selectOf (take limit (bits (drop (start / 8 + 1) (now (bytes .entry))))) k ⌝ }
+{
+    place_of(tail(bytes, start / 8 + 1), limit, k)
+}
+
 // The place of the k-th one of the `places` bits from bit `start` on, or 0: in what is left of the first byte, or after it.
 pub fn place_from(bytes: &[u8], start: usize, places: usize, k: usize) -> usize
     requires { ⌜ (1 ≤ k) × (1 ≤ places) × (start + places ≤ 8 * length (now bytes)) ⌝ }
@@ -85,6 +93,6 @@ pub fn place_from(bytes: &[u8], start: usize, places: usize, k: usize) -> usize
     if places <= room {
         return 0;
     }
-    let p = place_of(tail(bytes, start / 8 + 1), places - room, k - c);
+    let p = place_after(bytes, start, places - room, k - c);
     if p == 0 { 0 } else { room + p }
 }

@@ -1,13 +1,12 @@
 -- `counts::ones_from` meets its contract, by the laws of a string that starts inside a byte.
-use mathlib.Core.List.{List}
 use mathlib.Core.Path.{_∙_, ap, sym}
-use Prim.Native.Nat.{ℕ, _-_}
+use Prim.Native.Nat.{ℕ}
 use native.Mathlib.Omega.{arith}
 use borrow.Author.Needs.{needs}
-use lib.ListN.{take, length-drop}
-use Rattle.bits.specs.Bits.{bits, count}
+use lib.ListN.{take}
+use Rattle.bits.specs.Bits.{count}
 use Rattle.bits.specs.Laws.Rank.{count-take-le}
-use Rattle.bits.proofs.FromBit.{from, room, ones-within, ones-beyond}
+use Rattle.bits.proofs.FromBit.{from, ones-within, ones-beyond}
 use Rattle.bits.proofs.counts.ones_from.Statement.{statement}
 use Rattle.bits.proofs.counts.ones_from.Tie as tie
 
@@ -33,28 +32,19 @@ returns-2 c = c .ones-of .ensures .0 ∙ ones-within (c .before .before .byte-re
 ones-of-requires-2 : tie.Need-ones-of-requires-2
 ones-of-requires-2 c κs = search needs
 
-add-tail : tie.Need-add-tail
-add-tail c = search needs
+sub-ones-after : tie.Need-sub-ones-after
+sub-ones-after c = search needs
 
-tail-requires : tie.Need-tail-requires
-tail-requires c κs = search needs
-
-sub-ones-before : tie.Need-sub-ones-before
-sub-ones-before c = search needs
-
-ones-before-requires : tie.Need-ones-before-requires
-ones-before-requires c κs = rw (c .tail .ensures, length-drop) (omega arith)
+ones-after-requires : tie.Need-ones-after-requires
+ones-after-requires c κs = search needs
 
 add-result : tie.Need-add-result
 add-result c =
-    let s = ones-beyond (c .before .before .before .before .byte-rest .ensures) (c .before .before .before .before .before .before .before .args .n) (c .before .before .ones-of2 .result) (c .ones-before .result) (omega arith) (c .before .before .ones-of2 .ensures .0)
-    (c .ones-before .ensures ∙ ap (λ (t : List ℕ). count (take (c .before .before .before .before .before .before .before .args .n - room (c .before .before .before .before .before .before .before .args .start)) (bits t))) (c .before .tail .ensures)) in
-    omega (arith, count-take-le (c .before .before .before .before .before .before .before .args .n) (from (c .before .before .before .before .before .before .before .args .bytes .now) (c .before .before .before .before .before .before .before .args .start)))
+    let s = ones-beyond (c .before .before .before .byte-rest .ensures) (c .before .before .before .before .before .before .args .n) (c .before .ones-of2 .result) (c .ones-after .result) (omega arith) (c .before .ones-of2 .ensures .0) (c .ones-after .ensures) in
+    omega (arith, count-take-le (c .before .before .before .before .before .before .args .n) (from (c .before .before .before .before .before .before .args .bytes .now) (c .before .before .before .before .before .before .args .start)))
 
 returns-3 : tie.Need-returns-3
-returns-3 c =
-    ones-beyond (c .before .before .before .before .byte-rest .ensures) (c .before .before .before .before .before .before .before .args .n) (c .before .before .ones-of2 .result) (c .ones-before .result) (omega arith) (c .before .before .ones-of2 .ensures .0)
-    (c .ones-before .ensures ∙ ap (λ (t : List ℕ). count (take (c .before .before .before .before .before .before .before .args .n - room (c .before .before .before .before .before .before .before .args .start)) (bits t))) (c .before .tail .ensures))
+returns-3 c = ones-beyond (c .before .before .before .byte-rest .ensures) (c .before .before .before .before .before .before .args .n) (c .before .ones-of2 .result) (c .ones-after .result) (omega arith) (c .before .ones-of2 .ensures .0) (c .ones-after .ensures)
 
 pub ones-from-spec : {M : Type 1} → statement M
 ones-from-spec =
@@ -67,9 +57,7 @@ ones-from-spec =
     ones-of-requires
     returns-2
     ones-of-requires-2
-    add-tail
-    tail-requires
-    sub-ones-before
-    ones-before-requires
+    sub-ones-after
+    ones-after-requires
     add-result
     returns-3)
