@@ -1,0 +1,5 @@
+-- Laws on theorem 5: bridges, and the lowpoints that find them.
+pub mod Crossings
+pub mod Stores
+pub mod Lowpoints
+pub mod Sweep

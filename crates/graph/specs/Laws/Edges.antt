@@ -1,0 +1,3 @@
+-- Laws on theorem 2: the marks of tree edges, and children.
+pub mod Marks
+pub mod Children

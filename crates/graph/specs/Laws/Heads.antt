@@ -1,0 +1,3 @@
+-- Laws on theorem 6: heads, and the climbs that find them.
+pub mod Sections
+pub mod Walks

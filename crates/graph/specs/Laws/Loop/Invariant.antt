@@ -1,0 +1,201 @@
+-- Theorem 7, the invariant of an imperative loop over arrays, with its steps: begin, pass over, enter, return, end. Beside the arrays the
+-- program holds the starts still to try, `cur` (0, or 1 + the vertex at hand), `k` (how many are entered) and `left`, which it counts down.
+use Prim.Native.Nat.{ℕ, suc, _+_, _-_, _*_, _≤_, _<_}
+use mathlib.Core.Path.{_≡_, refl, sym, _∙_, ap, subst}
+use mathlib.Core.List.{List, [], _∷_, List·Memᴰ, List·Memᴰ·head, flatten}
+use native.Mathlib.Omega.{arith}
+use lib.ListN.{length}
+use Rattle.graph.specs.Graph.{Blocks, block, target, Place}
+use Rattle.graph.specs.Search.{Goal, root, via, aim, Forest, all, search}
+use Rattle.graph.specs.Forest.{parent}
+use Rattle.graph.specs.Laws.Places.Pairing.{InRange, place-at}
+use Rattle.graph.specs.Laws.Tree.Entries.{Entered, now, old, dec-entered, none-entered, Built, built-nil, built-root, built-via}
+use Rattle.graph.specs.Laws.Tree.Numbers.{count-most}
+use Rattle.graph.specs.Laws.Tree.Climbs.{parent-root, parent-child, slot, slot-root, slot-child}
+use Rattle.graph.specs.Laws.Bridges.Stores.{Stored}
+use Rattle.graph.specs.Laws.Loop.Machine.{Frames, bottom, frame, Going, going-begin, going-pass-start, going-enter-start, going-pass, going-enter, going-return, going-end, work, work-begin, work-pass-start, work-enter-start, work-pass, work-enter, work-return}
+use Rattle.graph.specs.Laws.Loop.Arrays.{Cells, Kept, Same, Enters, visit-entered, visit-new, room, kept-same, kept-enter}
+use Rattle.graph.specs.Laws.Loop.Stack.{Stack, stack-bottom, away-bottom, away-new, stack-old, stack-top, stack-none, Top, stack-some}
+
+-- the arrays hold the forest so far, the frames are its stack, and from here the search ends in H
+pub record Loop (g : Blocks) (H : Forest) (left : ℕ) (todo : List ℕ) (cur k : ℕ) (c : Cells) : Type 0 where
+  pub soFar : Forest
+  pub frames : Frames
+  pub built : Built (Place g) soFar
+  pub within : (v : ℕ) → Entered v soFar → v < length g
+  pub kept : Kept g soFar c
+  pub going : Going g soFar frames todo H
+  pub stack : Stack soFar (c .nexts) frames cur
+  pub count : k ≡ length soFar
+  pub enough : work g soFar frames todo ≤ left
+
+-- begin: the visit cells are 0, the others may hold anything
+pub loop-begin : {g : Blocks} {starts : List ℕ} → InRange g → ((v : ℕ) → List·Memᴰ v starts → v < length g) → {c : Cells}
+    → ((v : ℕ) → v < length g → c .visits v ≡ 0) → {left : ℕ} → 2 * length starts + 2 * length (flatten g) ≤ left
+    → Loop g (search g all starts) left starts 0 0 c
+loop-begin {g} {starts} r h z l = record {
+  soFar = [];
+  frames = bottom;
+  built = built-nil;
+  within = λ v i. absurd (none-entered i);
+  kept = record {
+    visit-cells = λ v b. z v b ∙ sym (visit-new [] v none-entered);
+    parent-cells = λ v i. absurd (none-entered i);
+    slot-cells = λ v i. absurd (none-entered i);
+    order-cells = λ k b. absurd (omega arith);
+  };
+  going = going-begin r h;
+  stack = stack-bottom;
+  count = refl;
+  enough = let w = work-begin g starts in omega arith;
+}
+
+module _ {g : Blocks} {H : Forest} {left : ℕ} {todo : List ℕ} {cur k : ℕ} {c : Cells} (i : Loop g H left todo cur k c) where
+  -- a visit cell tells who is entered
+  new-vertex : {x : ℕ} → x < length g → c .visits x ≡ 0 → Entered x (i .soFar) → ⊥
+  new-vertex {x} h z o = let a = i .kept .visit-cells x h in let b = visit-entered o in omega arith
+
+  old-vertex : {x : ℕ} → x < length g → (c .visits x ≡ 0 → ⊥) → Entered x (i .soFar)
+  old-vertex {x} h n = elim (dec-entered x (i .soFar)) [ yes o ↦ o | no o ↦ absurd (n (i .kept .visit-cells x h ∙ visit-new (i .soFar) x o)) ]
+
+  within-new : (a : Goal) → aim a < length g → (v : ℕ) → Entered v (a ∷ i .soFar) → v < length g
+  within-new a h v (now e) = rw e h
+  within-new a h v (old o) = i .within v o
+
+  -- there is room for a vertex that is not entered
+  pub loop-room : {x : ℕ} → x < length g → c .visits x ≡ 0 → k < length g
+  loop-room h z = let a = room (i .built) (i .within) h (new-vertex h z) in let b = i .count in omega arith
+
+  enter-cells : {c′ : Cells} {at : ℕ → ℕ} {p j : ℕ} (a : Goal) → aim a < length g → c .visits (aim a) ≡ 0 → parent (a ∷ i .soFar) (aim a) ≡ p
+      → slot (a ∷ i .soFar) (aim a) ≡ j → Enters (length g) c c′ at (aim a) k p j → Kept g (a ∷ i .soFar) c′
+  enter-cells {c′} {at} {p} {j} a h z ep ej s =
+      kept-enter (i .kept) a (within-new a h) (let b = loop-room h z in let d = i .count in omega arith) ep ej
+      (subst (λ x. Enters (length g) c c′ at (aim a) x p j) (i .count) s)
+
+-- ---- no vertex is at hand: the next start
+
+module _ {g : Blocks} {H : Forest} {left v : ℕ} {todo : List ℕ} {k : ℕ} {c : Cells} (i : Loop g H left (v ∷ todo) 0 k c) where
+  no-frame : i .frames ≡ bottom
+  no-frame = stack-none refl (i .stack)
+
+  at-start : Going g (i .soFar) bottom (v ∷ todo) H
+  at-start = subst (λ x. Going g (i .soFar) x (v ∷ todo) H) no-frame (i .going)
+
+  enough-start : work g (i .soFar) bottom (v ∷ todo) ≤ left
+  enough-start = subst (λ x. work g (i .soFar) x (v ∷ todo) ≤ left) no-frame (i .enough)
+
+  pub loop-busy-start : 0 < left
+  loop-busy-start = let a = enough-start in let b = work-pass-start g (i .soFar) v todo in omega arith
+
+  -- it is visited: pass over
+  pub loop-pass-start : v < length g → (c .visits v ≡ 0 → ⊥) → Loop g H (left - 1) todo 0 k c
+  loop-pass-start h n = record {
+    soFar = i .soFar;
+    frames = bottom;
+    built = i .built;
+    within = i .within;
+    kept = i .kept;
+    going = going-pass-start (old-vertex i h n) at-start;
+    stack = stack-bottom;
+    count = i .count;
+    enough = let a = enough-start in let b = work-pass-start g (i .soFar) v todo in omega arith;
+  }
+
+  -- it is not: enter it as a root
+  pub loop-enter-start : {c′ : Cells} → v < length g → c .visits v ≡ 0 → Enters (length g) c c′ (c .nexts) v k 0 0
+      → Loop g H (left - 1) todo (suc v) (suc k) c′
+  loop-enter-start h z s =
+      let n = new-vertex i h z in
+      let b = built-root n (i .built) in
+      let w = within-new i (root v) h in
+      let e = parent-root b (List·Memᴰ·head refl) in
+      record {
+        soFar = root v ∷ i .soFar;
+        frames = frame v 0 bottom;
+        built = b;
+        within = w;
+        kept = enter-cells i (root v) h z e (slot-root b (List·Memᴰ·head refl)) s;
+        going = going-enter-start n at-start;
+        stack = stack-top w (s .nexts-set) (now refl) away-bottom e stack-bottom;
+        count = ap suc (i .count);
+        enough = let a = enough-start in let d = work-enter-start g (i .soFar) v todo h n in omega arith;
+      }
+
+-- no start is left: the arrays are the forest's
+pub loop-end : {g : Blocks} {H : Forest} {left k : ℕ} {c : Cells} → Loop g H left [] 0 k c → Kept g H c
+loop-end {g} {H} {c = c} i =
+    let e = stack-none refl (i .stack) in
+    subst (λ x. Kept g x c) (going-end (subst (λ x. Going g (i .soFar) x [] H) e (i .going))) (i .kept)
+
+-- ---- vertex u is at hand
+
+module _ {g : Blocks} {H : Forest} {left : ℕ} {todo : List ℕ} {u k : ℕ} {c : Cells} (i : Loop g H left todo (suc u) k c) where
+  top : Top (i .soFar) (c .nexts) (i .frames) u
+  top = stack-some refl (i .stack)
+
+  at-hand : Going g (i .soFar) (frame u (c .nexts u) (top .under)) todo H
+  at-hand = subst (λ x. Going g (i .soFar) x todo H) (top .is-frame) (i .going)
+
+  enough-hand : work g (i .soFar) (frame u (c .nexts u) (top .under)) todo ≤ left
+  enough-hand = subst (λ x. work g (i .soFar) x todo ≤ left) (top .is-frame) (i .enough)
+
+  pub loop-vertex : u < length g
+  loop-vertex = i .within u (top .has)
+
+  pub loop-busy : 0 < left
+  loop-busy = let a = enough-hand in let b = work-return g (i .soFar) u (c .nexts u) (top .under) todo in omega arith
+
+  -- the block is at its end: return
+  pub loop-return : length (block g u) ≤ c .nexts u → Loop g H (left - 1) todo (c .parents u) k c
+  loop-return h = record {
+    soFar = i .soFar;
+    frames = top .under;
+    built = i .built;
+    within = i .within;
+    kept = i .kept;
+    going = going-return h at-hand;
+    stack = subst (λ z. Stack (i .soFar) (c .nexts) (top .under) z) (sym (i .kept .parent-cells u (top .has))) (top .rest);
+    count = i .count;
+    enough = let a = enough-hand in let b = work-return g (i .soFar) u (c .nexts u) (top .under) todo in omega arith;
+  }
+
+  module _ (h : c .nexts u < length (block g u)) (l : target g u (c .nexts u) < length g) where
+    -- the neighbour is visited: pass over
+    pub loop-pass : {c′ : Cells} → (c .visits (target g u (c .nexts u)) ≡ 0 → ⊥) → Same (length g) c c′
+        → Stored (length g) (c .nexts) (c′ .nexts) u (suc (c .nexts u)) → Loop g H (left - 1) todo (suc u) k c′
+    loop-pass n same s = record {
+      soFar = i .soFar;
+      frames = frame u (suc (c .nexts u)) (top .under);
+      built = i .built;
+      within = i .within;
+      kept = kept-same (i .kept) (i .within) (count-most (length g) (i .built) (i .within)) same;
+      going = going-pass h (old-vertex i l n) at-hand;
+      stack = stack-top (i .within) s (top .has) (top .away) refl (top .rest);
+      count = i .count;
+      enough = let a = enough-hand in let b = work-pass g (i .soFar) u (c .nexts u) (top .under) todo h in omega arith;
+    }
+
+    -- it is not: enter it as a child
+    pub loop-enter : {c′ : Cells} {at : ℕ → ℕ} → c .visits (target g u (c .nexts u)) ≡ 0 → Stored (length g) (c .nexts) at u (suc (c .nexts u))
+        → Enters (length g) c c′ at (target g u (c .nexts u)) k (suc u) (c .nexts u)
+        → Loop g H (left - 1) todo (suc (target g u (c .nexts u))) (suc k) c′
+    loop-enter z s t =
+        let j = c .nexts u in
+        let x = target g u (c .nexts u) in
+        let a = via u (c .nexts u) (target g u (c .nexts u)) in
+        let n = new-vertex i l z in
+        let b : Built (Place g) (a ∷ i .soFar) = built-via n (top .has) (place-at h) (i .built) in
+        let w = within-new i a l in
+        let e = parent-child b (List·Memᴰ·head refl) in
+        let below = stack-top (i .within) s (top .has) (top .away) refl (top .rest) in
+        record {
+          soFar = a ∷ i .soFar;
+          frames = frame x 0 (frame u (suc j) (top .under));
+          built = b;
+          within = w;
+          kept = enter-cells i a l z e (slot-child b (List·Memᴰ·head refl)) t;
+          going = going-enter h n at-hand;
+          stack = stack-top w (t .nexts-set) (now refl) (away-new below n) e (stack-old a n below);
+          count = ap suc (i .count);
+          enough = let y = enough-hand in let d = work-enter g (i .soFar) u (c .nexts u) (top .under) todo h l n in omega arith;
+        }
