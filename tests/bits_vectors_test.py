@@ -47,8 +47,8 @@ def ask(data, start, places):
 
 def fields(data, start):
     s = bits(data)[start:]
-    if len(s) >= 15:
-        yield f"fields {start}: {s[0]} {number(s[:12])} {number(s[:13])} {number(s[:15])}"
+    found = s[:1] + [number(s[:width]) for width in (12, 13, 15) if len(s) >= width]
+    yield f"fields {start}: " + " ".join(map(str, found))
 
 
 def write(start, v, on):
@@ -67,7 +67,7 @@ def lines():
     yield from fields(SAMPLE, 0)
     yield from fields(SAMPLE, 13)
     yield from ask(SAMPLE, 28, 16)
-    for start in (44, 56, 153, 154):
+    for start in (44, 56, 153, 155, 156, 167):
         yield from fields(SAMPLE, start)
     for start, places in ((0, 168), (168, 0), (1, 168), (169, 0), (1, LARGEST), (LARGEST, LARGEST)):
         yield from ask(SAMPLE, start, places)
@@ -78,8 +78,9 @@ def lines():
         yield from ask(MIXED, 60 + shift, 5)
         yield from fields(MIXED, 192 + shift)
         yield from fields(MIXED, 361 + shift)
-        yield from write(20 + shift, 0xABC, 1)
-        yield from write(43 + shift, 0x543, 0)
+        yield from write(shift, 0xABC, 0)
+        yield from write(20 + shift, 0x543, 1)
+        yield from write(44 + shift, 0xABC, 0)
 
 
 def compare():

@@ -5,7 +5,7 @@ use Prim.Native.Nat.{ℕ, zero, suc, _+_, _-_, _*_, _/_, _%_, _<_, _≤_}
 use native.Mathlib.Nat.{add-zero, zero-add, add-suc, suc-add, le-of-suc-le-suc, not-suc-le-zero}
 use native.Mathlib.Omega.{arith}
 use lib.ListN.{getD}
-use Rattle.bits.specs.Bits.{toBits, places, select}
+use Rattle.bits.specs.Bits.{toBits, onesAt, select}
 
 -- f at each number from i on, n of them
 abbrev tabulate : (ℕ → ℕ) → ℕ → ℕ → List ℕ
@@ -20,7 +20,7 @@ tabulate-at f i (suc n) (suc k) h =
 
 -- the rule: entry n is the place of the (n % 8 + 1)-th one of byte n / 8
 unfoldable pub entry : ℕ → ℕ
-unfolding toBits places select
+unfolding toBits onesAt select
 entry n = select (toBits 8 (n / 8)) (n % 8 + 1)
 
 -- the table by its rule; that the code's table is this one is the test

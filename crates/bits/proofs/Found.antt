@@ -9,7 +9,7 @@ use lib.Count.{ones}
 use lib.ListN.{length, take, drop, take-append-drop}
 use lib.Seq.{length-take-le, take-all, take-at}
 use Rattle.bits.specs.Bits.{toBits, bits, count, select, value}
-use Rattle.bits.specs.Scan.{IsByte, Passed, within}
+use Rattle.bits.specs.Steps.{IsByte, Passed, within}
 use Rattle.bits.specs.Laws.Digits.{length-toBits, value-toBits, value-lt, toBits-value, toBits-append}
 use Rattle.bits.specs.Laws.Bytes.{length-bits, byte-on}
 use Rattle.bits.specs.Laws.Rank.{count-append, count-take-add, ones-value}
@@ -57,8 +57,8 @@ module _ {bytes : List ℕ} {at b : ℕ} (byte : IsByte bytes at b) where
       (e ∙ ones-byte ∙ sym (rw (from-byte, take-at (toBits 8 b) (bits (drop (suc at) bytes)) 8 (length-toBits 8 b)))) l
 
   module _ {k left : ℕ} (p : Passed bytes k at left) (l : left ≤ ones b) where
-    pub place-bounds : (1 ≤ select (toBits 8 b) left) × (select (toBits 8 b) left ≤ 8)
-    place-bounds = let s = select-bounds (toBits 8 b) left (p .some) (rw ones-byte at l) in omega (arith, length-toBits 8 b)
+    pub found-bounds : (1 ≤ select (toBits 8 b) left) × (select (toBits 8 b) left ≤ 8)
+    found-bounds = let s = select-bounds (toBits 8 b) left (p .some) (rw ones-byte at l) in omega (arith, length-toBits 8 b)
 
     -- the k-th one is in it
     found : select (bits bytes) k ≡ 8 * at + select (toBits 8 b) left

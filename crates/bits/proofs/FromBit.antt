@@ -8,11 +8,11 @@ use lib.Count.{ones}
 use lib.ListN.{length, take, drop, length-take, length-drop, take-append-drop}
 use lib.Seq.{length-take-le, take-add, take-take}
 use Rattle.bits.specs.Bits.{toBits, bits, count, rank, select, field}
-use Rattle.bits.specs.Scan.{IsRest, within}
+use Rattle.bits.specs.Steps.{IsRest, within}
 use Rattle.bits.specs.Laws.Bytes.{length-bits, after-byte}
 use Rattle.bits.specs.Laws.Fields.{field-front}
 use Rattle.bits.specs.Laws.Rank.{count-take-add, rank-le, ones-field}
-use Rattle.bits.specs.Laws.Select.{select-none, select-bounds, select-le, select-left, select-join, select-join-none, select-take}
+use Rattle.bits.specs.Laws.Select.{select-none, select-bounds, select-le, select-left, select-right-found, select-right-none, select-take}
 use Rattle.bits.proofs.Found.{found-inside}
 
 -- the bits from bit `start` on; how many of them are left of its byte; the bits of the bytes after it
@@ -30,12 +30,12 @@ module _ {bytes : List ℕ} {start b : ℕ} (rest : IsRest bytes start b) where
   own : List Bool
   own = take (room start) (from bytes start)
 
-  held : start + room start ≤ length (bits bytes)
-  held = let i = rest .inside in rw (length-bits bytes) (omega arith)
+  inside-bits : start + room start ≤ length (bits bytes)
+  inside-bits = let i = rest .inside in rw (length-bits bytes) (omega arith)
 
   length-own : length own ≡ room start
   unfolding own
-  length-own = length-take-le (room start) (from bytes start) (let h = held in simp length-drop (omega arith))
+  length-own = length-take-le (room start) (from bytes start) (let h = inside-bits in simp length-drop (omega arith))
 
   after-own : drop (room start) (from bytes start) ≡ after bytes start
   after-own = after-byte bytes start (room start) (omega arith)
@@ -48,7 +48,7 @@ module _ {bytes : List ℕ} {start b : ℕ} (rest : IsRest bytes start b) where
 
   pub ones-within : (n : ℕ) → n ≤ room start → ones (b / 2 ^ (room start - n)) ≡ count (take n (from bytes start))
   ones-within n l =
-      let h = held in
+      let h = inside-bits in
       let s : n + (room start - n) ≡ room start = omega arith in
       let f : field n (bits bytes) start ≡ field (n + (room start - n)) (bits bytes) start / 2 ^ (room start - n) =
       field-front (bits bytes) start n (room start - n) (omega arith) in
@@ -72,8 +72,8 @@ module _ {bytes : List ℕ} {start b : ℕ} (rest : IsRest bytes start b) where
         let l = length-own in
         table ∙ ap (λ (x : ℕ). select (toBits 8 x) k) (rest .same) ∙ found-inside own (start % 8) k (omega arith) some (rw ones-own at few)
 
-    pub place-bounds : (start % 8 < t) × (t ≤ 8)
-    place-bounds =
+    pub rest-bounds : (start % 8 < t) × (t ≤ 8)
+    rest-bounds =
         let p = place in
         let l = length-own in
         let s = select-bounds own k some (rw ones-own at few) in
@@ -119,10 +119,10 @@ module _ {bytes : List ℕ} {start b : ℕ} (rest : IsRest bytes start b) where
       pub place-missing : p ≡ 0 → select (take places (from bytes start)) k ≡ 0
       place-missing z =
           rw (split far)
-          (select-join-none own (take (places - room start) (after bytes start)) k (rw count-own at more) (rw count-own at (sym same ∙ z)))
+          (select-right-none own (take (places - room start) (after bytes start)) k (rw count-own at more) (rw count-own at (sym same ∙ z)))
 
       pub place-beyond : 1 ≤ p → room start + p ≡ select (take places (from bytes start)) k
       place-beyond z =
           let q : p ≡ select (take (places - room start) (after bytes start)) (k - count own) = rw count-own at same in
           ap₂ _+_ (sym length-own) q
-          ∙ sym (rw (split far) (select-join own (take (places - room start) (after bytes start)) k (rw count-own at more) (rw q at z)))
+          ∙ sym (rw (split far) (select-right-found own (take (places - room start) (after bytes start)) k (rw count-own at more) (rw q at z)))

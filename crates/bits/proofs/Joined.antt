@@ -13,7 +13,7 @@ use lib.Seq.{drop-cons, take-at}
 use Rattle.bits.specs.Bits.{toBits, bits, value, field}
 use Rattle.bits.specs.Laws.Digits.{length-toBits, value-append, value-toBits}
 use Rattle.bits.specs.Laws.Bytes.{AreBytes, take-bytes, drop-bytes, length-bits, bits-append, part-bits, byte-on}
-use Rattle.bits.specs.Scan.{IsByte}
+use Rattle.bits.specs.Steps.{IsByte}
 use Rattle.bits.specs.Laws.Fields.{field-inside, field-front, field-append}
 
 -- the bytes, one below the other, below the number a

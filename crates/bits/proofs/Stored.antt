@@ -14,17 +14,13 @@ use Rattle.bits.specs.Bits.{toBits, bits, field, put}
 use Rattle.bits.specs.Laws.Digits.{toBits-agree, toBits-append, toBits-value}
 use Rattle.bits.specs.Laws.Bytes.{AreBytes, length-bits, bits-append, take-bits, drop-bits}
 use Rattle.bits.specs.Laws.Puts.{put-number, put-part}
-use Rattle.bits.specs.Scan.{IsByte}
+use Rattle.bits.specs.Steps.{IsByte, replace}
 use Rattle.bits.proofs.Joined.{joined, field-joined, byte-field, two-bytes, three-bytes}
-
--- the number x with v in the w bits above its k lowest
-abbrev pub replace : ℕ → ℕ → ℕ → ℕ → ℕ
-replace x w k v = (x / 2 ^ (w + k) * 2 ^ w + v) * 2 ^ k + x % 2 ^ k
 
 put-above : (hi w k v : ℕ) → hi * 2 ^ (w + k) + v * 2 ^ k ≡ (hi * 2 ^ w + v) * 2 ^ k
 put-above hi w k v = rw (pow-add 2 w k, ← mul-assoc hi (2 ^ w) (2 ^ k)) (sym (add-mul (hi * 2 ^ w) v (2 ^ k)))
 
--- by shifts and masks
+-- a number with a field replaced, by shifts and masks
 pub replace-masked : (x w k v : ℕ) → w + k ≤ 24 → x < 2 ^ 24 → v < 2 ^ w
     → bitOr (bitOr (x / 2 ^ (w + k) * 2 ^ (w + k) % 2 ^ 64) (v * 2 ^ k % 2 ^ 64)) (bitAnd x (2 ^ k - 1)) ≡ replace x w k v
 replace-masked x w k v hw hx hv =

@@ -6,7 +6,7 @@ use Prim.Native.Nat.{ℕ, zero, suc, _+_, _*_, _/_, _%_, _^_}
 use lib.Dec.{eqb, leb}
 use lib.ListN.{length, take, drop, getD, replicate}
 
--- the w lowest bits of a number
+-- the w lowest bits of a number, most significant first
 unfoldable pub toBits : ℕ → ℕ → List Bool
 toBits zero v = []
 toBits (suc w) v = eqb (v / 2 ^ w % 2) 1 ∷ toBits w v
@@ -32,14 +32,15 @@ unfoldable pub rank : List Bool → ℕ → ℕ
 rank s p = count (take p s)
 
 -- the places of the ones, in order, where the first bit's place is p
-unfoldable pub places : ℕ → List Bool → List ℕ
-places p [] = []
-places p (true ∷ s) = p ∷ places (suc p) s
-places p (false ∷ s) = places (suc p) s
+unfoldable pub onesAt : ℕ → List Bool → List ℕ
+onesAt p [] = []
+onesAt p (true ∷ s) = p ∷ onesAt (suc p) s
+onesAt p (false ∷ s) = onesAt (suc p) s
 
 -- select(k): the place of the k-th one, from 1; 0 for k = 0 and where there are fewer ones
 unfoldable pub select : List Bool → ℕ → ℕ
-select s k = getD (0 ∷ places 1 s) k 0
+select s zero = 0
+select s (suc k) = getD (onesAt 1 s) k 0
 
 -- a bit as a number
 abbrev pub bit : Bool → ℕ
@@ -51,11 +52,11 @@ unfoldable pub value : List Bool → ℕ
 value [] = 0
 value (b ∷ s) = bit b * 2 ^ length s + value s
 
--- the value of the field of w bits from bit `start` on
+-- the value of the field of w bits from bit `start` on; past the end of the list there are no bits, and the field is shorter
 unfoldable pub field : ℕ → List Bool → ℕ → ℕ
 field w s start = value (take w (drop start s))
 
--- the bits with the number v put into the field of w bits from bit `start` on, and nothing else changed
+-- the bits with the w lowest bits of v in the field of w bits from bit `start` on; where the list holds that field, nothing else changes
 unfoldable pub put : ℕ → ℕ → List Bool → ℕ → List Bool
 put w v s start = take start s ++ (toBits w v ++ drop (start + w) s)
 

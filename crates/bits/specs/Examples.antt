@@ -3,7 +3,7 @@ use mathlib.Core.Path.{_≡_, refl}
 use mathlib.Core.Bool.{true, false}
 use mathlib.Core.List.{List, [], _∷_, map}
 use Prim.Native.Nat.{ℕ}
-use Rattle.bits.specs.Bits.{toBits, bits, string, count, rank, places, select, value, field, put, packed, pack}
+use Rattle.bits.specs.Bits.{toBits, bits, string, count, rank, onesAt, select, value, field, put, packed, pack}
 
 abbrev sample : List ℕ
 sample =
@@ -16,7 +16,7 @@ header = refl
 
 -- D: its ones stand at 1, 4, 7, 11, 13 and 15
 selects-of-D : map (select (string sample 28 16)) (0 ∷ 1 ∷ 2 ∷ 3 ∷ 4 ∷ 5 ∷ 6 ∷ 7 ∷ []) ≡ 0 ∷ 1 ∷ 4 ∷ 7 ∷ 11 ∷ 13 ∷ 15 ∷ 0 ∷ []
-unfolding toBits bits string places select
+unfolding toBits bits string onesAt select
 selects-of-D = refl
 
 ranks-of-D : map (rank (string sample 28 16)) (0 ∷ 1 ∷ 3 ∷ 4 ∷ 10 ∷ 11 ∷ 16 ∷ 17 ∷ []) ≡ 0 ∷ 1 ∷ 1 ∷ 2 ∷ 3 ∷ 4 ∷ 6 ∷ 6 ∷ []
@@ -25,7 +25,7 @@ ranks-of-D = refl
 
 -- 168 bits are held; one more is not, and counts as empty
 not-held : rank (string sample 1 168) 168 ∷ rank (string sample 0 168) 168 ∷ select (string sample 1 168) 1 ∷ [] ≡ 0 ∷ 20 ∷ 0 ∷ []
-unfolding toBits bits string count rank places select
+unfolding toBits bits string count rank onesAt select
 not-held = refl
 
 -- a field put, and bits packed with zero bits after them

@@ -1,5 +1,5 @@
 -- Bit strings: the definitions that the contracts cite, the laws about them, and worked examples.
 pub mod Bits
-pub mod Scan
+pub mod Steps
 pub mod Laws
 mod Examples

@@ -1,21 +1,23 @@
-// Bits and fields, read and written by shifts and masks at any starting bit. Bits count from 0 for the first bit of the first byte.
+// Bits and fields, read and written by shifts and masks at any starting bit. Here bits count from 0 for the first bit of the first byte.
 ghost use mathlib.Core.Path.{_≡_};
 ghost use mathlib.Core.Bool.{false};
-ghost use Prim.Native.Nat.{_+_, _*_, _/_, _%_, _^_, _<_, _≤_};
+ghost use Prim.Native.Nat.{_+_, _*_, _%_, _^_, _<_, _≤_};
 ghost use lib.ListN.{length, getD, set};
 ghost use Rattle.bits.specs.Bits.{bits, bit as bitOf, field, put};
+ghost use Rattle.bits.specs.Steps.{replace};
 use super::words::byte_at;
 use super::words::join;
 
-// The bit at `place`.
-pub fn read_bit(bytes: &[u8], place: usize) -> bool
-    requires { ⌜ place < 8 * length (now bytes) ⌝ }
-    ensures { λ r. ⌜ r ≡ getD (bits (now (bytes .entry))) place false ⌝ }
+// The bit `index`.
+pub fn read_bit(bytes: &[u8], index: usize) -> bool
+    requires { ⌜ index < 8 * length (now bytes) ⌝ }
+    ensures { λ r. ⌜ r ≡ getD (bits (now (bytes .entry))) index false ⌝ }
 {
-    (byte_at(bytes, place / 8) >> (7 - place % 8)) & 1 == 1
+    (byte_at(bytes, index / 8) >> (7 - index % 8)) & 1 == 1
 }
 
-// The field of `width` bits from bit `start` on. It lies in two bytes or in three: the last of the three read is where it ends.
+// The field of `width` bits from bit `start` on. Three bytes are joined: the first, the next, and the one in which the field ends. Where that is
+// the next again, its second copy is shifted out. No byte past the field is read.
 fn read_field(bytes: &[u8], start: usize, width: usize) -> usize
     requires { ⌜ (9 ≤ width) × (width ≤ 16) × (start + width ≤ 8 * length (now bytes)) ⌝ }
     ensures { λ r. ⌜ (r ≡ field width (bits (now (bytes .entry))) start) × (r < 2 ^ width) ⌝ }
@@ -65,22 +67,22 @@ fn bit(on: bool) -> u64
 }
 
 // x with v in the `width` bits above its `low` lowest.
-fn replaced(x: u64, low: usize, width: usize, v: u64) -> u64
-    requires { ⌜ (low + width ≤ 24) × (x < 2 ^ 24) × (v < 2 ^ width) ⌝ }
-    ensures { λ r. ⌜ r ≡ (x / 2 ^ (width + low) * 2 ^ width + v) * 2 ^ low + x % 2 ^ low ⌝ }
+fn replaced(x: u64, width: usize, low: usize, v: u64) -> u64
+    requires { ⌜ (width + low ≤ 24) × (x < 2 ^ 24) × (v < 2 ^ width) ⌝ }
+    ensures { λ r. ⌜ r ≡ replace x width low v ⌝ }
 {
     let top = width + low;
     ((x >> top) << top) | (v << low) | (x & ((1 << low) - 1))
 }
 
-// The bit at `place` becomes `on`, and nothing else changes.
-pub fn write_bit(bytes: &mut [u8], place: usize, on: bool)
-    requires { ⌜ place < 8 * length (now bytes) ⌝ }
-    ensures { λ _. ⌜ (bits (now (bytes .exit)) ≡ set (bits (now (bytes .entry))) place on) × (length (now (bytes .exit)) ≡ length (now (bytes .entry))) ⌝ }
+// The bit `index` becomes `on`, and nothing else changes.
+pub fn write_bit(bytes: &mut [u8], index: usize, on: bool)
+    requires { ⌜ index < 8 * length (now bytes) ⌝ }
+    ensures { λ _. ⌜ (bits (now (bytes .exit)) ≡ set (bits (now (bytes .entry))) index on) × (length (now (bytes .exit)) ≡ length (now (bytes .entry))) ⌝ }
 {
-    let at = place / 8;
+    let at = index / 8;
     let x = byte_at(bytes, at);
-    bytes[at] = low_byte(replaced(x, 7 - place % 8, 1, bit(on)));
+    bytes[at] = low_byte(replaced(x, 1, 7 - index % 8, bit(on)));
 }
 
 // The field of 12 bits from bit `start` on becomes v, and nothing else changes.
@@ -93,12 +95,12 @@ pub fn write12(bytes: &mut [u8], start: usize, v: usize)
     let next = first + 1;
     let x = join(join(0, bytes[first]), bytes[next]);
     if off <= 4 {
-        let y = replaced(x, 4 - off, 12, v as u64);
+        let y = replaced(x, 12, 4 - off, v as u64);
         bytes[first] = low_byte(y >> 8);
         bytes[next] = low_byte(y);
     } else {
         let last = first + 2;
-        let y = replaced(join(x, bytes[last]), 12 - off, 12, v as u64);
+        let y = replaced(join(x, bytes[last]), 12, 12 - off, v as u64);
         bytes[first] = low_byte(y >> 16);
         bytes[next] = low_byte(y >> 8);
         bytes[last] = low_byte(y);

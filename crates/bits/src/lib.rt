@@ -8,7 +8,7 @@ ghost use Rattle.bits.specs.Bits.{string, rank as rankOf, select as sele
 mod words; // words.rt: bytes joined to numbers, and the count of ones of a number
 mod counts; // counts.rt: the ones of a string that its bytes hold
 mod table; // table.rt: the place of the k-th one of a byte
-mod places; // places.rt: the place of the k-th one of a string that its bytes hold
+mod search; // search.rt: the place of the k-th one of a string that its bytes hold
 pub mod fields; // fields.rt: bits and fields, read and written
 
 // Whether `len` bytes hold `places` bits from bit `start` on.
@@ -20,10 +20,11 @@ fn holds(len: usize, start: usize, places: usize) -> bool
         return false;
     }
     let need = places / 8 + (places % 8 + start % 8 + 7) / 8;
-    if need <= len - first { true } else { false }
+    need <= len - first
 }
 
-// The number of ones in places 1 to p of the string of `places` bits from bit `start` on.
+// The number of ones in places 1 to p of the string of `places` bits from bit `start` on. A p past the end counts all, and a string that the
+// bytes don't hold in full counts as empty.
 pub fn rank(bytes: &[u8], start: usize, places: usize, p: usize) -> usize
     ensures { λ r. ⌜ r ≡ rankOf (string (now (bytes .entry)) start places) p ⌝ }
 {
@@ -38,7 +39,8 @@ pub fn rank(bytes: &[u8], start: usize, places: usize, p: usize) -> usize
     }
 }
 
-// The place of the k-th one of the string of `places` bits from bit `start` on; 0 for k = 0 and where there are fewer ones.
+// The place of the k-th one of the string of `places` bits from bit `start` on; 0 for k = 0 and where there are fewer ones. A string that the
+// bytes don't hold in full counts as empty.
 pub fn select(bytes: &[u8], start: usize, places: usize, k: usize) -> usize
     ensures { λ r. ⌜ r ≡ selectOf (string (now (bytes .entry)) start places) k ⌝ }
 {
@@ -49,7 +51,7 @@ pub fn select(bytes: &[u8], start: usize, places: usize, k: usize) -> usize
         return 0;
     }
     if holds(bytes.len(), start, places) {
-        places::place_from(bytes, start, places, k)
+        search::place_from(bytes, start, places, k)
     } else {
         0
     }

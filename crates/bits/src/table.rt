@@ -2056,7 +2056,7 @@ const PLACES: [u8; 2048] = [
     8,
 ];
 
-// The place of the k-th one of the byte b.
+// The place of the k-th one of the byte b, or 0 where it has fewer.
 pub fn in_byte(b: u64, k: usize) -> usize
     requires { ⌜ (b < 256) × (1 ≤ k) × (k ≤ 8) ⌝ }
     ensures { λ r. ⌜ r ≡ select (toBits 8 b) k ⌝ }

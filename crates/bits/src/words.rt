@@ -5,7 +5,7 @@ ghost use Prim.Native.Nat.{_+_, _-_, _*_, _%_, _^_, _<_, _≤_};
 ghost use lib.Count.{ones};
 ghost use lib.ListN.{length, take, drop, getD};
 ghost use Rattle.bits.specs.Bits.{bits, count, value, field};
-ghost use Rattle.bits.specs.Scan.{IsByte, IsRest};
+ghost use Rattle.bits.specs.Steps.{IsByte, IsRest};
 
 pub fn wide(b: u8) -> u64
     ensures { λ r. ⌜ (r ≡ b) × (r < 256) ⌝ }
@@ -85,6 +85,14 @@ pub fn tail(bytes: &[u8], at: usize) -> &[u8]
     ensures { λ r. ⌜ now r ≡ drop at (now (bytes .entry)) ⌝ }
 {
     &bytes[at..]
+}
+
+// The n bytes from byte `at` on.
+pub fn part(bytes: &[u8], at: usize, n: usize) -> &[u8]
+    requires { ⌜ at + n ≤ length (now bytes) ⌝ }
+    ensures { λ r. ⌜ now r ≡ take n (drop at (now (bytes .entry))) ⌝ }
+{
+    &bytes[at..at + n]
 }
 
 // The bits from bit `start` on to the end of its byte.

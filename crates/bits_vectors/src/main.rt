@@ -144,24 +144,32 @@ fn string(bytes: &[u8], start: usize, places: usize) {
     text(b"\n");
 }
 
-// The bit at `start`, and the fields of 12, 13 and 15 bits from there on, where the bytes hold them.
+// The bit `start`, and the fields of 12, 13 and 15 bits from there on, as many of them as the bytes hold.
 fn fields(bytes: &[u8], start: usize)
     requires { ⌜ (length (now bytes) ≤ 1000) × (start < 1000) ⌝ }
 {
-    if start + 15 <= 8 * bytes.len() {
-        title(b"fields ", start);
+    let held = 8 * bytes.len();
+    title(b"fields ", start);
+    if start < held {
         if bits::fields::read_bit(bytes, start) {
-            text(b" 1 ");
+            text(b" 1");
         } else {
-            text(b" 0 ");
+            text(b" 0");
         }
+    }
+    if start + 12 <= held {
+        text(b" ");
         number(bits::fields::read12(bytes, start));
+    }
+    if start + 13 <= held {
         text(b" ");
         number(bits::fields::read13(bytes, start));
+    }
+    if start + 15 <= held {
         text(b" ");
         number(bits::fields::read15(bytes, start));
-        text(b"\n");
     }
+    text(b"\n");
 }
 
 fn hex(b: u8) {
@@ -201,7 +209,9 @@ fn sample() {
     fields(bytes, 44);
     fields(bytes, 56);
     fields(bytes, 153);
-    fields(bytes, 154);
+    fields(bytes, 155);
+    fields(bytes, 156);
+    fields(bytes, 167);
     string(bytes, 0, 168);
     string(bytes, 168, 0);
     string(bytes, 1, 168);
@@ -221,8 +231,9 @@ fn at(shift: usize)
     string(bytes, 60 + shift, 5);
     fields(bytes, 192 + shift);
     fields(bytes, 361 + shift);
-    write(20 + shift, 0xABC, true);
-    write(43 + shift, 0x543, false);
+    write(shift, 0xABC, false);
+    write(20 + shift, 0x543, true);
+    write(44 + shift, 0xABC, false);
 }
 
 fn main() {

@@ -1,11 +1,11 @@
 -- The bits of bytes: how many they are, and where whole bytes stand among them.
 use mathlib.Core.Path.{_≡_, refl, sym, ap, _∙_}
 use mathlib.Core.List.{List, [], _∷_, _++_, append-assoc}
-use Prim.Native.Nat.{ℕ, zero, suc, _+_, _*_, _/_, _<_}
+use Prim.Native.Nat.{ℕ, zero, suc, _+_, _*_, _/_, _≤_, _<_}
 use native.Mathlib.Omega.{arith}
 use lib.Dec.{lit<}
 use lib.ListN.{length, take, drop, getD, length-append}
-use lib.Seq.{drop-cons, drop-drop, drop-at, drop-nil, take-at, take-add, take-nil, getD-drop}
+use lib.Seq.{drop-cons, drop-drop, drop-at, drop-nil, take-at, take-add, take-nil, take-take, getD-drop}
 use Rattle.bits.specs.Bits.{toBits, bits}
 use Rattle.bits.specs.Laws.Digits.{length-toBits}
 
@@ -54,6 +54,10 @@ take-bits (suc n) (b ∷ bytes) =
       drop-at (toBits 8 b) (bits bytes) 8 (length-toBits 8 b),
       take-bits n bytes,
     )
+
+-- the first m bits are those of the first n bytes, which hold them
+pub first-bits : (m n : ℕ) (bytes : List ℕ) → m ≤ 8 * n → take m (bits (take n bytes)) ≡ take m (bits bytes)
+first-bits m n bytes h = ap (take m) (sym (take-bits n bytes)) ∙ take-take m (8 * n) (bits bytes) h
 
 -- the bits of n bytes from byte f on
 pub part-bits : (n f : ℕ) (bytes : List ℕ) → bits (take n (drop f bytes)) ≡ take (8 * n) (drop (8 * f) (bits bytes))

@@ -1,16 +1,20 @@
 -- Packing: packed bits read back, and so do unpacked bytes.
-use mathlib.Core.Path.{_≡_, refl, ap, ap₂, _∙_}
+use mathlib.Core.Path.{_≡_, refl, sym, ap, ap₂, _∙_}
 use mathlib.Core.Bool.{Bool, false}
 use mathlib.Core.List.{List, [], _∷_, _++_, append-assoc}
 use Prim.Native.Nat.{ℕ, zero, suc, _+_, _-_, _*_, _/_, _≤_}
 use native.Mathlib.Decide.{decLe}
-use native.Mathlib.Nat.{mod-eq-of-lt}
+use native.Mathlib.Nat.{lt-of-lt-of-le, min-le-left, mod-eq-of-lt}
+use borrow.Author.Tests.{le-leb}
+use lib.Dec.{lit<}
+use lib.Pow.{pow-mono}
 use native.Mathlib.Omega.{arith}
-use lib.ListN.{length, take, drop, replicate, length-append, length-drop, take-append-drop, drop-of-length-le, replicate-append-replicate}
+use lib.ListN.{length, take, drop, replicate, length-append, length-drop, take-append-drop, drop-of-length-le, replicate-append-replicate, length-take}
 use lib.Seq.{take-at, drop-at, take-append-le, take-append-add, length-take-le}
-use Rattle.bits.specs.Bits.{toBits, bits, value, packed, pack}
-use Rattle.bits.specs.Laws.Digits.{length-toBits, value-toBits, toBits-value}
+use Rattle.bits.specs.Bits.{toBits, bits, string, value, packed, pack}
+use Rattle.bits.specs.Laws.Digits.{value-lt, length-toBits, value-toBits, toBits-value}
 use Rattle.bits.specs.Laws.Bytes.{AreBytes, length-bits}
+use Rattle.bits.specs.Laws.Rank.{held}
 
 length-packed : (n : ℕ) (s : List Bool) → length (packed n s) ≡ n
 unfolding packed
@@ -67,6 +71,24 @@ pub bits-pack : (s : List Bool) → bits (pack s) ≡ s ++ replicate (8 * ((leng
 unfolding pack
 bits-pack s = bits-packed ((length s + 7) / 8) s (omega arith)
 
+-- as a string, they are the bits that were packed
+pub string-pack : (s : List Bool) → string (pack s) 0 (length s) ≡ s
+string-pack s =
+    rw (held (pack s) 0 (length s) (le-leb (0 + length s) (8 * length (pack s)) (omega (arith, length-pack s))), bits-pack s)
+    (take-at s (replicate (8 * ((length s + 7) / 8) - length s) false) (length s) refl)
+
+packed-bytes : (n : ℕ) (s : List Bool) → AreBytes (packed n s)
+unfolding packed
+packed-bytes zero s i = lit< tt
+packed-bytes (suc n) s zero =
+    lt-of-lt-of-le (value-lt (take 8 (s ++ replicate 8 false))) (pow-mono {j = 8} (simp length-take (min-le-left 8 (length (s ++ replicate 8 false)))))
+packed-bytes (suc n) s (suc i) = packed-bytes n (drop 8 s) i
+
+-- what packing gives are bytes
+pub pack-bytes : (s : List Bool) → AreBytes (pack s)
+unfolding pack
+pack-bytes s = packed-bytes ((length s + 7) / 8) s
+
 packed-bits : (bytes : List ℕ) → AreBytes bytes → packed (length bytes) (bits bytes) ≡ bytes
 unfolding packed bits
 packed-bits [] h = refl
@@ -77,9 +99,13 @@ packed-bits (b ∷ bytes) h =
     ∙ value-toBits 8 b ∙ mod-eq-of-lt (h 0))
     (ap (packed (length bytes)) (drop-at (toBits 8 b) (bits bytes) 8 l) ∙ packed-bits bytes (λ i. h (suc i)))
 
--- bytes are the packing of their bits, so bytes with the same bits are the same
+-- bytes are the packing of their bits
 pub pack-bits : (bytes : List ℕ) → AreBytes bytes → pack (bits bytes) ≡ bytes
 unfolding pack
 pack-bits bytes h =
     let e : (length (bits bytes) + 7) / 8 ≡ length bytes = omega (arith, length-bits bytes) in
     ap (λ (n : ℕ). packed n (bits bytes)) e ∙ packed-bits bytes h
+
+-- so bytes with the same bits are the same
+pub bits-injective : (xs ys : List ℕ) → AreBytes xs → AreBytes ys → bits xs ≡ bits ys → xs ≡ ys
+bits-injective xs ys h k e = sym (pack-bits xs h) ∙ ap pack e ∙ pack-bits ys k

@@ -10,6 +10,7 @@ use lib.ListN.{length, take, drop, set, length-append, length-drop, take-append-
 use lib.Pow.{pow-pos, high, low, shr-shr}
 use lib.Seq.{take-at, drop-at, take-add, take-take, drop-drop, drop-append-le, length-take-le, set-split}
 use Rattle.bits.specs.Bits.{toBits, bit, value, field, put}
+use Rattle.bits.specs.Steps.{replace}
 use Rattle.bits.specs.Laws.Digits.{length-toBits, toBits-agree, toBits-append}
 use Rattle.bits.specs.Laws.Fields.{field-append, field-laid}
 
@@ -57,9 +58,9 @@ unfolding put toBits
 put-one true s i h = rw (add-one i) (sym (set-split s i true h))
 put-one false s i h = rw (add-one i) (sym (set-split s i false h))
 
--- put into m = r + w + k bits of a number: the bits above the field, the field, and those below it
+-- put into r + w + k bits of a number: the bits above the field, the field, and those below it
 pub put-number : (r w k x v : ℕ) → v < 2 ^ w
-    → toBits (r + (w + k)) ((x / 2 ^ (w + k) * 2 ^ w + v) * 2 ^ k + x % 2 ^ k) ≡ put w v (toBits (r + (w + k)) x) r
+    → toBits (r + (w + k)) (replace x w k v) ≡ put w v (toBits (r + (w + k)) x) r
 unfolding put
 put-number r w k x v hv =
     let hi : ℕ = x / 2 ^ (w + k) * 2 ^ w + v in

@@ -4,14 +4,15 @@ use mathlib.Core.Bool.{Bool, true, false}
 use mathlib.Core.List.{List, [], _∷_, _++_}
 use Prim.Native.Nat.{ℕ, _+_, _*_, _≤_, _<_}
 use native.Mathlib.Nat.{le-trans, min-le-left}
-use native.Mathlib.Numerals.{add-one}
 use native.Mathlib.Omega.{arith}
+use borrow.Author.Tests.{le-leb}
 use lib.Dec.{leb}
 use lib.Count.{ones, ones-cat}
-use lib.ListN.{length, take, drop, getD, length-take, take-append-drop}
-use lib.Seq.{take-add, take-all, take-nil, take-suc, take-take}
+use lib.ListN.{length, take, drop, getD, length-take, length-drop, take-append-drop}
+use lib.Seq.{take-add, take-all, take-nil, take-take, length-take-le, getD-take, getD-drop}
 use Rattle.bits.specs.Bits.{bits, string, count, rank, bit, value, field}
 use Rattle.bits.specs.Laws.Digits.{value-lt}
+use Rattle.bits.specs.Laws.Bytes.{length-bits}
 
 -- ---- the ones of a list of bits
 
@@ -73,17 +74,21 @@ module _ (bytes : List ℕ) (start places : ℕ) where
       go true h = rw (held h, length-take) (min-le-left places (length (drop start (bits bytes))))
       go false h = rw (not-held h) (omega arith)
 
+module _ (bytes : List ℕ) (start places : ℕ) (h : start + places ≤ 8 * length bytes) where
+  whole : string bytes start places ≡ take places (drop start (bits bytes))
+  whole = held bytes start places (le-leb (start + places) (8 * length bytes) h)
+
+  -- a string that its bytes hold has all its places
+  pub length-held : length (string bytes start places) ≡ places
+  length-held =
+      let l = length-bits bytes in
+      rw whole (length-take-le places (drop start (bits bytes)) (simp length-drop (omega arith)))
+
+  -- and its bits are those of the bytes
+  pub bit-held : (i : ℕ) → i < places → getD (string bytes start places) i false ≡ getD (bits bytes) (start + i) false
+  bit-held i k = rw whole (getD-take places (drop start (bits bytes)) i false k ∙ getD-drop start (bits bytes) i false)
+
 -- ---- rank
-
-pub rank-zero : (s : List Bool) → rank s 0 ≡ 0
-unfolding rank count
-rank-zero s = refl
-
--- one place further
-pub rank-step : (s : List Bool) (p : ℕ) → p < length s → rank s (p + 1) ≡ rank s p + bit (getD s p false)
-unfolding rank count
-rank-step s p h =
-    rw (add-one p, take-suc s p false h, count-append (take p s) (getD s p false ∷ []), count-cons (getD s p false) []) (omega arith)
 
 -- past the end all ones are counted
 pub rank-past : (s : List Bool) (p : ℕ) → length s ≤ p → rank s p ≡ count s
@@ -104,7 +109,7 @@ module _ (bytes : List ℕ) (start places p : ℕ) where
   pub rank-inside : leb (start + places) (8 * length bytes) ≡ true → p ≤ places
       → rank (string bytes start places) p ≡ count (take p (drop start (bits bytes)))
   unfolding rank
-  rank-inside h l = rw (held bytes start places h) (ap count (take-take p places (drop start (bits bytes)) l))
+  rank-inside h l = rw (held bytes start places h) (rank-take (drop start (bits bytes)) places p l)
 
   pub rank-beyond : leb (start + places) (8 * length bytes) ≡ true → places ≤ p
       → rank (string bytes start places) p ≡ count (take places (drop start (bits bytes)))

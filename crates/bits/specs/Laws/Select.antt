@@ -11,43 +11,57 @@ use borrow.Author.Tests.{le-leb, lt-leb}
 use lib.Dec.{leb}
 use lib.ListN.{length, take, drop, getD, length-take, take-append-drop, List·getD-append, List·getD-eq-default}
 use lib.Seq.{getD-append-add, length-take-le, take-all}
-use Rattle.bits.specs.Bits.{bits, string, count, rank, places, select, bit}
-use Rattle.bits.specs.Scan.{within}
+use Rattle.bits.specs.Bits.{bits, string, count, rank, onesAt, select, bit}
+use Rattle.bits.specs.Steps.{within}
 use Rattle.bits.specs.Laws.Rank.{count-cons, count-append, held, not-held, length-string, rank-le}
 
 -- ---- the places of the ones
 
-length-places : (p : ℕ) (s : List Bool) → length (places p s) ≡ count s
-unfolding places count
-length-places p [] = refl
-length-places p (true ∷ s) = ap suc (length-places (suc p) s)
-length-places p (false ∷ s) = length-places (suc p) s
+length-onesAt : (p : ℕ) (s : List Bool) → length (onesAt p s) ≡ count s
+unfolding onesAt count
+length-onesAt p [] = refl
+length-onesAt p (true ∷ s) = ap suc (length-onesAt (suc p) s)
+length-onesAt p (false ∷ s) = length-onesAt (suc p) s
 
-places-append : (p : ℕ) (s t : List Bool) → places p (s ++ t) ≡ places p s ++ places (length s + p) t
-unfolding places
-places-append p [] t = ap (λ (n : ℕ). places n t) (omega arith)
-places-append p (true ∷ s) t =
+onesAt-append : (p : ℕ) (s t : List Bool) → onesAt p (s ++ t) ≡ onesAt p s ++ onesAt (length s + p) t
+unfolding onesAt
+onesAt-append p [] t = ap (λ (n : ℕ). onesAt n t) (omega arith)
+onesAt-append p (true ∷ s) t =
     let e : length s + suc p ≡ suc (length s) + p = omega arith in
-    rw (← e) (ap (λ (l : List ℕ). p ∷ l) (places-append (suc p) s t))
-places-append p (false ∷ s) t =
+    rw (← e) (ap (λ (l : List ℕ). p ∷ l) (onesAt-append (suc p) s t))
+onesAt-append p (false ∷ s) t =
     let e : length s + suc p ≡ suc (length s) + p = omega arith in
-    rw (← e) (places-append (suc p) s t)
+    rw (← e) (onesAt-append (suc p) s t)
 
 -- numbered from m places further on
-places-further : (m p : ℕ) (s : List Bool) (j : ℕ) → j < count s → getD (places (m + p) s) j 0 ≡ m + getD (places p s) j 0
-unfolding places count
-places-further m p [] j h = absurd (omega arith)
-places-further m p (true ∷ s) zero h = refl
-places-further m p (true ∷ s) (suc j) h = rw (← add-suc m p) (places-further m (suc p) s j (omega arith))
-places-further m p (false ∷ s) j h = rw (← add-suc m p) (places-further m (suc p) s j h)
+onesAt-further : (m p : ℕ) (s : List Bool) (j : ℕ) → j < count s → getD (onesAt (m + p) s) j 0 ≡ m + getD (onesAt p s) j 0
+unfolding onesAt count
+onesAt-further m p [] j h = absurd (omega arith)
+onesAt-further m p (true ∷ s) zero h = refl
+onesAt-further m p (true ∷ s) (suc j) h = rw (← add-suc m p) (onesAt-further m (suc p) s j (omega arith))
+onesAt-further m p (false ∷ s) j h = rw (← add-suc m p) (onesAt-further m (suc p) s j h)
 
 -- each is one of the string's places
-place-bounds : (p : ℕ) (s : List Bool) (j : ℕ) → j < count s → (p ≤ getD (places p s) j 0) × (getD (places p s) j 0 < p + length s)
-unfolding places count
-place-bounds p [] j h = absurd (omega arith)
-place-bounds p (true ∷ s) zero h = omega arith
-place-bounds p (true ∷ s) (suc j) h = let b = place-bounds (suc p) s j (omega arith) in omega arith
-place-bounds p (false ∷ s) j h = let b = place-bounds (suc p) s j h in omega arith
+onesAt-bounds : (p : ℕ) (s : List Bool) (j : ℕ) → j < count s → (p ≤ getD (onesAt p s) j 0) × (getD (onesAt p s) j 0 < p + length s)
+unfolding onesAt count
+onesAt-bounds p [] j h = absurd (omega arith)
+onesAt-bounds p (true ∷ s) zero h = omega arith
+onesAt-bounds p (true ∷ s) (suc j) h = let b = onesAt-bounds (suc p) s j (omega arith) in omega arith
+onesAt-bounds p (false ∷ s) j h = let b = onesAt-bounds (suc p) s j h in omega arith
+
+-- each is the place of a one
+onesAt-one : (p : ℕ) (s : List Bool) (j : ℕ) → j < count s → getD s (getD (onesAt p s) j 0 - p) false ≡ true
+unfolding onesAt count
+onesAt-one p [] j h = absurd (omega arith)
+onesAt-one p (true ∷ s) zero h = let e : p - p ≡ 0 = omega arith in ap (λ (n : ℕ). getD (true ∷ s) n false) e
+onesAt-one p (true ∷ s) (suc j) h =
+    let b = onesAt-bounds (suc p) s j (omega arith) in
+    let e : getD (onesAt (suc p) s) j 0 - p ≡ suc (getD (onesAt (suc p) s) j 0 - suc p) = omega arith in
+    ap (λ (n : ℕ). getD (true ∷ s) n false) e ∙ onesAt-one (suc p) s j (omega arith)
+onesAt-one p (false ∷ s) j h =
+    let b = onesAt-bounds (suc p) s j h in
+    let e : getD (onesAt (suc p) s) j 0 - p ≡ suc (getD (onesAt (suc p) s) j 0 - suc p) = omega arith in
+    ap (λ (n : ℕ). getD (false ∷ s) n false) e ∙ onesAt-one (suc p) s j h
 
 -- ---- select
 
@@ -59,12 +73,18 @@ select-zero s = refl
 pub select-none : (s : List Bool) (k : ℕ) → count s < k → select s k ≡ 0
 unfolding select
 select-none s zero h = refl
-select-none s (suc k) h = List·getD-eq-default (places 1 s) 0 (omega (arith, length-places 1 s))
+select-none s (suc k) h = List·getD-eq-default (onesAt 1 s) 0 (omega (arith, length-onesAt 1 s))
 
 pub select-bounds : (s : List Bool) (k : ℕ) → 1 ≤ k → k ≤ count s → (1 ≤ select s k) × (select s k ≤ length s)
 unfolding select
 select-bounds s zero h l = absurd (omega arith)
-select-bounds s (suc k) h l = let b = place-bounds 1 s k l in omega arith
+select-bounds s (suc k) h l = let b = onesAt-bounds 1 s k l in omega arith
+
+-- there stands a one
+pub select-one : (s : List Bool) (k : ℕ) → 1 ≤ k → k ≤ count s → getD s (select s k - 1) false ≡ true
+unfolding select
+select-one s zero h l = absurd (omega arith)
+select-one s (suc k) h l = onesAt-one 1 s k l
 
 pub select-le : (s : List Bool) (k : ℕ) → select s k ≤ length s
 select-le s k = go (decLe 1 k) (decLe k (count s))
@@ -79,8 +99,8 @@ pub select-left : (s t : List Bool) (k : ℕ) → k ≤ count s → select (s ++
 unfolding select
 select-left s t zero h = refl
 select-left s t (suc k) h =
-    ap (λ (l : List ℕ). getD l k 0) (places-append 1 s t)
-    ∙ List·getD-append (places 1 s) (places (length s + 1) t) 0 k (rw (length-places 1 s) h)
+    ap (λ (l : List ℕ). getD l k 0) (onesAt-append 1 s t)
+    ∙ List·getD-append (onesAt 1 s) (onesAt (length s + 1) t) 0 k (rw (length-onesAt 1 s) h)
 
 -- it is in the second
 pub select-right : (s t : List Bool) (k : ℕ) → count s < k → k ≤ count s + count t
@@ -89,23 +109,23 @@ unfolding select
 select-right s t zero h l = absurd (omega arith)
 select-right s t (suc k) h l =
     let i : ℕ = k - count s in
-    let e : k ≡ length (places 1 s) + i = omega (arith, length-places 1 s) in
+    let e : k ≡ length (onesAt 1 s) + i = omega (arith, length-onesAt 1 s) in
     let f : suc k - count s ≡ suc i = omega arith in
     rw f
-    (ap₂ (λ (x : List ℕ) (n : ℕ). getD x n 0) (places-append 1 s t) e
-    ∙ getD-append-add (places 1 s) (places (length s + 1) t) i 0
-    ∙ places-further (length s) 1 t i (omega arith))
+    (ap₂ (λ (x : List ℕ) (n : ℕ). getD x n 0) (onesAt-append 1 s t) e
+    ∙ getD-append-add (onesAt 1 s) (onesAt (length s + 1) t) i 0
+    ∙ onesAt-further (length s) 1 t i (omega arith))
 
 -- past the first string: the place in the second, if there is one
-pub select-join : (s t : List Bool) (k : ℕ) → count s < k → 1 ≤ select t (k - count s) → select (s ++ t) k ≡ length s + select t (k - count s)
-select-join s t k h p = go (decLe k (count s + count t))
+pub select-right-found : (s t : List Bool) (k : ℕ) → count s < k → 1 ≤ select t (k - count s) → select (s ++ t) k ≡ length s + select t (k - count s)
+select-right-found s t k h p = go (decLe k (count s + count t))
   where
     go : Dec (k ≤ count s + count t) → select (s ++ t) k ≡ length s + select t (k - count s)
     go (yes l) = select-right s t k h l
     go (no l) = absurd (omega (arith, select-none t (k - count s) (omega arith)))
 
-pub select-join-none : (s t : List Bool) (k : ℕ) → count s < k → select t (k - count s) ≡ 0 → select (s ++ t) k ≡ 0
-select-join-none s t k h e = go (decLe k (count s + count t))
+pub select-right-none : (s t : List Bool) (k : ℕ) → count s < k → select t (k - count s) ≡ 0 → select (s ++ t) k ≡ 0
+select-right-none s t k h e = go (decLe k (count s + count t))
   where
     go : Dec (k ≤ count s + count t) → select (s ++ t) k ≡ 0
     go (yes l) = let b = select-bounds t (k - count s) (omega arith) (omega arith) in absurd (omega arith)
@@ -158,19 +178,22 @@ rank-cons : (b : Bool) (s : List Bool) (p : ℕ) → rank (b ∷ s) (suc p) ≡ 
 unfolding rank
 rank-cons b s p = count-cons b (take p s)
 
+-- past the first bit
+rank-select-cons : (b : Bool) (s : List Bool) (k : ℕ) → 1 ≤ k → k ≤ count s → rank s (select s k) ≡ k → rank (b ∷ s) (select (b ∷ s) (bit b + k)) ≡ bit b + k
+rank-select-cons b s k h l e = rw (select-cons b s k h l, rank-cons b s (select s k), e)
+
 -- up to the k-th one there are k ones
 pub rank-select : (s : List Bool) (k : ℕ) → k ≤ count s → rank s (select s k) ≡ k
-unfolding select places rank count
-rank-select [] zero h = refl
+unfolding select onesAt rank count
+rank-select s zero h = refl
 rank-select [] (suc k) h = absurd (omega arith)
-rank-select (true ∷ s) zero h = refl
 rank-select (true ∷ s) (suc zero) h = refl
 rank-select (true ∷ s) (suc (suc k)) h =
-    rw (← one-add (suc k), select-cons true s (suc k) (omega arith) (omega arith), rank-cons true s (select s (suc k)), rank-select s (suc k) (omega arith))
-rank-select (false ∷ s) zero h = refl
+    let e : bit true + suc k ≡ suc (suc k) = omega arith in
+    rw e at (rank-select-cons true s (suc k) (omega arith) (omega arith) (rank-select s (suc k) (omega arith)))
 rank-select (false ∷ s) (suc k) h =
-    let e : 0 + suc k ≡ suc k = omega arith in
-    rw (← e, select-cons false s (suc k) (omega arith) h, rank-cons false s (select s (suc k)), rank-select s (suc k) h)
+    let e : bit false + suc k ≡ suc k = omega arith in
+    rw e at (rank-select-cons false s (suc k) (omega arith) h (rank-select s (suc k) h))
 
 later : (b : Bool) (s : List Bool) (i : ℕ) → select s (rank s (i + 1)) ≡ i + 1 → select (b ∷ s) (rank (b ∷ s) (suc i + 1)) ≡ suc i + 1
 later b s i e =
@@ -181,7 +204,7 @@ later b s i e =
 
 -- a one is the one of its own rank
 pub select-rank : (s : List Bool) (i : ℕ) → getD s i false ≡ true → select s (rank s (i + 1)) ≡ i + 1
-unfolding select places rank count
+unfolding select onesAt rank count
 select-rank [] i e = absurd (let z : _≡_ {A = ℕ} 0 1 = cc in omega arith)
 select-rank (true ∷ s) zero e = refl
 select-rank (false ∷ s) zero e = absurd (let z : _≡_ {A = ℕ} 0 1 = cc in omega arith)

@@ -27,12 +27,12 @@ shr-result c = search needs
 returns : tie.Need-returns
 returns c =
     let s = bits (c .before .before .args .bytes .now) in
-    let place = c .before .before .args .place in
-    let k = 7 - place % 8 in
-    let e : bitAnd (c .byte-at .result / 2 ^ k) 1 ≡ bit (getD s place false) =
-    and-mask (c .byte-at .result / 2 ^ k) 1 ∙ field-in-byte place 1 k (c .byte-at .ensures) (omega arith)
-    ∙ field-one s place (rw (length-bits (c .before .before .args .bytes .now)) (omega arith)) in
-    ap (λ (x : ℕ). eqb x 1) e ∙ eqb-bit (getD s place false)
+    let index = c .before .before .args .index in
+    let k = 7 - index % 8 in
+    let e : bitAnd (c .byte-at .result / 2 ^ k) 1 ≡ bit (getD s index false) =
+    and-mask (c .byte-at .result / 2 ^ k) 1 ∙ field-in-byte index 1 k (c .byte-at .ensures) (omega arith)
+    ∙ field-one s index (rw (length-bits (c .before .before .args .bytes .now)) (omega arith)) in
+    ap (λ (x : ℕ). eqb x 1) e ∙ eqb-bit (getD s index false)
 
 pub read-bit-spec : {M : Type 1} → statement M
 read-bit-spec = tie.close (tie.spec byte-at-requires sub-result shr-result returns)

@@ -28,7 +28,7 @@ sub-result c = rw (shifted-one (c .args .low) (omega arith)) (pow-pos (c .args .
 returns : tie.Need-returns
 returns c =
     rw (shifted-one (c .args .low) (omega arith))
-    (replace-masked (c .args .x) (c .args .width) (c .args .low) (c .args .v) (omega arith) (c .pre .1) (c .pre .2))
+    (replace-masked (c .args .x) (c .args .width) (c .args .low) (c .args .v) (c .pre .0) (c .pre .1) (c .pre .2))
 
 pub replaced-spec : {M : Type 1} → statement M
 replaced-spec =

@@ -1,12 +1,12 @@
--- `places::place_of` meets its contract: the bytes passed have fewer ones than are looked for.
+-- `search::place_of` meets its contract: the bytes passed have fewer ones than are looked for.
 use mathlib.Core.Path.{_∙_, sym}
 use Prim.Native.Nat.{_-_}
 use native.Mathlib.Omega.{arith}
 use lib.ListN.{length}
-use Rattle.bits.specs.Scan.{Passed}
-use Rattle.bits.proofs.Found.{passed-byte, place-bounds, found-within, missing}
-use Rattle.bits.proofs.places.place_of.Statement.{statement}
-use Rattle.bits.proofs.places.place_of.Tie as tie
+use Rattle.bits.specs.Steps.{Passed}
+use Rattle.bits.proofs.Found.{passed-byte, found-bounds, found-within, missing}
+use Rattle.bits.proofs.search.place_of.Statement.{statement}
+use Rattle.bits.proofs.search.place_of.Tie as tie
 
 abbrev Inv-loop : tie.InvT-loop
 Inv-loop bytes limit k at₀ left₀ at left = Passed bytes k at left
@@ -31,7 +31,7 @@ in-byte-requires c κs = omega arith
 
 within-requires : tie.Need-within-requires Inv-loop μ-loop
 within-requires c κs =
-    let p = place-bounds (c .before .before .before .byte-at .ensures) (c .before .before .before .before .before .loop .inv) (omega arith) in
+    let p = found-bounds (c .before .before .before .byte-at .ensures) (c .before .before .before .before .before .loop .inv) (omega arith) in
     omega arith
 
 returns : tie.Need-returns Inv-loop μ-loop

@@ -1,10 +1,10 @@
--- `places::place_from` meets its contract, by the laws of a string that starts inside a byte.
+-- `search::place_from` meets its contract, by the laws of a string that starts inside a byte.
 use mathlib.Core.Path.{_∙_, sym}
 use native.Mathlib.Omega.{arith}
 use borrow.Author.Needs.{needs}
-use Rattle.bits.proofs.FromBit.{place-bounds, place-within, place-none, place-le, place-missing, place-beyond}
-use Rattle.bits.proofs.places.place_from.Statement.{statement}
-use Rattle.bits.proofs.places.place_from.Tie as tie
+use Rattle.bits.proofs.FromBit.{rest-bounds, place-within, place-none, place-le, place-missing, place-beyond}
+use Rattle.bits.proofs.search.place_from.Statement.{statement}
+use Rattle.bits.proofs.search.place_from.Tie as tie
 
 sub-room : tie.Need-sub-room
 sub-room c = search needs
@@ -20,12 +20,12 @@ in-byte-requires c κs = search needs
 
 sub-within : tie.Need-sub-within
 sub-within c =
-    let p = place-bounds (c .before .before .before .byte-rest .ensures) (omega arith) (omega arith) (c .in-byte .ensures) in
+    let p = rest-bounds (c .before .before .before .byte-rest .ensures) (omega arith) (omega arith) (c .in-byte .ensures) in
     omega arith
 
 within-requires : tie.Need-within-requires
 within-requires c κs =
-    let p = place-bounds (c .before .before .before .byte-rest .ensures) (omega arith) (omega arith) (c .in-byte .ensures) in
+    let p = rest-bounds (c .before .before .before .byte-rest .ensures) (omega arith) (omega arith) (c .in-byte .ensures) in
     omega arith
 
 returns : tie.Need-returns

@@ -3,22 +3,22 @@ ghost use mathlib.Core.Path.{_≡_};
 ghost use Prim.Native.Nat.{_+_, _*_, _/_, _<_, _≤_};
 ghost use lib.ListN.{length, take, drop};
 ghost use Rattle.bits.specs.Bits.{bits, select as selectOf};
-ghost use Rattle.bits.specs.Scan.{Passed, within as withinOf};
+ghost use Rattle.bits.specs.Steps.{Passed, within as withinOf};
 use super::table::in_byte;
 use super::words::byte_at;
 use super::words::byte_ones;
 use super::words::byte_rest;
-use super::words::tail;
+use super::words::part;
 use super::words::word_ones;
 
 // A byte to go on from, and how many ones are left to go.
-pub struct Rest {
+pub struct Reached {
     pub at: usize,
     pub left: usize,
 }
 
 // Passes over whole words that have fewer ones than are left to go.
-fn skip_words(bytes: &[u8], k: usize) -> Rest
+fn skip_words(bytes: &[u8], k: usize) -> Reached
     requires { ⌜ 1 ≤ k ⌝ }
     ensures { λ r. ⌜ Passed (now (bytes .entry)) k (r .at) (r .left) ⌝ }
 {
@@ -27,12 +27,12 @@ fn skip_words(bytes: &[u8], k: usize) -> Rest
     while at + 8 <= bytes.len() {
         let c = word_ones(bytes, at);
         if left <= c {
-            return Rest { at, left };
+            return Reached { at, left };
         }
         left -= c;
         at += 8;
     }
-    Rest { at, left }
+    Reached { at, left }
 }
 
 // Place t of byte `at` as a place of the string, or 0 past the limit.
@@ -55,9 +55,9 @@ fn place_of(bytes: &[u8], limit: usize, k: usize) -> usize
     requires { ⌜ 1 ≤ k ⌝ }
     ensures { λ r. ⌜ r ≡ selectOf (take limit (bits (now (bytes .entry)))) k ⌝ }
 {
-    let rest = skip_words(bytes, k);
-    let mut at = rest.at;
-    let mut left = rest.left;
+    let reached = skip_words(bytes, k);
+    let mut at = reached.at;
+    let mut left = reached.left;
     while at < bytes.len() {
         let b = byte_at(bytes, at);
         let c = byte_ones(b);
@@ -72,10 +72,10 @@ fn place_of(bytes: &[u8], limit: usize, k: usize) -> usize
 
 // The place of the k-th one of the first `limit` bits after the byte of bit `start`, or 0.
 fn place_after(bytes: &[u8], start: usize, limit: usize, k: usize) -> usize
-    requires { ⌜ (1 ≤ k) × (start / 8 < length (now bytes)) ⌝ }
+    requires { ⌜ (1 ≤ k) × (1 ≤ limit) × (8 * (start / 8 + 1) + limit ≤ 8 * length (now bytes)) ⌝ }
     ensures { λ r. ⌜ r ≡ selectOf (take limit (bits (drop (start / 8 + 1) (now (bytes .entry))))) k ⌝ }
 {
-    place_of(tail(bytes, start / 8 + 1), limit, k)
+    place_of(part(bytes, start / 8 + 1, (limit - 1) / 8 + 1), limit, k)
 }
 
 // The place of the k-th one of the `places` bits from bit `start` on, or 0: in what is left of the first byte, or after it.

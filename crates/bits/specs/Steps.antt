@@ -1,8 +1,8 @@
--- What a scan for ones knows on its way: the records that contracts inside this crate cite. No caller outside sees them.
+-- What contracts inside this crate say of a byte, of a search for ones, and of a number with a field replaced. No caller outside sees them.
 use mathlib.Core.Path.{_≡_}
 use mathlib.Core.Bool.{true, false}
 use mathlib.Core.List.{List}
-use Prim.Native.Nat.{ℕ, _+_, _-_, _*_, _%_, _≤_, _<_}
+use Prim.Native.Nat.{ℕ, _+_, _-_, _*_, _/_, _%_, _^_, _≤_, _<_}
 use lib.Dec.{leb}
 use lib.ListN.{length, take, getD}
 use Rattle.bits.specs.Bits.{bits, count, field}
@@ -28,3 +28,7 @@ pub record Passed (bytes : List ℕ) (k at left : ℕ) : Type 0 where
 -- the place p, or 0 where it is past the limit
 unfoldable pub within : ℕ → ℕ → ℕ
 within limit p = elim (leb p limit) [ true ↦ p | false ↦ 0 ]
+
+-- the number x with v in the w bits above its k lowest
+abbrev pub replace : ℕ → ℕ → ℕ → ℕ → ℕ
+replace x w k v = (x / 2 ^ (w + k) * 2 ^ w + v) * 2 ^ k + x % 2 ^ k

@@ -1,11 +1,11 @@
--- `places::within` meets its contract, with no sum that wraps.
+-- `search::within` meets its contract, with no sum that wraps.
 use mathlib.Core.Path.{sym}
 use Prim.Native.Nat.{_+_, _*_}
 use native.Mathlib.Omega.{arith}
 use borrow.Author.Needs.{needs}
 use Rattle.bits.specs.Laws.Select.{within-in, within-out}
-use Rattle.bits.proofs.places.within.Statement.{statement}
-use Rattle.bits.proofs.places.within.Tie as tie
+use Rattle.bits.proofs.search.within.Statement.{statement}
+use Rattle.bits.proofs.search.within.Tie as tie
 
 returns : tie.Need-returns
 returns c = sym (within-out (c .before .args .limit) (8 * c .before .args .at + c .before .args .t) (omega arith))

@@ -1,11 +1,11 @@
--- `places::skip_words` meets its contract: the words passed have fewer ones than are looked for.
+-- `search::skip_words` meets its contract: the words passed have fewer ones than are looked for.
 use Prim.Native.Nat.{_-_}
 use native.Mathlib.Omega.{arith}
 use lib.ListN.{length}
-use Rattle.bits.specs.Scan.{Passed}
+use Rattle.bits.specs.Steps.{Passed}
 use Rattle.bits.proofs.Found.{passed-none, passed-word}
-use Rattle.bits.proofs.places.skip_words.Statement.{statement}
-use Rattle.bits.proofs.places.skip_words.Tie as tie
+use Rattle.bits.proofs.search.skip_words.Statement.{statement}
+use Rattle.bits.proofs.search.skip_words.Tie as tie
 
 abbrev Inv-loop : tie.InvT-loop
 Inv-loop bytes k at₀ left₀ at left = Passed bytes k at left
