@@ -1,0 +1,43 @@
+-- The blocks as two arrays: where each block starts, and the neighbours of all blocks in a row. A place is a position in that row.
+use Prim.Native.Nat.{ℕ, zero, suc, _+_, _-_, _≤_, _<_}
+use mathlib.Core.Path.{_≡_}
+use mathlib.Core.Bool.{true, false}
+use mathlib.Core.List.{List}
+use lib.Dec.{eqb}
+use lib.ListN.{length, getD, take}
+use Rattle.graph.specs.Graph.{block}
+use Rattle.record.specs.Starts.{cut}
+
+-- the starts rise from 0 to the end of the row, with at most 4,096 blocks and 32,768 neighbours
+pub record Divided (starts nbrs : List ℕ) : Type 0 where
+  pub some : 0 < length starts
+  pub first : getD starts 0 0 ≡ 0
+  pub rising : (u : ℕ) → u + 1 < length starts → getD starts u 0 ≤ getD starts (u + 1) 0
+  pub last : getD starts (length starts - 1) 0 ≡ length nbrs
+  pub few-blocks : length starts ≤ 4097
+  pub few-places : length nbrs ≤ 32768
+
+-- and each neighbour is a terminal: what rule 6 leaves
+pub record Input (starts nbrs : List ℕ) : Type 0 where
+  pub divided : Divided starts nbrs
+  pub known : (p : ℕ) → p < length nbrs → getD nbrs p 0 + 1 < length starts
+
+-- u is a terminal of such arrays
+pub record At (starts nbrs : List ℕ) (u : ℕ) : Type 0 where
+  pub input : Input starts nbrs
+  pub inside : u + 1 < length starts
+
+-- place p is in u's block
+pub record Holds (starts : List ℕ) (u p : ℕ) : Type 0 where
+  pub inside : u + 1 < length starts
+  pub low : getD starts u 0 ≤ p
+  pub high : p < getD starts (u + 1) 0
+
+-- the part of u's block that stands before place p
+unfoldable pub upTo : List ℕ → List ℕ → ℕ → ℕ → List ℕ
+upTo starts nbrs u p = take (p - getD starts u 0) (block (cut starts nbrs) u)
+
+-- 1 + the last place before p where v stands, 0 for none
+unfoldable pub latest : ℕ → List ℕ → ℕ → ℕ
+latest v nbrs zero = 0
+latest v nbrs (suc p) = elim (eqb v (getD nbrs p 0)) [ true ↦ suc p | false ↦ latest v nbrs p ]

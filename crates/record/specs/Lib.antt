@@ -1,0 +1,11 @@
+-- Records: the definitions that the contracts cite, and the laws about them.
+pub mod Record
+pub mod Starts
+pub mod Flat
+pub mod Tally
+pub mod Rules
+pub mod Answers
+pub mod Operations
+pub mod Laws
+pub mod Steps
+mod Examples

@@ -1,0 +1,70 @@
+-- The rules that a record must keep (document 01, "order R" and "Check"), each with its number, and the first broken one.
+use mathlib.Core.Bool.{Bool, true, false, not, _||_}
+use mathlib.Core.List.{List, [], _∷_, _++_}
+use Prim.Native.Nat.{ℕ, suc}
+use lib.Dec.{eqb, leb, ltb}
+use lib.ListN.{length, drop}
+use Rattle.bits.specs.Bits.{bits, count}
+use Rattle.graph.specs.Graph.{Blocks, block, mentions}
+use Rattle.record.specs.Record.{terminals, wires, usedBits, recordLength, unary, blocks}
+
+-- a rule: its number, and whether it is broken
+abbrev pub Rule : Type 0
+Rule = ℕ × Bool
+
+-- the number of the first broken rule, 0 where none is
+unfoldable pub firstBroken : List Rule → ℕ
+firstBroken [] = 0
+firstBroken (r ∷ rules) = elim (r .1) [ true ↦ r .0 | false ↦ firstBroken rules ]
+
+-- D begins with a zero
+unfoldable pub beginsWithZero : List Bool → Bool
+beginsWithZero [] = false
+beginsWithZero (b ∷ d) = not b
+
+-- order R
+unfoldable pub orderR : List ℕ → List Rule
+orderR bytes =
+    (1, ltb (length bytes) 4)
+    ∷ (2, ltb 4096 (terminals bytes) || ltb 16384 (wires bytes))
+    ∷ (3, not (eqb (length bytes) (recordLength (terminals bytes) (wires bytes))))
+    ∷ (4, not (eqb (count (unary bytes)) (terminals bytes)) || beginsWithZero (unary bytes))
+    ∷ []
+
+-- a test of a terminal u and a neighbour v holds at some place of the blocks; the first block is terminal u's
+unfoldable pub anyIn : (ℕ → Bool) → List ℕ → Bool
+anyIn test [] = false
+anyIn test (v ∷ l) = test v || anyIn test l
+
+unfoldable pub anyFrom : (ℕ → ℕ → Bool) → ℕ → Blocks → Bool
+anyFrom test u [] = false
+anyFrom test u (b ∷ g) = anyIn (test u) b || anyFrom test (suc u) g
+
+abbrev pub anyPlace : (ℕ → ℕ → Bool) → Blocks → Bool
+anyPlace test g = anyFrom test 0 g
+
+-- a spare bit is set
+unfoldable pub spareSet : List ℕ → Bool
+spareSet bytes = not (eqb (count (drop (usedBits (terminals bytes) (wires bytes)) (bits bytes))) 0)
+
+-- a neighbour that is no terminal, or the terminal itself
+unfoldable pub stray : Blocks → ℕ → ℕ → Bool
+stray g u v = leb (length g) v || eqb v u
+
+-- a neighbour that stands twice in one block
+unfoldable pub doubled : Blocks → ℕ → ℕ → Bool
+doubled g u v = ltb 1 (mentions v (block g u))
+
+-- a wire listed at one end only: the two ends mention each other a different number of times
+unfoldable pub oneSided : Blocks → ℕ → ℕ → Bool
+oneSided g u v = not (eqb (mentions v (block g u)) (mentions u (block g v)))
+
+-- Check: order R, and then the rules of the content, each over the whole record
+unfoldable pub checkRules : List ℕ → List Rule
+checkRules bytes =
+    orderR bytes
+    ++ ((5, spareSet bytes)
+    ∷ (6, anyPlace (stray (blocks bytes)) (blocks bytes))
+    ∷ (7, anyPlace (doubled (blocks bytes)) (blocks bytes))
+    ∷ (8, anyPlace (oneSided (blocks bytes)) (blocks bytes))
+    ∷ [])
