@@ -1,0 +1,44 @@
+-- How often a terminal stands in a block before a place.
+use Prim.Native.Nat.{ℕ, _+_, _-_, _≤_}
+use mathlib.Core.Path.{_≡_, sym, _∙_, ap}
+use mathlib.Core.List.{List, [], _∷_}
+use native.Mathlib.Omega.{arith}
+use lib.ListN.{getD, take, drop, length-take, take-append-drop}
+use Rattle.graph.specs.Graph.{block, mentions}
+use Rattle.record.specs.Starts.{cut}
+use Rattle.record.specs.Flat.{Input, Holds, upTo}
+use Rattle.record.proofs.Laws.Arrays.Mentions.{mentions-append, mentions-le, one-hit, one-miss}
+use Rattle.record.proofs.Laws.Arrays.Parts.{Step, inside, outside, step, upto-start, upto-next}
+
+module _ (starts nbrs : List ℕ) (u p v : ℕ) where
+  pub count-start : p ≤ getD starts u 0 → mentions v (upTo starts nbrs u p) ≡ 0
+  unfolding mentions
+  count-start h = ap (mentions v) (upto-start starts nbrs u p h)
+
+  pub count-le : mentions v (upTo starts nbrs u p) ≤ p
+  unfolding upTo
+  count-le =
+      let a = mentions-le v (take (p - getD starts u 0) (block (cut starts nbrs) u)) in
+      omega (arith, length-take (p - getD starts u 0) (block (cut starts nbrs) u))
+
+  pub count-part : mentions v (upTo starts nbrs u p) ≤ mentions v (block (cut starts nbrs) u)
+  unfolding upTo
+  count-part =
+      let k : ℕ = p - getD starts u 0 in
+      let b : List ℕ = block (cut starts nbrs) u in
+      let e = ap (mentions v) (sym (take-append-drop k b)) ∙ mentions-append v (take k b) (drop k b) in
+      omega arith
+
+module _ {starts nbrs : List ℕ} (i : Input starts nbrs) (u p v : ℕ) where
+  count-next : Holds starts u p → mentions v (upTo starts nbrs u (p + 1)) ≡ mentions v (upTo starts nbrs u p) + mentions v (getD nbrs p 0 ∷ [])
+  count-next h = ap (mentions v) (upto-next i h) ∙ mentions-append v (upTo starts nbrs u p) (getD nbrs p 0 ∷ [])
+
+  pub count-hit : Holds starts u p → v ≡ getD nbrs p 0 → mentions v (upTo starts nbrs u (p + 1)) ≡ mentions v (upTo starts nbrs u p) + 1
+  count-hit h e = let a = count-next h in let z = one-hit v (getD nbrs p 0) e in omega arith
+
+  pub count-miss : (v ≡ getD nbrs p 0 → ⊥) → mentions v (upTo starts nbrs u (p + 1)) ≡ mentions v (upTo starts nbrs u p)
+  count-miss n = go (step i u p)
+    where
+      go : Step starts nbrs u p → mentions v (upTo starts nbrs u (p + 1)) ≡ mentions v (upTo starts nbrs u p)
+      go (inside h) = let a = count-next h in let z = one-miss v (getD nbrs p 0) n in omega arith
+      go (outside e) = ap (mentions v) e

@@ -1,0 +1,42 @@
+-- Mentions in a list: its parts, its length, one number, and the place of a mention.
+use Prim.Native.Nat.{ℕ, suc, _+_, _≤_, _<_}
+use mathlib.Core.Path.{_≡_, sym}
+use mathlib.Core.Bool.{Bool, true, false}
+use mathlib.Core.List.{List, [], _∷_, _++_}
+use native.Mathlib.Nat.{zero-add}
+use native.Mathlib.Omega.{arith}
+use lib.Dec.{eqb}
+use lib.ListN.{length}
+use borrow.Author.Tests.{eq-eqb, ne-eqb}
+use Rattle.graph.specs.Graph.{Blocks, block, Place, mentions, position}
+use Rattle.graph.specs.Laws.Places.Mentions.{mention-at}
+
+pub mentions-append : (v : ℕ) (l m : List ℕ) → mentions v (l ++ m) ≡ mentions v l + mentions v m
+unfolding mentions
+mentions-append v [] m = sym (zero-add (mentions v m))
+mentions-append v (x ∷ l) m = go (eqb v x) (mentions-append v l m)
+  where
+    go : (b : Bool) → mentions v (l ++ m) ≡ mentions v l + mentions v m
+        → elim b [ true ↦ suc (mentions v (l ++ m)) | false ↦ mentions v (l ++ m) ] ≡ elim b [ true ↦ suc (mentions v l) | false ↦ mentions v l ] + mentions v m
+    go true e = omega arith
+    go false e = e
+
+pub mentions-le : (v : ℕ) (l : List ℕ) → mentions v l ≤ length l
+unfolding mentions
+mentions-le v [] = omega arith
+mentions-le v (x ∷ l) = go (eqb v x) (mentions-le v l)
+  where
+    go : (b : Bool) → mentions v l ≤ length l → elim b [ true ↦ suc (mentions v l) | false ↦ mentions v l ] ≤ suc (length l)
+    go true h = omega arith
+    go false h = omega arith
+
+pub one-hit : (v x : ℕ) → v ≡ x → mentions v (x ∷ []) ≡ 1
+unfolding mentions
+one-hit v x e = rw (eq-eqb v x e, mentions)
+
+pub one-miss : (v x : ℕ) → (v ≡ x → ⊥) → mentions v (x ∷ []) ≡ 0
+unfolding mentions
+one-miss v x h = rw (ne-eqb v x h, mentions)
+
+pub mention-place : (g : Blocks) (u v : ℕ) → 0 < mentions v (block g u) → Place g u (position v (block g u) 0) v
+mention-place g u v h = let m = mention-at v (block g u) 0 h in record { fits = m .inside; leads = m .there }

@@ -1,0 +1,7 @@
+-- What the code reads of a record: its header, D and the fields.
+pub mod Headers
+pub mod Sounded
+pub mod InOrder
+pub mod Unpacked
+pub mod Filled
+pub mod OneBlock

@@ -1,0 +1,105 @@
+-- Degree and Neighbours of one terminal, where order R lets the record pass.
+use mathlib.Core.Path.{_≡_, sym, ap, ap₂, _∙_}
+use mathlib.Core.Bool.{true, false}
+use mathlib.Core.List.{List, [], _∷_}
+use Prim.Native.Nat.{ℕ, suc, _+_, _-_, _*_, _≤_, _<_}
+use native.Mathlib.Omega.{arith}
+use borrow.Author.Tests.{lt-ltb, le-ltb, eq-eqb, ne-eqb}
+use lib.ListN.{length, take, drop, getD}
+use Rattle.graph.specs.Graph.{block}
+use Rattle.record.specs.Record.{terminals, wires, unary, blocks}
+use Rattle.record.specs.Rules.{firstBroken, orderR}
+use Rattle.record.specs.Starts.{startsOf}
+use Rattle.record.specs.Answers.{refused, answered, tried, sizesOf}
+use Rattle.record.specs.Operations.{notLong, noTerminal, degreeRules, degree, neighbours}
+use Rattle.record.specs.Steps.{Sound}
+use Rattle.record.specs.Laws.First.{first-broken, first-kept, append-kept, append-broken, order-numbered}
+use Rattle.record.specs.Laws.Parts.{starts-rise, starts-fit, part-block}
+use Rattle.record.specs.Laws.Layout.{degree-starts}
+use Rattle.record.proofs.Laws.Telling.Told.{told-back, untold}
+use Rattle.record.proofs.Laws.Reading.Sounded.{sound-shaped, sound-ones, sound-places}
+
+module _ {bytes : List ℕ} {n m : ℕ} (s : Sound bytes n m) where
+  -- ---- rule 11
+
+  after-order : (v : ℕ) → firstBroken (degreeRules bytes v) ≡ firstBroken ((11, noTerminal bytes v) ∷ [])
+  unfolding degreeRules
+  after-order v = append-kept (order-numbered bytes) ((11, noTerminal bytes v) ∷ []) (s .kept)
+
+  outside : (v : ℕ) → noTerminal bytes v ≡ true → firstBroken (degreeRules bytes v) ≡ 11
+  outside v e = after-order v ∙ first-broken 11 [] e
+
+  pub zero-outside : {v : ℕ} → v ≡ 0 → firstBroken (degreeRules bytes v) ≡ 11
+  unfolding noTerminal
+  zero-outside {v} e = outside v (rw (eq-eqb v 0 e))
+
+  pub past-outside : {v : ℕ} → n < v → firstBroken (degreeRules bytes v) ≡ 11
+  unfolding noTerminal
+  past-outside {v} h =
+      let f = s .is-n in
+      outside v (rw (ne-eqb v 0 (λ z. omega arith), lt-ltb (terminals bytes) v (omega arith)))
+
+  pub inside : {v : ℕ} → (v ≡ 0 → ⊥) → v ≤ n → firstBroken (degreeRules bytes v) ≡ 0
+  unfolding noTerminal firstBroken
+  inside {v} z h =
+      let f = s .is-n in
+      let e : noTerminal bytes v ≡ false = rw (ne-eqb v 0 z, le-ltb (terminals bytes) v (omega arith)) in
+      after-order v ∙ first-kept 11 [] e
+
+  -- ---- the block
+
+  module _ {v a b : ℕ} (nz : v ≡ 0 → ⊥) (h : v ≤ n) (ea : a ≡ getD (startsOf (unary bytes)) (v - 1) 0) (eb : b ≡ getD (startsOf (unary bytes)) v 0) where
+    next : v - 1 + 1 ≡ v
+    next = omega arith
+
+    rising : getD (startsOf (unary bytes)) (v - 1) 0 ≤ getD (startsOf (unary bytes)) v 0
+    rising = rw next at (starts-rise 0 (unary bytes) (v - 1) (let c = sound-ones s in omega arith))
+
+    pub block-rises : a ≤ b
+    block-rises = rw (ea, eb) rising
+
+    pub block-ends : b ≤ 2 * m
+    block-ends =
+        let c = sound-ones s in
+        let l = sound-places s in
+        let f = starts-fit 0 (unary bytes) v (omega arith) in
+        omega arith
+
+    pub degree-is : answered (b - a) ≡ degree bytes v
+    unfolding degree
+    degree-is =
+        let f = s .is-n in
+        let d : length (block (blocks bytes) (v - 1)) ≡ b - a =
+        degree-starts (sound-shaped s) (v - 1) (omega arith)
+        ∙ ap₂ _-_ (ap (λ (k : ℕ). getD (startsOf (unary bytes)) k 0) next ∙ sym eb) (sym ea) in
+        rw d (untold (b - a) (inside nz h))
+
+    module _ (list : List ℕ) (long : length list ≡ 2 * m) where
+      pub part-is : take (b - a) (drop a list) ≡ neighbours bytes list v
+      unfolding neighbours notLong
+      part-is =
+          let f = s .is-m in
+          let c = sound-ones s in
+          rw (eq-eqb (firstBroken (degreeRules bytes v)) 0 (inside nz h), eq-eqb (length list) (2 * wires bytes) (omega arith), neighbours)
+          (sym (part-block (unary bytes) (sound-shaped s .begins) list (v - 1) (omega arith)
+          ∙ ap₂ (λ (x y : ℕ). take (x - y) (drop y list)) (ap (λ (k : ℕ). getD (startsOf (unary bytes)) k 0) next ∙ sym eb) (sym ea)))
+
+  -- ---- no part
+
+  module _ (v : ℕ) (list : List ℕ) where
+    pub no-part : firstBroken (degreeRules bytes v) ≡ 11 → [] ≡ neighbours bytes list v
+    unfolding neighbours
+    no-part e = rw (e, neighbours)
+
+    pub wrong-length : (v ≡ 0 → ⊥) → v ≤ n → (length list ≡ 2 * m → ⊥) → [] ≡ neighbours bytes list v
+    unfolding neighbours notLong
+    wrong-length z h d =
+        let f = s .is-m in
+        rw (eq-eqb (firstBroken (degreeRules bytes v)) 0 (inside z h), ne-eqb (length list) (2 * wires bytes) (λ e. d (omega arith)), neighbours)
+
+-- order R refuses
+pub order-refused : (bytes list : List ℕ) (v : ℕ) {k : ℕ} → refused k ≡ tried (orderR bytes) (sizesOf bytes) → [] ≡ neighbours bytes list v
+unfolding degreeRules neighbours
+order-refused bytes list v e =
+    let (i, f, g) = told-back (firstBroken (orderR bytes)) (sizesOf bytes) e in
+    rw (append-broken (orderR bytes) ((11, noTerminal bytes v) ∷ []) i f, ne-eqb (suc i) 0 (λ z. omega arith), neighbours)

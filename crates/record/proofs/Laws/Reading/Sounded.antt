@@ -1,0 +1,90 @@
+-- A record that order R lets pass, by the n and m that the code holds.
+use mathlib.Core.Path.{_≡_, sym, ap, _∙_}
+use mathlib.Core.Bool.{false, not}
+use mathlib.Core.List.{List}
+use Prim.Native.Nat.{ℕ, _+_, _-_, _*_, _<_}
+use native.Mathlib.Omega.{arith}
+use lib.Dec.{eqb}
+use lib.ListN.{length, take, drop, getD, length-drop}
+use lib.Seq.{take-all}
+use borrow.Author.Tests.{le-leb}
+use Rattle.bits.specs.Bits.{bits, field, string, count, rank, select}
+use Rattle.bits.specs.Laws.Rank.{bit-held, rank-inside}
+use Rattle.bits.specs.Laws.Bytes.{length-bits}
+use Rattle.record.specs.Record.{terminals, wires, usedBits, recordLength, unary, fields}
+use Rattle.record.specs.Starts.{startsOf}
+use Rattle.record.specs.Rules.{firstBroken, orderR, spareSet}
+use Rattle.record.specs.Answers.{answered, tried, sizesOf}
+use Rattle.record.specs.Steps.{Sound}
+use Rattle.record.specs.declared.Sizes.{Sizes}
+use Rattle.record.specs.Laws.First.{Shaped, shaped}
+use Rattle.record.specs.Laws.Parts.{start-select}
+use Rattle.record.proofs.Laws.Telling.Told.{untold-back}
+use Rattle.record.specs.Laws.Layout.{fields-at, used-held, length-unary, starts-end}
+
+pub sound-of : (bytes : List ℕ) {n m : ℕ} → firstBroken (orderR bytes) ≡ 0 → n ≡ terminals bytes → m ≡ wires bytes → Sound bytes n m
+unfolding usedBits recordLength
+sound-of bytes f n m =
+    let h = shaped bytes f in
+    let a = h .terminals-fit in
+    let b = h .wires-fit in
+    let c = used-held h in
+    let d = h .sized in
+    record { kept = f; is-n = n; is-m = m; n-fits = omega arith; m-fits = omega arith; held = omega arith; short = omega arith }
+
+-- the sizes that order R hands on
+pub told-sound : (bytes : List ℕ) {s : Sizes} → answered s ≡ tried (orderR bytes) (sizesOf bytes) → Sound bytes (s .n) (s .m)
+told-sound bytes e =
+    let (f, g) = untold-back (firstBroken (orderR bytes)) (sizesOf bytes) e in
+    sound-of bytes f (ap (λ (x : Sizes). x .n) g) (ap (λ (x : Sizes). x .m) g)
+
+module _ {bytes : List ℕ} {n m : ℕ} (s : Sound bytes n m) where
+  pub sound-shaped : Shaped bytes
+  sound-shaped = shaped bytes (s .kept)
+
+  places-are : n + 2 * m ≡ terminals bytes + 2 * wires bytes
+  places-are = let e = s .is-n in let f = s .is-m in omega arith
+
+  unary-is : unary bytes ≡ string bytes 28 (n + 2 * m)
+  unfolding unary
+  unary-is = sym (ap (string bytes 28) places-are)
+
+  pub sound-places : length (unary bytes) ≡ n + 2 * m
+  sound-places = length-unary sound-shaped ∙ sym places-are
+
+  pub sound-ones : count (unary bytes) ≡ n
+  sound-ones = sound-shaped .ones ∙ sym (s .is-n)
+
+  -- a bit of D
+  pub sound-bit : (i : ℕ) → i < n + 2 * m → getD (bits bytes) (28 + i) false ≡ getD (unary bytes) i false
+  sound-bit i h = rw unary-is (sym (bit-held bytes 28 (n + 2 * m) (let f = s .held in omega arith) i h))
+
+  -- the end of the last block, and where another starts
+  pub sound-end : {v : ℕ} → v ≡ n → 2 * m ≡ getD (startsOf (unary bytes)) v 0
+  sound-end e =
+      let f = s .is-m in
+      let g = ap (λ (k : ℕ). getD (startsOf (unary bytes)) k 0) (e ∙ s .is-n) in
+      omega (arith, starts-end sound-shaped)
+
+  pub sound-start : {v r : ℕ} → v < n → r ≡ select (string bytes 28 (n + 2 * m)) (v + 1) → r ≡ getD (startsOf (unary bytes)) v 0 + (v + 1)
+  sound-start {v} h e =
+      e ∙ ap (λ t. select t (v + 1)) (sym unary-is) ∙ sym (start-select (unary bytes) v (omega (arith, sound-ones)))
+
+  -- a field
+  pub sound-field : (p : ℕ) → p < 2 * m → field 12 (bits bytes) (28 + (n + 2 * m) + 12 * p) ≡ getD (fields bytes) p 0
+  sound-field p h =
+      let e = s .is-m in
+      ap (λ (k : ℕ). field 12 (bits bytes) (28 + k + 12 * p)) places-are ∙ sym (fields-at bytes p (omega arith))
+
+  -- rule 5, by the ones of the bits after the used ones
+  pub spare-counted : (spare : ℕ) → spare ≡ 8 * length bytes - (28 + (n + 2 * m) + 12 * (2 * m))
+      → {r : ℕ} → r ≡ rank (string bytes (28 + (n + 2 * m) + 12 * (2 * m)) spare) spare → not (eqb r 0) ≡ spareSet bytes
+  unfolding spareSet usedBits
+  spare-counted spare e {r} er =
+      let used : ℕ = 28 + (n + 2 * m) + 12 * (2 * m) in
+      let h = s .held in
+      let u : usedBits (terminals bytes) (wires bytes) ≡ used = let f = s .is-n in let g = s .is-m in omega arith in
+      let a : rank (string bytes used spare) spare ≡ count (take spare (drop used (bits bytes))) =
+      rank-inside bytes used spare spare (le-leb (used + spare) (8 * length bytes) (omega arith)) (omega arith) in
+      let b : take spare (drop used (bits bytes)) ≡ drop used (bits bytes) = take-all spare (drop used (bits bytes)) (simp length-drop (omega (arith, length-bits bytes))) in
+      rw (er, a, b, u)

@@ -1,0 +1,44 @@
+-- How an answer tells the first broken rule, or that none is broken.
+use mathlib.Core.Path.{_≡_, refl}
+use mathlib.Core.List.{List, _++_}
+use Prim.Native.Nat.{ℕ, zero, suc}
+use native.Mathlib.Omega.{arith}
+use Rattle.record.specs.Rules.{Rule, firstBroken}
+use Rattle.record.specs.Answers.{refused, answered, outcome, tried}
+use Rattle.record.specs.Laws.First.{append-broken}
+
+module _ {A : Type 0} where
+  pub told : {j k : ℕ} (a : A) → j ≡ suc k → refused (suc k) ≡ outcome j a
+  unfolding outcome
+  told a e = rw e
+
+  pub untold : {j : ℕ} (a : A) → j ≡ 0 → answered a ≡ outcome j a
+  unfolding outcome
+  untold a e = rw e
+
+  -- the other way round
+  pub told-back : (j : ℕ) (a : A) {k : ℕ} → refused k ≡ outcome j a → (i : ℕ) × (j ≡ suc i) × (k ≡ suc i)
+  unfolding outcome
+  told-back zero a e = absurd (let z : _≡_ {A = ℕ} 0 1 = cc in omega arith)
+  told-back (suc j) a e = (j, refl, cc)
+
+  pub untold-back : (j : ℕ) (a : A) {b : A} → answered b ≡ outcome j a → (j ≡ 0) × (b ≡ a)
+  unfolding outcome
+  untold-back zero a e = (refl, cc)
+  untold-back (suc j) a e = absurd (let z : _≡_ {A = ℕ} 0 1 = cc in omega arith)
+
+-- a refusal by the first rules is the refusal by all
+pub told-append : {A B : Type 0} (first more : List Rule) (a : A) (b : B) {k : ℕ} → refused k ≡ tried first a → refused k ≡ tried (first ++ more) b
+told-append first more a b e =
+    let (i, f, g) = told-back (firstBroken first) a e in
+    rw g (told b (append-broken first more i f))
+
+-- one list of rules, told by two operations
+module _ {A B : Type 0} (rules : List Rule) (a : A) (b : B) where
+  pub told-same : {k : ℕ} → refused k ≡ tried rules a → refused k ≡ tried rules b
+  told-same e =
+      let (i, f, g) = told-back (firstBroken rules) a e in
+      rw g (told b f)
+
+  pub untold-same : {x : A} → answered x ≡ tried rules a → answered b ≡ tried rules b
+  untold-same e = untold b (untold-back (firstBroken rules) a e .0)

@@ -1,0 +1,71 @@
+-- `blocks::neighbours_in` meets its contract: the part between two starts.
+use native.Mathlib.Omega.{arith}
+use borrow.Author.Needs.{needs}
+use Rattle.record.proofs.Laws.Reading.OneBlock.{zero-outside, past-outside, block-rises, block-ends, no-part, wrong-length, part-is}
+use Rattle.record.proofs.blocks.neighbours_in.Statement.{statement}
+use Rattle.record.proofs.blocks.neighbours_in.Tie as tie
+
+slice-aggregate-result : tie.Need-slice-aggregate-result
+slice-aggregate-result c = search needs
+
+returns : tie.Need-returns
+returns c = no-part (c .before .before .before .before .pre) (c .before .before .before .before .args .v) (c .before .before .before .before .args .list .now) (zero-outside (c .before .before .before .before .pre) (c .before .if1 .taken))
+
+slice-aggregate-result-2 : tie.Need-slice-aggregate-result-2
+slice-aggregate-result-2 c = search needs
+
+returns-2 : tie.Need-returns-2
+returns-2 c = no-part (c .before .before .before .before .before .pre) (c .before .before .before .before .before .args .v) (c .before .before .before .before .before .args .list .now) (past-outside (c .before .before .before .before .before .pre) (c .before .if2 .taken))
+
+mul-if3 : tie.Need-mul-if3
+mul-if3 c = search needs
+
+slice-aggregate-result-3 : tie.Need-slice-aggregate-result-3
+slice-aggregate-result-3 c = search needs
+
+returns-3 : tie.Need-returns-3
+returns-3 c = wrong-length (c .before .before .before .before .before .before .pre) (c .before .before .before .before .before .before .args .v) (c .before .before .before .before .before .before .args .list .now) (c .before .before .before .if1 .left) (c .before .before .if2 .left) (c .before .if3 .taken)
+
+sub-start-of : tie.Need-sub-start-of
+sub-start-of c = search needs
+
+start-of-requires : tie.Need-start-of-requires
+start-of-requires c κs = search needs
+
+start-of-requires-2 : tie.Need-start-of-requires-2
+start-of-requires-2 c κs = search needs
+
+mul-result : tie.Need-mul-result
+mul-result c = let e = block-ends (c .before .before .before .before .before .before .before .pre) (c .before .before .before .before .if1 .left) (c .before .before .before .if2 .left) (c .before .start-of .ensures) (c .start-of2 .ensures) in let r = block-rises (c .before .before .before .before .before .before .before .pre) (c .before .before .before .before .if1 .left) (c .before .before .before .if2 .left) (c .before .start-of .ensures) (c .start-of2 .ensures) in omega arith
+
+sub-result : tie.Need-sub-result
+sub-result c = let r = block-rises (c .before .before .before .before .before .before .before .pre) (c .before .before .before .before .if1 .left) (c .before .before .before .if2 .left) (c .before .start-of .ensures) (c .start-of2 .ensures) in omega arith
+
+part-result-start : tie.Need-part-result-start
+part-result-start c = let e = block-ends (c .before .before .before .before .before .before .before .pre) (c .before .before .before .before .if1 .left) (c .before .before .before .if2 .left) (c .before .start-of .ensures) (c .start-of2 .ensures) in let r = block-rises (c .before .before .before .before .before .before .before .pre) (c .before .before .before .before .if1 .left) (c .before .before .before .if2 .left) (c .before .start-of .ensures) (c .start-of2 .ensures) in omega arith
+
+part-result-end : tie.Need-part-result-end
+part-result-end c = let e = block-ends (c .before .before .before .before .before .before .before .pre) (c .before .before .before .before .if1 .left) (c .before .before .before .if2 .left) (c .before .start-of .ensures) (c .start-of2 .ensures) in let r = block-rises (c .before .before .before .before .before .before .before .pre) (c .before .before .before .before .if1 .left) (c .before .before .before .if2 .left) (c .before .start-of .ensures) (c .start-of2 .ensures) in omega arith
+
+returns-4 : tie.Need-returns-4
+returns-4 c = part-is (c .before .before .before .before .before .before .before .before .pre) (c .before .before .before .before .before .if1 .left) (c .before .before .before .before .if2 .left) (c .before .before .start-of .ensures) (c .before .start-of2 .ensures) (c .before .before .before .before .before .before .before .before .args .list .now) (c .before .before .before .if3 .left)
+
+pub neighbours-in-spec : {M : Type 1} → statement M
+neighbours-in-spec =
+    tie.close
+    (tie.spec
+    slice-aggregate-result
+    returns
+    slice-aggregate-result-2
+    returns-2
+    mul-if3
+    slice-aggregate-result-3
+    returns-3
+    sub-start-of
+    start-of-requires
+    start-of-requires-2
+    mul-result
+    sub-result
+    part-result-start
+    part-result-end
+    returns-4)

@@ -1,0 +1,54 @@
+-- `content::spare_set` meets its contract: fewer than eight bits are left, and their ones are counted.
+use mathlib.Core.Path.{refl}
+use Prim.Native.Nat.{_+_, _-_, _*_}
+use native.Mathlib.Omega.{arith}
+use borrow.Author.Needs.{needs}
+use lib.ListN.{length}
+use Rattle.record.proofs.Laws.Reading.Sounded.{spare-counted}
+use Rattle.record.proofs.content.spare_set.Statement.{statement}
+use Rattle.record.proofs.content.spare_set.Tie as tie
+
+mul-used : tie.Need-mul-used
+mul-used c = search needs
+
+add-used : tie.Need-add-used
+add-used c = search needs
+
+add-used-2 : tie.Need-add-used-2
+add-used-2 c = search needs
+
+mul-used-2 : tie.Need-mul-used-2
+mul-used-2 c = search needs
+
+mul-used-3 : tie.Need-mul-used-3
+mul-used-3 c = search needs
+
+add-used-3 : tie.Need-add-used-3
+add-used-3 c = search needs
+
+mul-spare : tie.Need-mul-spare
+mul-spare c = omega arith
+
+sub-spare : tie.Need-sub-spare
+sub-spare c = omega arith
+
+rank-requires : tie.Need-rank-requires
+rank-requires c κs = search needs
+
+returns : tie.Need-returns
+returns c = spare-counted (c .before .before .pre) (8 * length (c .before .before .args .bytes .now) - (28 + (c .before .before .args .n + 2 * c .before .before .args .m) + 12 * (2 * c .before .before .args .m))) refl (c .rank .ensures)
+
+pub spare-set-spec : {M : Type 1} → statement M
+spare-set-spec =
+    tie.close
+    (tie.spec
+    mul-used
+    add-used
+    add-used-2
+    mul-used-2
+    mul-used-3
+    add-used-3
+    mul-spare
+    sub-spare
+    rank-requires
+    returns)

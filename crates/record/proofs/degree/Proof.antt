@@ -1,0 +1,42 @@
+-- `degree` meets its contract: order R first, and then the block.
+use mathlib.Core.List.{[], _∷_}
+use mathlib.Core.Path.{_∙_, sym, ap}
+use Prim.Native.Nat.{_-_}
+use borrow.Author.Needs.{needs}
+use lib.ListN.{length}
+use Rattle.graph.specs.Graph.{block}
+use Rattle.record.specs.Answers.{shape, sizesOf}
+use Rattle.record.specs.Operations.{noTerminal, degreeRules, degree}
+use Rattle.record.specs.Record.{blocks}
+use Rattle.record.specs.Rules.{orderR}
+use Rattle.record.proofs.Laws.Reading.Sounded.{told-sound}
+use Rattle.record.proofs.Laws.Telling.Told.{told-append}
+use Rattle.record.proofs.degree.Statement.{statement}
+use Rattle.record.proofs.degree.Tie as tie
+
+order-r-requires : tie.Need-order-r-requires
+order-r-requires c κs = search needs
+
+enum-known-r : tie.Need-enum-known-r
+enum-known-r c = search needs
+
+enum-known-s : tie.Need-enum-known-s
+enum-known-s c = search needs
+
+degree-in-requires : tie.Need-degree-in-requires
+degree-in-requires c κs = told-sound (c .before .before .before .before .before .args .bytes .now) (sym (ap shape (c .before .s .given .1)) ∙ c .before .before .before .order-r .ensures)
+
+returns : tie.Need-returns
+unfolding degree degreeRules
+returns c =
+    let bytes = c .before .before .before .before .before .args .bytes .now in
+    let v = c .before .before .before .before .before .args .v .0 in
+    told-append (orderR bytes) ((11, noTerminal bytes v) ∷ []) (sizesOf bytes) (length (block (blocks bytes) (v - 1))) (sym (ap shape (c .before .r .given .1)) ∙ c .before .before .before .order-r .ensures)
+
+returns-2 : tie.Need-returns-2
+returns-2 c = search needs
+
+pub degree-spec : {M : Type 1} → statement M
+degree-spec =
+    tie.close
+    (tie.spec order-r-requires enum-known-r enum-known-s degree-in-requires returns returns-2)

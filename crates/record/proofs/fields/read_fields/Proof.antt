@@ -1,0 +1,66 @@
+-- `fields::read_fields` meets its contract: the list is filled from the front.
+use mathlib.Core.Path.{ap, _∙_, refl}
+use Prim.Native.Nat.{_+_, _-_}
+use native.Mathlib.Omega.{arith}
+use lib.ListN.{length, length-set}
+use Rattle.bits.specs.Bits.{bits}
+use Rattle.record.proofs.Laws.Reading.Unpacked.{Reading, reads-start, reads-more, reads-end}
+use Rattle.record.proofs.fields.read_fields.Statement.{statement}
+use Rattle.record.proofs.fields.read_fields.Tie as tie
+
+abbrev Inv-loop : tie.InvT-loop
+Inv-loop bytes start more list₀ i₀ list i = Reading (bits bytes) start more (length list₀) list i
+
+abbrev μ-loop : tie.MeasureT-loop
+μ-loop bytes start more list₀ i₀ list i = length list - i
+
+loop-holds : tie.Need-loop-holds Inv-loop μ-loop
+loop-holds c = reads-start (bits (c .before .before .args .bytes .now)) (c .before .before .args .start) (c .before .before .args .more) (length (c .before .before .args .list .now)) (c .before .before .args .list .now) refl
+
+mul-read12 : tie.Need-mul-read12 Inv-loop μ-loop
+mul-read12 c = omega arith
+
+add-read12 : tie.Need-add-read12 Inv-loop μ-loop
+add-read12 c = omega arith
+
+read12-requires : tie.Need-read12-requires Inv-loop μ-loop
+read12-requires c κs = omega arith
+
+add-put : tie.Need-add-put Inv-loop μ-loop
+add-put c = omega arith
+
+put-requires : tie.Need-put-requires Inv-loop μ-loop
+put-requires c κs = omega arith
+
+add-i : tie.Need-add-i Inv-loop μ-loop
+add-i c = omega arith
+
+loop-less : tie.Need-loop-less Inv-loop μ-loop
+loop-less c = let e = ap length (c .before .before .put .ensures) ∙ length-set (c .before .before .before .before .before .before .loop .list) (c .before .before .before .before .before .before .loop .i) (c .before .before .before .read12 .result + c .before .before .before .before .before .before .before .before .before .args .more) in omega arith
+
+loop-again : tie.Need-loop-again Inv-loop μ-loop
+loop-again c = reads-more (c .before .before .before .before .before .before .loop .inv) (c .before .before .before .read12 .result) (omega arith) (c .before .before .before .read12 .ensures .0) (c .before .before .put .ensures)
+
+same-length : tie.Need-same-length Inv-loop μ-loop
+same-length c = c .before .loop .inv .size
+
+returns : tie.Need-returns Inv-loop μ-loop
+returns c = reads-end (c .before .loop .inv) (omega arith)
+
+pub read-fields-spec : {M : Type 1} → statement M
+read-fields-spec =
+    tie.close
+    (tie.spec
+    Inv-loop
+    μ-loop
+    loop-holds
+    mul-read12
+    add-read12
+    read12-requires
+    add-put
+    put-requires
+    add-i
+    loop-less
+    loop-again
+    same-length
+    returns)

@@ -1,0 +1,67 @@
+-- `unpack` meets its contract: Check first, then the list's length, and the fields only after both.
+use mathlib.Core.Path.{_∙_, sym, ap}
+use native.Mathlib.Omega.{arith}
+use borrow.Author.Needs.{needs}
+use Rattle.record.specs.Answers.{shape}
+use Rattle.record.specs.Record.{fields}
+use Rattle.record.proofs.Laws.Telling.Accepting.{accepted-kept, accepted-sound, unpack-refused, unpack-misfit, unpack-done}
+use Rattle.record.proofs.Laws.Counting.Contents.{fields-read}
+use Rattle.record.proofs.Laws.Reading.Unpacked.{raised-one}
+use Rattle.record.proofs.unpack.Statement.{statement}
+use Rattle.record.proofs.unpack.Tie as tie
+
+accept-requires : tie.Need-accept-requires
+accept-requires c κs = search needs
+
+enum-known-r : tie.Need-enum-known-r
+enum-known-r c = search needs
+
+enum-known-s : tie.Need-enum-known-s
+enum-known-s c = search needs
+
+mul-if1 : tie.Need-mul-if1
+mul-if1 c = let s = accepted-sound (c .before .before .before .before .before .before .args .bytes .now) (sym (ap shape (c .before .s .given .1)) ∙ c .before .before .before .accept .ensures) in omega arith
+
+returns : tie.Need-returns
+returns c = unpack-misfit (c .before .before .before .before .before .before .before .args .bytes .now) (c .before .before .before .before .before .before .before .args .list .now) (accepted-kept (c .before .before .before .before .before .before .before .args .bytes .now) (sym (ap shape (c .before .before .s .given .1)) ∙ c .before .before .before .before .accept .ensures)) (accepted-sound (c .before .before .before .before .before .before .before .args .bytes .now) (sym (ap shape (c .before .before .s .given .1)) ∙ c .before .before .before .before .accept .ensures) .is-m) (c .if1 .taken)
+
+mul-read-fields : tie.Need-mul-read-fields
+mul-read-fields c = search needs
+
+add-read-fields : tie.Need-add-read-fields
+add-read-fields c = let s = accepted-sound (c .before .before .before .before .before .before .before .args .bytes .now) (sym (ap shape (c .before .before .s .given .1)) ∙ c .before .before .before .before .accept .ensures) in omega arith
+
+add-read-fields-2 : tie.Need-add-read-fields-2
+add-read-fields-2 c = let s = accepted-sound (c .before .before .before .before .before .before .before .args .bytes .now) (sym (ap shape (c .before .before .s .given .1)) ∙ c .before .before .before .before .accept .ensures) in omega arith
+
+read-fields-requires : tie.Need-read-fields-requires
+read-fields-requires c κs = let s = accepted-sound (c .before .before .before .before .before .before .before .before .args .bytes .now) (sym (ap shape (c .before .before .before .s .given .1)) ∙ c .before .before .before .before .before .accept .ensures) in (omega arith, omega arith, omega arith, omega arith)
+
+returns-2 : tie.Need-returns-2
+returns-2 c = unpack-refused (c .before .before .before .before .before .before .args .bytes .now) (c .before .before .before .before .before .before .args .list .now) (sym (ap shape (c .before .r .given .1)) ∙ c .before .before .before .accept .ensures)
+
+same-length : tie.Need-same-length
+same-length c = search needs
+
+returns-3 : tie.Need-returns-3
+returns-3 c =
+    let e = (sym (ap shape (c .before .before .before .before .before .before .s .given .1)) ∙ c .before .before .before .before .before .before .before .before .accept .ensures) in
+    let s = accepted-sound (c .before .before .before .before .before .before .before .before .before .before .before .args .bytes .now) e in
+    unpack-done (c .before .before .before .before .before .before .before .before .before .before .before .args .bytes .now) (c .before .before .before .before .before .before .before .before .before .before .before .args .list .now) (accepted-kept (c .before .before .before .before .before .before .before .before .before .before .before .args .bytes .now) e) (s .is-m) (c .before .before .before .before .if1 .left) (c .before .before .read-fields .ensures ∙ fields-read s 1 (c .before .before .before .before .if1 .left) ∙ raised-one (fields (c .before .before .before .before .before .before .before .before .before .before .before .args .bytes .now)))
+
+pub unpack-spec : {M : Type 1} → statement M
+unpack-spec =
+    tie.close
+    (tie.spec
+    accept-requires
+    enum-known-r
+    enum-known-s
+    mul-if1
+    returns
+    mul-read-fields
+    add-read-fields
+    add-read-fields-2
+    read-fields-requires
+    returns-2
+    same-length
+    returns-3)

@@ -1,0 +1,29 @@
+// The neighbour fields.
+ghost use mathlib.Core.Path.{_≡_};
+ghost use mathlib.Core.List.{map};
+ghost use Prim.Native.Nat.{_+_, _*_, _≤_, _<_};
+ghost use lib.ListN.{length, getD};
+ghost use Rattle.bits.specs.Bits.{bits as bitsOf};
+ghost use Rattle.record.specs.Record.{fieldsFrom, fields as fieldsOf};
+ghost use Rattle.record.specs.Steps.{Sound};
+use super::cells::put;
+
+// Field p, from 0.
+pub fn field(bytes: &[u8], n: usize, m: usize, p: usize) -> usize
+    requires { ⌜ (Sound (now bytes) n m) × (p < 2 * m) ⌝ }
+    ensures { λ r. ⌜ (r ≡ getD (fieldsOf (now (bytes .entry))) p 0) × (r < 4096) ⌝ }
+{
+    bits::fields::read12(bytes, 28 + (n + 2 * m) + 12 * p)
+}
+
+// The fields from bit `start` on, each with `more` added, as many as the list has room for.
+pub fn read_fields(bytes: &[u8], start: usize, more: usize, list: &mut [u16])
+    requires { ⌜ (start + 12 * length (now list) ≤ 8 * length (now bytes)) × (more ≤ 1) × (length (now list) ≤ 32768) × (start ≤ 65536) ⌝ }
+    ensures { λ _. ⌜ now (list .exit) ≡ map (λ x. x + more) (fieldsFrom (bitsOf (now (bytes .entry))) start (length (now (list .entry)))) ⌝ }
+{
+    let mut i = 0;
+    while i < list.len() {
+        put(list, i, bits::fields::read12(bytes, start + 12 * i) + more);
+        i += 1;
+    }
+}

@@ -1,0 +1,150 @@
+// Records (document 01, "Record"): checking, and the questions that need the record alone. No operation has a precondition.
+ghost use mathlib.Core.Path.{_≡_};
+ghost use Rattle.record.specs.Rules.{checkRules};
+ghost use Rattle.record.specs.Answers.{verdict, counted, figure, shape, tried, sizesOf};
+ghost use Rattle.record.specs.Operations.{check as checkOf, degree as degreeOf, unpack as unpackOf, unpacked, neighbours as neighboursOf, loopFigure};
+
+pub mod cells; // cells.rt: cells of 16 bits
+pub mod header; // header.rt: the header, and order R
+pub mod starts; // starts.rt: where the blocks start
+pub mod fields; // fields.rt: the neighbour fields
+mod strays; // strays.rt: rule 6
+mod doubles; // doubles.rt: rule 7
+mod sides; // sides.rt: rule 8
+mod blocks; // blocks.rt: one block
+mod content; // content.rt: rules 5 to 8
+
+// A terminal number, from 1: document 01's vertex label.
+pub struct Vertex(pub usize);
+
+// Why a call refuses. Document 01 numbers these cases from 1 in this order.
+pub enum Refusal {
+    TooShort,
+    OverLimit,
+    WrongLength,
+    BadUnary,
+    SpareSet,
+    StrayNeighbour,
+    DoubledNeighbour,
+    OneSidedWire,
+    ShortWork,
+    WrongBuffer,
+    NoTerminal,
+    BadIndex,
+    NoChild,
+}
+
+// Nothing is refused, or why.
+pub enum Verdict {
+    Accepted,
+    Refused(Refusal),
+}
+
+pub enum Counted {
+    Count(usize),
+    Refused(Refusal),
+}
+
+pub enum Figure {
+    Loops(i32),
+    Refused(Refusal),
+}
+
+// The numbers of terminals and of wires.
+pub struct Sizes {
+    pub n: usize,
+    pub m: usize,
+}
+
+// The sizes of a record that order R lets pass.
+pub enum Shape {
+    Sound(Sizes),
+    Refused(Refusal),
+}
+
+// Check, with the sizes of an accepted record handed on.
+pub fn accept(bytes: &[u8]) -> Shape
+    ensures { λ r. ⌜ shape r ≡ tried (checkRules (now (bytes .entry))) (sizesOf (now (bytes .entry))) ⌝ }
+{
+    match header::order_r(bytes) {
+        Shape::Refused(r) => Shape::Refused(r),
+        Shape::Sound(s) => {
+            let n = s.n;
+            let m = s.m;
+            content::content(bytes, n, m)
+        }
+    }
+}
+
+// Check: whether the record is accepted.
+pub fn check(bytes: &[u8]) -> Verdict
+    ensures { λ r. ⌜ verdict r ≡ checkOf (now (bytes .entry)) ⌝ }
+{
+    match accept(bytes) {
+        Shape::Refused(r) => Verdict::Refused(r),
+        Shape::Sound(_) => Verdict::Accepted,
+    }
+}
+
+// Loop figure: m − n + 1, which can fall below zero.
+pub fn loop_figure(bytes: &[u8]) -> Figure
+    ensures { λ r. ⌜ figure r ≡ loopFigure (now (bytes .entry)) ⌝ }
+{
+    match accept(bytes) {
+        Shape::Refused(r) => Figure::Refused(r),
+        Shape::Sound(s) => {
+            let n = s.n;
+            let more = s.m + 1;
+            Figure::Loops(more as i32 - n as i32)
+        }
+    }
+}
+
+// Unpack: writes the neighbour numbers, from 1, to a list of 2·m numbers. A refused call leaves the list as it was.
+pub fn unpack(bytes: &[u8], list: &mut [u16]) -> Verdict
+    ensures { λ r. ⌜ (verdict r ≡ unpackOf (now (bytes .entry)) (now (list .entry))) × (now (list .exit) ≡ unpacked (now (bytes .entry)) (now (list .entry))) ⌝ }
+{
+    match accept(bytes) {
+        Shape::Refused(r) => Verdict::Refused(r),
+        Shape::Sound(s) => {
+            let n = s.n;
+            let m = s.m;
+            if list.len() != 2 * m {
+                return Verdict::Refused(Refusal::WrongBuffer);
+            }
+            fields::read_fields(bytes, 28 + (n + 2 * m), 1, list);
+            Verdict::Accepted
+        }
+    }
+}
+
+// Degree: how many wires terminal v has.
+pub fn degree(bytes: &[u8], v: Vertex) -> Counted
+    ensures { λ r. ⌜ counted r ≡ degreeOf (now (bytes .entry)) (v .0) ⌝ }
+{
+    let t = v.0;
+    match header::order_r(bytes) {
+        Shape::Refused(r) => Counted::Refused(r),
+        Shape::Sound(s) => {
+            let n = s.n;
+            let m = s.m;
+            blocks::degree_in(bytes, n, m, t)
+        }
+    }
+}
+
+// Neighbours: the part of the caller's unpacked list that is terminal v's block; the empty part at the front where Degree refuses or the list
+// is not 2·m long.
+pub fn neighbours<'a, 'b>(bytes: &'a [u8], list: &'b [u16], v: Vertex) -> &'b [u16]
+    ensures { λ r. ⌜ now r ≡ neighboursOf (now (bytes .entry)) (now (list .entry)) (v .0) ⌝ }
+{
+    let t = v.0;
+    match header::order_r(bytes) {
+        Shape::Refused(_) => &list[..0],
+        Shape::Sound(s) => {
+            let n = s.n;
+            let m = s.m;
+            blocks::neighbours_in(bytes, list, n, m, t)
+        }
+    }
+}
