@@ -1,0 +1,276 @@
+"""Compares the stored output of the program record_vectors with a plain computation, written from document 01's words alone.
+
+The stored output is what `rt ci` holds the proved program to. Here each record is packed from its blocks, damaged where it must be, and
+asked by counting over lists of bits and numbers. With an argument it prints the lines instead.
+"""
+import sys
+from pathlib import Path
+
+STORED = Path(__file__).parent.parent / "crates" / "record_vectors" / "stdout"
+
+SAMPLE = [[3, 2], [1, 3], [2, 4, 1], [3], [6], [5]]
+WIRE = [[2], [1]]
+TRIANGLE = [[2, 3], [1, 3], [1, 2]]
+
+
+# Packing
+
+def binary(value, width):
+    return [int(c) for c in f"{value:0{width}b}"]
+
+
+def number(bits):
+    return int("".join(map(str, bits)) or "0", 2)
+
+
+def packed(bits):
+    """The bytes of the bits, most significant first, with zero bits to the end of the last byte."""
+    full = bits + [0] * (-len(bits) % 8)
+    return bytes(number(full[i : i + 8]) for i in range(0, len(full), 8))
+
+
+def layout(n, m, d, fields):
+    return packed(binary(n, 13) + binary(m, 15) + d + [bit for field in fields for bit in binary(field, 12)])
+
+
+def unary(blocks):
+    return [bit for block in blocks for bit in [1] + [0] * len(block)]
+
+
+def record(blocks):
+    """The record of these blocks of neighbour numbers, whatever rules they break."""
+    listed = [w for block in blocks for w in block]
+    assert len(listed) % 2 == 0
+    return layout(len(blocks), len(listed) // 2, unary(blocks), [w - 1 for w in listed])
+
+
+def bits_of(data):
+    return [byte >> (7 - i) & 1 for byte in data for i in range(8)]
+
+
+def flipped(data, *places):
+    """The bytes with the bits at these places turned over; places count from 1, or back from -1, the last bit."""
+    bits = bits_of(data)
+    for place in places:
+        i = place - 1 if place > 0 else place
+        bits[i] = 1 - bits[i]
+    return packed(bits)
+
+
+# The parts of a record
+
+def sizes(data):
+    bits = bits_of(data)
+    return number(bits[:13]), number(bits[13:28])
+
+
+def parts(data):
+    """D, the fields and the spare bits."""
+    n, m = sizes(data)
+    rest = bits_of(data)[28:]
+    d, rest = rest[: n + 2 * m], rest[n + 2 * m :]
+    fields = [number(rest[12 * i : 12 * i + 12]) for i in range(2 * m)]
+    return d, fields, rest[24 * m :]
+
+
+def blocks_of(data):
+    """The neighbour numbers of each block: a one of D opens a block, a zero takes the next field."""
+    d, fields, _ = parts(data)
+    blocks, taken = [], 0
+    for bit in d:
+        if bit:
+            blocks.append([])
+        else:
+            blocks[-1].append(fields[taken] + 1)
+            taken += 1
+    return blocks
+
+
+# Refusals: the number, or 0 where nothing is refused
+
+def order_r(data):
+    if len(data) < 4:
+        return 1
+    n, m = sizes(data)
+    if n > 4096 or m > 16384:
+        return 2
+    if 8 * len(data) not in range(28 + n + 26 * m, 28 + n + 26 * m + 8):
+        return 3
+    d = parts(data)[0]
+    if d.count(1) != n or d[:1] == [0]:
+        return 4
+    return 0
+
+
+def check(data):
+    if order_r(data):
+        return order_r(data)
+    n = sizes(data)[0]
+    if 1 in parts(data)[2]:
+        return 5
+    blocks = blocks_of(data)
+    listings = [(v, w) for v, block in enumerate(blocks, 1) for w in block]
+    if any(w > n or w == v for v, w in listings):
+        return 6
+    if any(block.count(w) > 1 for block in blocks for w in block):
+        return 7
+    if any((w, v) not in listings for v, w in listings):
+        return 8
+    return 0
+
+
+def degree_refusal(data, v):
+    return order_r(data) or (0 if 1 <= v <= sizes(data)[0] else 11)
+
+
+def unpack_refusal(data, length):
+    return check(data) or (0 if length == 2 * sizes(data)[1] else 10)
+
+
+# Operations
+
+def told(refusal, value):
+    return f"refused {refusal}" if refusal else str(value)
+
+
+def degree(data, v):
+    refusal = degree_refusal(data, v)
+    return told(refusal, None if refusal else len(blocks_of(data)[v - 1]))
+
+
+def unpacked(data, given):
+    """The list after Unpack."""
+    if unpack_refusal(data, len(given)):
+        return given
+    return [w for block in blocks_of(data) for w in block]
+
+
+def neighbours(data, given, v):
+    if degree_refusal(data, v) or len(given) != 2 * sizes(data)[1]:
+        return []
+    blocks = blocks_of(data)
+    start = sum(len(block) for block in blocks[: v - 1])
+    return given[start : start + len(blocks[v - 1])]
+
+
+def loop_figure(data):
+    refusal = check(data)
+    n, m = (0, 0) if refusal else sizes(data)
+    return told(refusal, m - n + 1)
+
+
+# The lines
+
+def row(start, numbers):
+    return " ".join([start] + [str(k) for k in numbers])
+
+
+def ask_list(name, data, length, vertices):
+    given = [901 + i for i in range(length)]
+    after = unpacked(data, given)
+    yield row(f"{name} unpack {length}: {told(unpack_refusal(data, length), 'accepted')},", after)
+    for v in vertices:
+        yield row(f"{name} neighbours {length} {v}:", neighbours(data, after, v))
+
+
+def ask(name, data, n, m):
+    """All calls on one record, n and m being the sizes to ask with."""
+    yield f"{name} check: {told(check(data), 'accepted')}"
+    for v in range(n + 2):
+        yield f"{name} degree {v}: {degree(data, v)}"
+    yield from ask_list(name, data, 2 * m, range(n + 2))
+    if m > 0:
+        yield from ask_list(name, data, 2 * m - 1, [1])
+    yield from ask_list(name, data, 2 * m + 1, [1])
+    yield f"{name} loops: {loop_figure(data)}"
+
+
+def records():
+    """Name, bytes and the sizes to ask with."""
+    # accepted
+    for name, blocks in (
+        ("sample", SAMPLE),
+        ("empty", []),
+        ("single", [[]]),
+        ("isolated", [[], [], [], []]),
+        ("wire", WIRE),
+        ("triangle", TRIANGLE),
+        ("star", [[2, 3, 4, 5], [1], [1], [1], [1]]),
+        ("hub", [[4], [4], [4], [3, 1, 2]]),
+        ("components", [[2], [1], [4, 5], [5, 3], [3, 4]]),
+        ("apart", [[], [4], [], [2], []]),
+    ):
+        yield name, record(blocks), len(blocks), sum(map(len, blocks)) // 2
+    # 1
+    yield "none", b"", 1, 1
+    yield "one_byte", record(SAMPLE)[:1], 1, 1
+    yield "two_bytes", record(SAMPLE)[:2], 1, 1
+    yield "three_bytes", record([])[:3], 0, 0
+    # 2, and the limits themselves, which only have a wrong length
+    yield "wide", layout(4097, 0, [], []), 1, 0
+    yield "wide_limit", layout(4096, 0, [], []), 1, 0
+    yield "wired", layout(0, 16385, [], []), 0, 1
+    yield "wired_limit", layout(0, 16384, [], []), 0, 1
+    yield "all_ones", b"\xff" * 4, 1, 1
+    # 3
+    yield "sample_short", record(SAMPLE)[:-1], 6, 5
+    yield "sample_long", record(SAMPLE) + b"\0", 6, 5
+    yield "empty_long", record([]) + b"\0", 0, 0
+    # 4: the ones of D are the bits 29, 32, 35, 39, 41 and 43 of the sample, and 29 and 31 of the wire
+    yield "few_ones", flipped(record(SAMPLE), 43), 6, 5
+    yield "many_ones", flipped(record(SAMPLE), 44), 6, 5
+    yield "zero_first", flipped(record(WIRE), 29, 30), 2, 1
+    yield "no_ones", layout(0, 1, [0, 0], [0, 0]), 0, 1
+    # 5
+    yield "spare_last", flipped(record(SAMPLE), -1), 6, 5
+    yield "spare_first", flipped(record(TRIANGLE), -3), 3, 3
+    yield "spare_single", flipped(record([[]]), -2), 1, 0
+    # 6
+    yield "over", record([[3], [1]]), 2, 1
+    yield "far_over", record([[2], [4096]]), 2, 1
+    yield "own", record([[1], [2]]), 2, 1
+    yield "own_last", record(SAMPLE[:5] + [[6]]), 6, 5
+    # 7
+    yield "doubled", record([[2, 2], [1, 1]]), 2, 2
+    yield "doubled_last", record([[3, 2], [1, 3], [1, 2, 1, 2]]), 3, 4
+    # 8
+    yield "one_sided", record([[2, 3], [1], [2]]), 3, 2
+    yield "round", record([[2], [3], [4], [1]]), 4, 2
+    # several rules at once
+    yield "3_and_4", flipped(record(SAMPLE), 43)[:-1], 6, 5
+    yield "4_and_5", flipped(record(SAMPLE), 43, -1), 6, 5
+    yield "5_and_6", flipped(record([[2, 9], [1, 3], [1, 2]]), -1), 3, 3
+    yield "6_after_7", record([[2, 2], [1, 3]]), 2, 2
+    yield "7_after_8", record([[2], [], [2, 1, 2]]), 3, 2
+    yield "5_to_8", flipped(record([[2, 2, 3], [1], [3, 9]]), -1), 3, 3
+
+
+def lines():
+    for name, data, n, m in records():
+        yield from ask(name, data, n, m)
+    widest = record([[]] * 4096)
+    yield from ask("widest", widest, 0, 0)
+    for v in (4096, 4097):
+        yield f"widest degree {v}: {degree(widest, v)}"
+
+
+def compare():
+    """Prints each line that differs, and the tally."""
+    found = STORED.read_text().splitlines()
+    expected = list(lines())
+    wrong = 0
+    for i in range(max(len(found), len(expected))):
+        pair = [texts[i] if i < len(texts) else "nothing" for texts in (expected, found)]
+        if pair[0] != pair[1]:
+            wrong += 1
+            print(f"line {i + 1}: expected {pair[0]}, stored {pair[1]}")
+    print(f"{len(expected)} lines of {STORED.name} compared")
+    print(f"{0 if wrong else 1} passed, {1 if wrong else 0} failed")
+    return 1 if wrong else 0
+
+
+if __name__ == "__main__":
+    if len(sys.argv) > 1:
+        print("\n".join(lines()))
+    else:
+        sys.exit(compare())
