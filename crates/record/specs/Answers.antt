@@ -60,9 +60,9 @@ abbrev pub figure : Figure → Answer ℤ
 figure (Figure.Loops z) = answered z
 figure (Figure.Refused r) = refused (number r)
 
--- the sizes of a record that order R lets pass
+-- the sizes of a record that passed the rules that were tried
 abbrev pub shape : Shape → Answer Sizes
-shape (Shape.Sound s) = answered s
+shape (Shape.Passed s) = answered s
 shape (Shape.Refused r) = refused (number r)
 
 abbrev pub sizesOf : List ℕ → Sizes

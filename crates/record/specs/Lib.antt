@@ -8,4 +8,4 @@ pub mod Answers
 pub mod Operations
 pub mod Laws
 pub mod Steps
-mod Examples
+pub mod Examples

@@ -4,18 +4,19 @@ use mathlib.Core.List.{List, [], _∷_, _++_, map}
 use Prim.Native.Nat.{ℕ, suc, _+_, _-_, _*_}
 use lib.Dec.{eqb, ltb}
 use lib.IntN.{ℤ, subℕ}
-use lib.ListN.{length}
+use lib.ListN.{length, getD}
 use mathlib.Core.Path.{_≡_}
 use Rattle.graph.specs.Graph.{block}
 use Rattle.record.specs.Record.{terminals, wires, unary, fields, parts, blocks}
+use Rattle.record.specs.Starts.{startsOf}
 use Rattle.record.specs.Rules.{Rule, firstBroken, orderR, checkRules}
 use Rattle.record.specs.Answers.{Answer, tried}
 
--- a list is not of this length
-unfoldable pub notLong : List ℕ → ℕ → Bool
-notLong l k = not (eqb (length l) k)
+-- a list has another length than this
+unfoldable pub otherLength : List ℕ → ℕ → Bool
+otherLength l k = not (eqb (length l) k)
 
--- a number from 1 is no terminal
+-- v is 0 or above n: no terminal
 unfoldable pub noTerminal : List ℕ → ℕ → Bool
 noTerminal bytes v = eqb v 0 || ltb (terminals bytes) v
 
@@ -36,7 +37,7 @@ degree bytes v = tried (degreeRules bytes v) (length (block (blocks bytes) (v - 
 
 -- Unpack: its answer, and the list afterwards
 unfoldable pub unpackRules : List ℕ → List ℕ → List Rule
-unpackRules bytes list = checkRules bytes ++ ((10, notLong list (2 * wires bytes)) ∷ [])
+unpackRules bytes list = checkRules bytes ++ ((10, otherLength list (2 * wires bytes)) ∷ [])
 
 unfoldable pub unpack : List ℕ → List ℕ → Answer (Unit {0})
 unpack bytes list = tried (unpackRules bytes list) tt
@@ -44,10 +45,21 @@ unpack bytes list = tried (unpackRules bytes list) tt
 unfoldable pub unpacked : List ℕ → List ℕ → List ℕ
 unpacked bytes list = elim (eqb (firstBroken (unpackRules bytes list)) 0) [ true ↦ map suc (fields bytes) | false ↦ list ]
 
--- Neighbours: the part of the list that belongs to v's block; the empty part where Degree refuses or the list is not 2·m long
+-- Neighbours refuses, without a number, where Degree does or the list is not 2·m long
+unfoldable pub neighboursGiven : List ℕ → List ℕ → ℕ → Bool
+neighboursGiven bytes list v = eqb (firstBroken (degreeRules bytes v)) 0 && not (otherLength list (2 * wires bytes))
+
+-- the part of the list that belongs to v's block; a refusal is the empty part at the front
 unfoldable pub neighbours : List ℕ → List ℕ → ℕ → List ℕ
-neighbours bytes list v =
-    elim (eqb (firstBroken (degreeRules bytes v)) 0 && not (notLong list (2 * wires bytes))) [ true ↦ block (parts (unary bytes) list) (v - 1) | false ↦ [] ]
+neighbours bytes list v = elim (neighboursGiven bytes list v) [ true ↦ block (parts (unary bytes) list) (v - 1) | false ↦ [] ]
+
+-- how many numbers of the list stand before that part
+unfoldable pub neighboursBefore : List ℕ → List ℕ → ℕ → ℕ
+neighboursBefore bytes list v = elim (neighboursGiven bytes list v) [ true ↦ getD (startsOf (unary bytes)) (v - 1) 0 | false ↦ 0 ]
+
+-- the address of a list of 16-bit numbers (a block of memory, and a byte in it), k numbers further on
+abbrev pub further : ℕ × ℕ → ℕ → ℕ × ℕ
+further a k = (a .0, k * 2 + a .1)
 
 -- Loop figure: m − n + 1, a signed number
 unfoldable pub loopFigure : List ℕ → Answer ℤ

@@ -68,9 +68,9 @@ fieldBits [] = []
 fieldBits (x ∷ xs) = toBits 12 x ++ fieldBits xs
 
 -- the used bits of the record of some blocks: n, m, D and the fields
-unfoldable pub content : Blocks → List Bool
-content g = toBits 13 (length g) ++ (toBits 15 (length (flatten g) / 2) ++ (unaryOf g ++ fieldBits (flatten g)))
+unfoldable pub recordBits : Blocks → List Bool
+recordBits g = toBits 13 (length g) ++ (toBits 15 (length (flatten g) / 2) ++ (unaryOf g ++ fieldBits (flatten g)))
 
 -- the record of some blocks
 unfoldable pub recordOf : Blocks → List ℕ
-recordOf g = pack (content g)
+recordOf g = pack (recordBits g)

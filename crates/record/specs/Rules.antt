@@ -31,11 +31,12 @@ orderR bytes =
     ∷ (4, not (eqb (count (unary bytes)) (terminals bytes)) || beginsWithZero (unary bytes))
     ∷ []
 
--- a test of a terminal u and a neighbour v holds at some place of the blocks; the first block is terminal u's
+-- a test holds for some neighbour of a block
 unfoldable pub anyIn : (ℕ → Bool) → List ℕ → Bool
 anyIn test [] = false
 anyIn test (v ∷ l) = test v || anyIn test l
 
+-- a test of a terminal u and a neighbour v holds at some place of the blocks; the first block is terminal u's
 unfoldable pub anyFrom : (ℕ → ℕ → Bool) → ℕ → Blocks → Bool
 anyFrom test u [] = false
 anyFrom test u (b ∷ g) = anyIn (test u) b || anyFrom test (suc u) g
@@ -55,11 +56,11 @@ stray g u v = leb (length g) v || eqb v u
 unfoldable pub doubled : Blocks → ℕ → ℕ → Bool
 doubled g u v = ltb 1 (mentions v (block g u))
 
--- a wire listed at one end only: the two ends mention each other a different number of times
+-- a wire listed at one end only: the two ends mention each other a different number of times. Where rule 7 is kept, each count is 0 or 1
 unfoldable pub oneSided : Blocks → ℕ → ℕ → Bool
 oneSided g u v = not (eqb (mentions v (block g u)) (mentions u (block g v)))
 
--- Check: order R, and then the rules of the content, each over the whole record
+-- Check: order R, and then rules 5 to 8, each over the whole record
 unfoldable pub checkRules : List ℕ → List Rule
 checkRules bytes =
     orderR bytes

@@ -1,7 +1,7 @@
 // One block, found by select: its degree, and its part of a list.
 ghost use mathlib.Core.Path.{_≡_};
 ghost use Rattle.record.specs.Answers.{counted};
-ghost use Rattle.record.specs.Operations.{degree as degreeOf, neighbours as neighboursOf};
+ghost use Rattle.record.specs.Operations.{degree as degreeOf, neighbours as neighboursOf, neighboursBefore, further};
 ghost use Rattle.record.specs.Steps.{Sound};
 use super::Counted;
 use super::Refusal;
@@ -30,7 +30,7 @@ pub fn neighbours_in<'a, 'b>(
     v: usize,
 ) -> &'b [u16]
     requires { ⌜ Sound (now bytes) n m ⌝ }
-    ensures { λ r. ⌜ now r ≡ neighboursOf (now (bytes .entry)) (now (list .entry)) v ⌝ }
+    ensures { λ r. ⌜ (now r ≡ neighboursOf (now (bytes .entry)) (now (list .entry)) v) × (r .ptr ≡ further (list .entry .ptr) (neighboursBefore (now (bytes .entry)) (now (list .entry)) v)) ⌝ }
 {
     if v == 0 {
         return &list[..0];

@@ -41,7 +41,7 @@ fn places(bytes: &[u8], n: usize, m: usize, starts: &mut [u16], nbrs: &mut [u16]
     if some_one_sided(starts, nbrs) {
         return Shape::Refused(Refusal::OneSidedWire);
     }
-    Shape::Sound(Sizes { n, m })
+    Shape::Passed(Sizes { n, m })
 }
 
 // Rules 5 to 8.

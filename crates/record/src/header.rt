@@ -60,5 +60,5 @@ pub fn order_r(bytes: &[u8]) -> Shape
     if bad_unary(bytes, n, m) {
         return Shape::Refused(Refusal::BadUnary);
     }
-    Shape::Sound(Sizes { n, m })
+    Shape::Passed(Sizes { n, m })
 }

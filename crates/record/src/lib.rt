@@ -1,8 +1,9 @@
-// Records (document 01, "Record"): checking, and the questions that need the record alone. No operation has a precondition.
+// Records (document 01, "Record"): checking, and the questions that need the record alone. No operation of this file has a precondition; the
+// functions of the public modules, which are for the crates above, have.
 ghost use mathlib.Core.Path.{_≡_};
 ghost use Rattle.record.specs.Rules.{checkRules};
 ghost use Rattle.record.specs.Answers.{verdict, counted, figure, shape, tried, sizesOf};
-ghost use Rattle.record.specs.Operations.{check as checkOf, degree as degreeOf, unpack as unpackOf, unpacked, neighbours as neighboursOf, loopFigure};
+ghost use Rattle.record.specs.Operations.{check as checkOf, degree as degreeOf, unpack as unpackOf, unpacked, neighbours as neighboursOf, neighboursBefore, further, loopFigure};
 
 pub mod cells; // cells.rt: cells of 16 bits
 pub mod header; // header.rt: the header, and order R
@@ -56,9 +57,9 @@ pub struct Sizes {
     pub m: usize,
 }
 
-// The sizes of a record that order R lets pass.
+// The sizes of a record that passed the rules that were tried, or why it did not.
 pub enum Shape {
-    Sound(Sizes),
+    Passed(Sizes),
     Refused(Refusal),
 }
 
@@ -68,7 +69,7 @@ pub fn accept(bytes: &[u8]) -> Shape
 {
     match header::order_r(bytes) {
         Shape::Refused(r) => Shape::Refused(r),
-        Shape::Sound(s) => {
+        Shape::Passed(s) => {
             let n = s.n;
             let m = s.m;
             content::content(bytes, n, m)
@@ -82,7 +83,7 @@ pub fn check(bytes: &[u8]) -> Verdict
 {
     match accept(bytes) {
         Shape::Refused(r) => Verdict::Refused(r),
-        Shape::Sound(_) => Verdict::Accepted,
+        Shape::Passed(_) => Verdict::Accepted,
     }
 }
 
@@ -92,7 +93,7 @@ pub fn loop_figure(bytes: &[u8]) -> Figure
 {
     match accept(bytes) {
         Shape::Refused(r) => Figure::Refused(r),
-        Shape::Sound(s) => {
+        Shape::Passed(s) => {
             let n = s.n;
             let more = s.m + 1;
             Figure::Loops(more as i32 - n as i32)
@@ -106,7 +107,7 @@ pub fn unpack(bytes: &[u8], list: &mut [u16]) -> Verdict
 {
     match accept(bytes) {
         Shape::Refused(r) => Verdict::Refused(r),
-        Shape::Sound(s) => {
+        Shape::Passed(s) => {
             let n = s.n;
             let m = s.m;
             if list.len() != 2 * m {
@@ -125,7 +126,7 @@ pub fn degree(bytes: &[u8], v: Vertex) -> Counted
     let t = v.0;
     match header::order_r(bytes) {
         Shape::Refused(r) => Counted::Refused(r),
-        Shape::Sound(s) => {
+        Shape::Passed(s) => {
             let n = s.n;
             let m = s.m;
             blocks::degree_in(bytes, n, m, t)
@@ -136,12 +137,12 @@ pub fn degree(bytes: &[u8], v: Vertex) -> Counted
 // Neighbours: the part of the caller's unpacked list that is terminal v's block; the empty part at the front where Degree refuses or the list
 // is not 2·m long.
 pub fn neighbours<'a, 'b>(bytes: &'a [u8], list: &'b [u16], v: Vertex) -> &'b [u16]
-    ensures { λ r. ⌜ now r ≡ neighboursOf (now (bytes .entry)) (now (list .entry)) (v .0) ⌝ }
+    ensures { λ r. ⌜ (now r ≡ neighboursOf (now (bytes .entry)) (now (list .entry)) (v .0)) × (r .ptr ≡ further (list .entry .ptr) (neighboursBefore (now (bytes .entry)) (now (list .entry)) (v .0))) ⌝ }
 {
     let t = v.0;
     match header::order_r(bytes) {
         Shape::Refused(_) => &list[..0],
-        Shape::Sound(s) => {
+        Shape::Passed(s) => {
             let n = s.n;
             let m = s.m;
             blocks::neighbours_in(bytes, list, n, m, t)

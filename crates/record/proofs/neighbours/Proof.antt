@@ -2,7 +2,7 @@
 use mathlib.Core.Path.{_∙_, sym, ap}
 use borrow.Author.Needs.{needs}
 use Rattle.record.specs.Answers.{shape}
-use Rattle.record.proofs.Laws.Reading.OneBlock.{order-refused}
+use Rattle.record.proofs.Laws.Reading.OneBlock.{order-ungiven, front}
 use Rattle.record.proofs.Laws.Reading.Sounded.{told-sound}
 use Rattle.record.proofs.neighbours.Statement.{statement}
 use Rattle.record.proofs.neighbours.Tie as tie
@@ -23,7 +23,7 @@ neighbours-in-requires : tie.Need-neighbours-in-requires
 neighbours-in-requires c κs = told-sound (c .before .before .before .before .before .before .args .bytes .now) (sym (ap shape (c .before .s .given .1)) ∙ c .before .before .before .order-r .ensures)
 
 returns : tie.Need-returns
-returns c = order-refused (c .before .before .before .before .before .before .args .bytes .now) (c .before .before .before .before .before .before .args .list .now) (c .before .before .before .before .before .before .args .v .0) (sym (ap shape (c .before .enum-told .given .1)) ∙ c .before .before .before .order-r .ensures)
+returns c = front (c .before .before .before .before .before .before .args .bytes .now) (c .before .before .before .before .before .before .args .list .now) (c .before .before .before .before .before .before .args .v .0) (c .before .before .before .before .before .before .args .list .ptr) (order-ungiven (c .before .before .before .before .before .before .args .bytes .now) (c .before .before .before .before .before .before .args .list .now) (c .before .before .before .before .before .before .args .v .0) (sym (ap shape (c .before .enum-told .given .1)) ∙ c .before .before .before .order-r .ensures))
 
 returns-2 : tie.Need-returns-2
 returns-2 c = search needs

@@ -17,7 +17,7 @@ use Rattle.bits.specs.Laws.Fields.{field-laid}
 use Rattle.bits.specs.Laws.Packing.{length-pack, bits-pack, pack-bytes, bits-injective}
 use Rattle.bits.specs.Laws.Rank.{held}
 use Rattle.graph.specs.Graph.{Blocks, Place}
-use Rattle.record.specs.Record.{terminals, wires, usedBits, recordLength, unary, fields, parts, blocks, unaryOf, fieldBits, content, recordOf}
+use Rattle.record.specs.Record.{terminals, wires, usedBits, recordLength, unary, fields, parts, blocks, unaryOf, fieldBits, recordBits, recordOf}
 use Rattle.record.specs.Rules.{beginsWithZero, spareSet}
 use Rattle.record.specs.Operations.{Accepted}
 use Rattle.record.specs.Laws.First.{Shaped, checked}
@@ -74,14 +74,14 @@ module _ {bytes : List ℕ} (s : Shaped bytes) where
   fields-bits = ap fieldBits flatten-blocks ∙ fieldBits-from (bits bytes) (28 + (terminals bytes + 2 * wires bytes)) (2 * wires bytes) room
 
   -- the used bits are what the blocks write
-  content-blocks : content (blocks bytes) ≡ take (used bytes) (bits bytes)
-  unfolding content usedBits
-  content-blocks =
+  recordBits-blocks : recordBits (blocks bytes) ≡ take (used bytes) (bits bytes)
+  unfolding recordBits usedBits
+  recordBits-blocks =
       rw (terminals-bits, wires-bits, fields-bits, unaryOf-blocks, unary-is s)
       (joined (bits bytes) (terminals bytes + 2 * wires bytes) (12 * (2 * wires bytes)))
 
-  length-content-blocks : length (content (blocks bytes)) ≡ used bytes
-  length-content-blocks = ap length content-blocks ∙ length-take-le _ _ room
+  length-recordBits-blocks : length (recordBits (blocks bytes)) ≡ used bytes
+  length-recordBits-blocks = ap length recordBits-blocks ∙ length-take-le _ _ room
 
   -- and the spare ones are the fill bits
   rest-bits : spareSet bytes ≡ false → drop (used bytes) (bits bytes) ≡ replicate (8 * length bytes - used bytes) false
@@ -91,20 +91,20 @@ module _ {bytes : List ℕ} (s : Shaped bytes) where
       let l : length r ≡ 8 * length bytes - used bytes = simp (length-drop, length-bits) in
       all-zero r (eqb-true _ _ (not-false _ e)) ∙ ap (λ (k : ℕ). replicate k false) l
 
-  bits-again : spareSet bytes ≡ false → bits (pack (content (blocks bytes))) ≡ bits bytes
+  bits-again : spareSet bytes ≡ false → bits (pack (recordBits (blocks bytes))) ≡ bits bytes
   unfolding recordLength
   bits-again e =
-      let c : List Bool = content (blocks bytes) in
-      let k : 8 * ((length c + 7) / 8) - length c ≡ 8 * length bytes - used bytes = rw (length-content-blocks, s .sized) in
+      let c : List Bool = recordBits (blocks bytes) in
+      let k : 8 * ((length c + 7) / 8) - length c ≡ 8 * length bytes - used bytes = rw (length-recordBits-blocks, s .sized) in
       bits-pack c
-      ∙ ap₂ _++_ content-blocks (ap (λ (j : ℕ). replicate j false) k ∙ sym (rest-bits e))
+      ∙ ap₂ _++_ recordBits-blocks (ap (λ (j : ℕ). replicate j false) k ∙ sym (rest-bits e))
       ∙ take-append-drop (used bytes) (bits bytes)
 
 pub recordOf-blocks : {bytes : List ℕ} → Accepted bytes → AreBytes bytes → recordOf (blocks bytes) ≡ bytes
-unfolding recordOf content
+unfolding recordOf recordBits
 recordOf-blocks {bytes} accepted h =
     let c = checked accepted in
-    bits-injective _ _ (pack-bytes (content (blocks bytes))) h (bits-again (c .shape) (c .spare))
+    bits-injective _ _ (pack-bytes (recordBits (blocks bytes))) h (bits-again (c .shape) (c .spare))
 
 -- ---- blocks that fit are the blocks of their record
 
@@ -125,25 +125,25 @@ front n m = toBits 13 n ++ toBits 15 m
 
 -- the bits after the fields
 fill : Blocks → List Bool
-fill g = replicate (8 * ((length (content g) + 7) / 8) - length (content g)) false
+fill g = replicate (8 * ((length (recordBits g) + 7) / 8) - length (recordBits g)) false
 
 module _ {g : Blocks} {m : ℕ} (f : Fits g m) where
   half : length (flatten g) / 2 ≡ m
   half = omega (arith, f .even)
 
-  length-content : length (content g) ≡ usedBits (length g) m
-  unfolding content usedBits
-  length-content =
+  length-recordBits : length (recordBits g) ≡ usedBits (length g) m
+  unfolding recordBits usedBits
+  length-recordBits =
       simp (length-append, length-toBits, length-unaryOf, length-fieldBits) (omega (arith, f .even))
 
   pub length-recordOf : length (recordOf g) ≡ recordLength (length g) m
-  unfolding recordOf recordLength content
-  length-recordOf = length-pack (content g) ∙ ap (λ (k : ℕ). (k + 7) / 8) length-content
+  unfolding recordOf recordLength recordBits
+  length-recordOf = length-pack (recordBits g) ∙ ap (λ (k : ℕ). (k + 7) / 8) length-recordBits
 
   bits-recordOf : bits (recordOf g) ≡ toBits 13 (length g) ++ (toBits 15 m ++ (unaryOf g ++ (fieldBits (flatten g) ++ fill g)))
-  unfolding recordOf content fill
+  unfolding recordOf recordBits fill
   bits-recordOf =
-      bits-pack (content g)
+      bits-pack (recordBits g)
       ∙ ap (λ (k : ℕ). toBits 13 (length g) ++ (toBits 15 k ++ (unaryOf g ++ fieldBits (flatten g))) ++ fill g) half
       ∙ simp append-assoc
 

@@ -1,5 +1,5 @@
 -- Degree and Neighbours of one terminal, where order R lets the record pass.
-use mathlib.Core.Path.{_≡_, sym, ap, ap₂, _∙_}
+use mathlib.Core.Path.{_≡_, refl, sym, ap, ap₂, _∙_}
 use mathlib.Core.Bool.{true, false}
 use mathlib.Core.List.{List, [], _∷_}
 use Prim.Native.Nat.{ℕ, suc, _+_, _-_, _*_, _≤_, _<_}
@@ -11,7 +11,7 @@ use Rattle.record.specs.Record.{terminals, wires, unary, blocks}
 use Rattle.record.specs.Rules.{firstBroken, orderR}
 use Rattle.record.specs.Starts.{startsOf}
 use Rattle.record.specs.Answers.{refused, answered, tried, sizesOf}
-use Rattle.record.specs.Operations.{notLong, noTerminal, degreeRules, degree, neighbours}
+use Rattle.record.specs.Operations.{otherLength, noTerminal, degreeRules, degree, neighboursGiven, neighbours, neighboursBefore, further}
 use Rattle.record.specs.Steps.{Sound}
 use Rattle.record.specs.Laws.First.{first-broken, first-kept, append-kept, append-broken, order-numbered}
 use Rattle.record.specs.Laws.Parts.{starts-rise, starts-fit, part-block}
@@ -75,31 +75,47 @@ module _ {bytes : List ℕ} {n m : ℕ} (s : Sound bytes n m) where
         rw d (untold (b - a) (inside nz h))
 
     module _ (list : List ℕ) (long : length list ≡ 2 * m) where
-      pub part-is : take (b - a) (drop a list) ≡ neighbours bytes list v
-      unfolding neighbours notLong
-      part-is =
+      given : neighboursGiven bytes list v ≡ true
+      unfolding neighboursGiven otherLength
+      given =
           let f = s .is-m in
+          rw (eq-eqb (firstBroken (degreeRules bytes v)) 0 (inside nz h), eq-eqb (length list) (2 * wires bytes) (omega arith))
+
+      pub part-is : take (b - a) (drop a list) ≡ neighbours bytes list v
+      unfolding neighbours
+      part-is =
           let c = sound-ones s in
-          rw (eq-eqb (firstBroken (degreeRules bytes v)) 0 (inside nz h), eq-eqb (length list) (2 * wires bytes) (omega arith), neighbours)
+          rw (given, neighbours)
           (sym (part-block (unary bytes) (sound-shaped s .begins) list (v - 1) (omega arith)
           ∙ ap₂ (λ (x y : ℕ). take (x - y) (drop y list)) (ap (λ (k : ℕ). getD (startsOf (unary bytes)) k 0) next ∙ sym eb) (sym ea)))
+
+      pub part-begins : a ≡ neighboursBefore bytes list v
+      unfolding neighboursBefore
+      part-begins = rw (given, neighboursBefore) ea
 
   -- ---- no part
 
   module _ (v : ℕ) (list : List ℕ) where
-    pub no-part : firstBroken (degreeRules bytes v) ≡ 11 → [] ≡ neighbours bytes list v
-    unfolding neighbours
-    no-part e = rw (e, neighbours)
+    pub outside-ungiven : firstBroken (degreeRules bytes v) ≡ 11 → neighboursGiven bytes list v ≡ false
+    unfolding neighboursGiven
+    outside-ungiven e = rw e
 
-    pub wrong-length : (v ≡ 0 → ⊥) → v ≤ n → (length list ≡ 2 * m → ⊥) → [] ≡ neighbours bytes list v
-    unfolding neighbours notLong
-    wrong-length z h d =
+    pub misfit-ungiven : (v ≡ 0 → ⊥) → v ≤ n → (length list ≡ 2 * m → ⊥) → neighboursGiven bytes list v ≡ false
+    unfolding neighboursGiven otherLength
+    misfit-ungiven z h d =
         let f = s .is-m in
-        rw (eq-eqb (firstBroken (degreeRules bytes v)) 0 (inside z h), ne-eqb (length list) (2 * wires bytes) (λ e. d (omega arith)), neighbours)
+        rw (eq-eqb (firstBroken (degreeRules bytes v)) 0 (inside z h), ne-eqb (length list) (2 * wires bytes) (λ e. d (omega arith)))
 
 -- order R refuses
-pub order-refused : (bytes list : List ℕ) (v : ℕ) {k : ℕ} → refused k ≡ tried (orderR bytes) (sizesOf bytes) → [] ≡ neighbours bytes list v
-unfolding degreeRules neighbours
-order-refused bytes list v e =
+pub order-ungiven : (bytes list : List ℕ) (v : ℕ) {k : ℕ} → refused k ≡ tried (orderR bytes) (sizesOf bytes) → neighboursGiven bytes list v ≡ false
+unfolding degreeRules neighboursGiven
+order-ungiven bytes list v e =
     let (i, f, g) = told-back (firstBroken (orderR bytes)) (sizesOf bytes) e in
-    rw (append-broken (orderR bytes) ((11, noTerminal bytes v) ∷ []) i f, ne-eqb (suc i) 0 (λ z. omega arith), neighbours)
+    rw (append-broken (orderR bytes) ((11, noTerminal bytes v) ∷ []) i f, ne-eqb (suc i) 0 (λ z. omega arith))
+
+-- a refusal is the empty part, at the front
+pub front : (bytes list : List ℕ) (v : ℕ) (a : ℕ × ℕ) → neighboursGiven bytes list v ≡ false → ([] ≡ neighbours bytes list v) × (a ≡ further a (neighboursBefore bytes list v))
+unfolding neighbours neighboursBefore
+front bytes list v a e =
+    let z : a .1 ≡ 0 * 2 + a .1 = omega arith in
+    rw (e, neighbours, neighboursBefore) (refl, ap (λ (o : ℕ). (a .0, o)) z)

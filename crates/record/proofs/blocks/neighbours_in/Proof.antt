@@ -1,7 +1,9 @@
 -- `blocks::neighbours_in` meets its contract: the part between two starts.
+use mathlib.Core.Path.{ap}
 use native.Mathlib.Omega.{arith}
 use borrow.Author.Needs.{needs}
-use Rattle.record.proofs.Laws.Reading.OneBlock.{zero-outside, past-outside, block-rises, block-ends, no-part, wrong-length, part-is}
+use Rattle.record.specs.Operations.{further}
+use Rattle.record.proofs.Laws.Reading.OneBlock.{zero-outside, past-outside, block-rises, block-ends, outside-ungiven, misfit-ungiven, front, part-is, part-begins}
 use Rattle.record.proofs.blocks.neighbours_in.Statement.{statement}
 use Rattle.record.proofs.blocks.neighbours_in.Tie as tie
 
@@ -9,13 +11,13 @@ slice-aggregate-result : tie.Need-slice-aggregate-result
 slice-aggregate-result c = search needs
 
 returns : tie.Need-returns
-returns c = no-part (c .before .before .before .before .pre) (c .before .before .before .before .args .v) (c .before .before .before .before .args .list .now) (zero-outside (c .before .before .before .before .pre) (c .before .if1 .taken))
+returns c = front (c .before .before .before .before .args .bytes .now) (c .before .before .before .before .args .list .now) (c .before .before .before .before .args .v) (c .before .before .before .before .args .list .ptr) (outside-ungiven (c .before .before .before .before .pre) (c .before .before .before .before .args .v) (c .before .before .before .before .args .list .now) (zero-outside (c .before .before .before .before .pre) (c .before .if1 .taken)))
 
 slice-aggregate-result-2 : tie.Need-slice-aggregate-result-2
 slice-aggregate-result-2 c = search needs
 
 returns-2 : tie.Need-returns-2
-returns-2 c = no-part (c .before .before .before .before .before .pre) (c .before .before .before .before .before .args .v) (c .before .before .before .before .before .args .list .now) (past-outside (c .before .before .before .before .before .pre) (c .before .if2 .taken))
+returns-2 c = front (c .before .before .before .before .before .args .bytes .now) (c .before .before .before .before .before .args .list .now) (c .before .before .before .before .before .args .v) (c .before .before .before .before .before .args .list .ptr) (outside-ungiven (c .before .before .before .before .before .pre) (c .before .before .before .before .before .args .v) (c .before .before .before .before .before .args .list .now) (past-outside (c .before .before .before .before .before .pre) (c .before .if2 .taken)))
 
 mul-if3 : tie.Need-mul-if3
 mul-if3 c = search needs
@@ -24,7 +26,7 @@ slice-aggregate-result-3 : tie.Need-slice-aggregate-result-3
 slice-aggregate-result-3 c = search needs
 
 returns-3 : tie.Need-returns-3
-returns-3 c = wrong-length (c .before .before .before .before .before .before .pre) (c .before .before .before .before .before .before .args .v) (c .before .before .before .before .before .before .args .list .now) (c .before .before .before .if1 .left) (c .before .before .if2 .left) (c .before .if3 .taken)
+returns-3 c = front (c .before .before .before .before .before .before .args .bytes .now) (c .before .before .before .before .before .before .args .list .now) (c .before .before .before .before .before .before .args .v) (c .before .before .before .before .before .before .args .list .ptr) (misfit-ungiven (c .before .before .before .before .before .before .pre) (c .before .before .before .before .before .before .args .v) (c .before .before .before .before .before .before .args .list .now) (c .before .before .before .if1 .left) (c .before .before .if2 .left) (c .before .if3 .taken))
 
 sub-start-of : tie.Need-sub-start-of
 sub-start-of c = search needs
@@ -48,7 +50,7 @@ part-result-end : tie.Need-part-result-end
 part-result-end c = let e = block-ends (c .before .before .before .before .before .before .before .pre) (c .before .before .before .before .if1 .left) (c .before .before .before .if2 .left) (c .before .start-of .ensures) (c .start-of2 .ensures) in let r = block-rises (c .before .before .before .before .before .before .before .pre) (c .before .before .before .before .if1 .left) (c .before .before .before .if2 .left) (c .before .start-of .ensures) (c .start-of2 .ensures) in omega arith
 
 returns-4 : tie.Need-returns-4
-returns-4 c = part-is (c .before .before .before .before .before .before .before .before .pre) (c .before .before .before .before .before .if1 .left) (c .before .before .before .before .if2 .left) (c .before .before .start-of .ensures) (c .before .start-of2 .ensures) (c .before .before .before .before .before .before .before .before .args .list .now) (c .before .before .before .if3 .left)
+returns-4 c = (part-is (c .before .before .before .before .before .before .before .before .pre) (c .before .before .before .before .before .if1 .left) (c .before .before .before .before .if2 .left) (c .before .before .start-of .ensures) (c .before .start-of2 .ensures) (c .before .before .before .before .before .before .before .before .args .list .now) (c .before .before .before .if3 .left), ap (further (c .before .before .before .before .before .before .before .before .args .list .ptr)) (part-begins (c .before .before .before .before .before .before .before .before .pre) (c .before .before .before .before .before .if1 .left) (c .before .before .before .before .if2 .left) (c .before .before .start-of .ensures) (c .before .start-of2 .ensures) (c .before .before .before .before .before .before .before .before .args .list .now) (c .before .before .before .if3 .left)))
 
 pub neighbours-in-spec : {M : Type 1} → statement M
 neighbours-in-spec =
