@@ -19,11 +19,15 @@ enum-told c = search needs
 
 returns : tie.Need-returns
 unfolding check
-returns c = told-same (checkRules (c .before .before .before .before .before .args .bytes .now)) (sizesOf (c .before .before .before .before .before .args .bytes .now)) tt (sym (ap shape (c .before .r .given .1)) ∙ c .before .before .before .accept .ensures)
+returns c =
+    let bytes = c .before .before .before .before .before .args .bytes .now in
+    told-same (checkRules bytes) (sizesOf bytes) tt (sym (ap shape (c .before .r .given .1)) ∙ c .before .before .before .accept .ensures)
 
 returns-2 : tie.Need-returns-2
 unfolding check
-returns-2 c = untold-same (checkRules (c .before .before .before .before .args .bytes .now)) (sizesOf (c .before .before .before .before .args .bytes .now)) tt (sym (ap shape (c .enum-told .given .1)) ∙ c .before .before .accept .ensures)
+returns-2 c =
+    let bytes = c .before .before .before .before .args .bytes .now in
+    untold-same (checkRules bytes) (sizesOf bytes) tt (sym (ap shape (c .enum-told .given .1)) ∙ c .before .before .accept .ensures)
 
 pub check-spec : {M : Type 1} → statement M
 check-spec = tie.close (tie.spec accept-requires enum-known-r enum-told returns returns-2)

@@ -24,29 +24,40 @@ enum-known-s : tie.Need-enum-known-s
 enum-known-s c = search needs
 
 add-more : tie.Need-add-more
-add-more c = let s = accepted-sound (c .before .before .before .before .before .before .args .bytes .now) (sym (ap shape (c .before .before .s .given .1)) ∙ c .before .before .before .before .accept .ensures) in omega arith
+add-more c =
+    let bytes = c .before .before .before .before .before .before .args .bytes .now in
+    let s = accepted-sound bytes (sym (ap shape (c .before .before .s .given .1)) ∙ c .before .before .before .before .accept .ensures) in omega arith
 
 cast-t8 : tie.Need-cast-t8
-cast-t8 c = let s = accepted-sound (c .before .before .before .before .before .before .args .bytes .now) (sym (ap shape (c .before .before .s .given .1)) ∙ c .before .before .before .before .accept .ensures) in small-fits (omega arith)
+cast-t8 c =
+    let bytes = c .before .before .before .before .before .before .args .bytes .now in
+    let s = accepted-sound bytes (sym (ap shape (c .before .before .s .given .1)) ∙ c .before .before .before .before .accept .ensures) in small-fits (omega arith)
 
 cast-t9 : tie.Need-cast-t9
-cast-t9 c = let s = accepted-sound (c .before .before .before .before .before .before .args .bytes .now) (sym (ap shape (c .before .before .s .given .1)) ∙ c .before .before .before .before .accept .ensures) in small-fits (omega arith)
+cast-t9 c =
+    let bytes = c .before .before .before .before .before .before .args .bytes .now in
+    let s = accepted-sound bytes (sym (ap shape (c .before .before .s .given .1)) ∙ c .before .before .before .before .accept .ensures) in small-fits (omega arith)
 
 sub-t10 : tie.Need-sub-t10
-sub-t10 c = let s = accepted-sound (c .before .before .before .before .before .before .args .bytes .now) (sym (ap shape (c .before .before .s .given .1)) ∙ c .before .before .before .before .accept .ensures) in difference-fits (c .before .before .s .given .0 .0 .m + 1) (c .before .before .s .given .0 .0 .n) (omega arith) (omega arith)
+sub-t10 c =
+    let bytes = c .before .before .before .before .before .before .args .bytes .now in
+    let s = accepted-sound bytes (sym (ap shape (c .before .before .s .given .1)) ∙ c .before .before .before .before .accept .ensures) in difference-fits (c .before .before .s .given .0 .0 .m + 1) (c .before .before .s .given .0 .0 .n) (omega arith) (omega arith)
 
 returns : tie.Need-returns
 unfolding loopFigure
-returns c = told-same (checkRules (c .before .before .before .before .before .args .bytes .now)) (sizesOf (c .before .before .before .before .before .args .bytes .now)) (subℕ (wires (c .before .before .before .before .before .args .bytes .now) + 1) (terminals (c .before .before .before .before .before .args .bytes .now))) (sym (ap shape (c .before .r .given .1)) ∙ c .before .before .before .accept .ensures)
+returns c =
+    let bytes = c .before .before .before .before .before .args .bytes .now in
+    told-same (checkRules bytes) (sizesOf bytes) (subℕ (wires bytes + 1) (terminals bytes)) (sym (ap shape (c .before .r .given .1)) ∙ c .before .before .before .accept .ensures)
 
 returns-2 : tie.Need-returns-2
 unfolding loopFigure
 returns-2 c =
+    let bytes = c .before .before .before .before .before .before .args .bytes .now in
     let e = (sym (ap shape (c .before .before .s .given .1)) ∙ c .before .before .before .before .accept .ensures) in
-    let s = accepted-sound (c .before .before .before .before .before .before .args .bytes .now) e in
+    let s = accepted-sound bytes e in
     let z : ℕ → ℕ → Answer ℤ = λ x y. answered (subℕ (x + 1) y) in
     ap (λ (x : ℤ). answered x) (difference-told (c .before .before .s .given .0 .0 .m + 1) (c .before .before .s .given .0 .0 .n) (omega arith) (omega arith)) ∙ ap₂ z (s .is-m) (s .is-n)
-    ∙ untold (subℕ (wires (c .before .before .before .before .before .before .args .bytes .now) + 1) (terminals (c .before .before .before .before .before .before .args .bytes .now))) (accepted-kept (c .before .before .before .before .before .before .args .bytes .now) e)
+    ∙ untold (subℕ (wires bytes + 1) (terminals bytes)) (accepted-kept bytes e)
 
 pub loop-figure-spec : {M : Type 1} → statement M
 loop-figure-spec =

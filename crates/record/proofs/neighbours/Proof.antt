@@ -20,10 +20,16 @@ enum-known-s : tie.Need-enum-known-s
 enum-known-s c = search needs
 
 neighbours-in-requires : tie.Need-neighbours-in-requires
-neighbours-in-requires c κs = told-sound (c .before .before .before .before .before .before .args .bytes .now) (sym (ap shape (c .before .s .given .1)) ∙ c .before .before .before .order-r .ensures)
+neighbours-in-requires c κs =
+    let bytes = c .before .before .before .before .before .before .args .bytes .now in
+    told-sound bytes (sym (ap shape (c .before .s .given .1)) ∙ c .before .before .before .order-r .ensures)
 
 returns : tie.Need-returns
-returns c = front (c .before .before .before .before .before .before .args .bytes .now) (c .before .before .before .before .before .before .args .list .now) (c .before .before .before .before .before .before .args .v .0) (c .before .before .before .before .before .before .args .list .ptr) (order-ungiven (c .before .before .before .before .before .before .args .bytes .now) (c .before .before .before .before .before .before .args .list .now) (c .before .before .before .before .before .before .args .v .0) (sym (ap shape (c .before .enum-told .given .1)) ∙ c .before .before .before .order-r .ensures))
+returns c =
+    let bytes = c .before .before .before .before .before .before .args .bytes .now in
+    let list = c .before .before .before .before .before .before .args .list .now in
+    let v = c .before .before .before .before .before .before .args .v in
+    front bytes list (v .0) (c .before .before .before .before .before .before .args .list .ptr) (order-ungiven bytes list (v .0) (sym (ap shape (c .before .enum-told .given .1)) ∙ c .before .before .before .order-r .ensures))
 
 returns-2 : tie.Need-returns-2
 returns-2 c = search needs

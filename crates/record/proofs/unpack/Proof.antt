@@ -20,34 +20,53 @@ enum-known-s : tie.Need-enum-known-s
 enum-known-s c = search needs
 
 mul-if1 : tie.Need-mul-if1
-mul-if1 c = let s = accepted-sound (c .before .before .before .before .before .before .args .bytes .now) (sym (ap shape (c .before .s .given .1)) ∙ c .before .before .before .accept .ensures) in omega arith
+mul-if1 c =
+    let bytes = c .before .before .before .before .before .before .args .bytes .now in
+    let s = accepted-sound bytes (sym (ap shape (c .before .s .given .1)) ∙ c .before .before .before .accept .ensures) in omega arith
 
 returns : tie.Need-returns
-returns c = unpack-misfit (c .before .before .before .before .before .before .before .args .bytes .now) (c .before .before .before .before .before .before .before .args .list .now) (accepted-kept (c .before .before .before .before .before .before .before .args .bytes .now) (sym (ap shape (c .before .before .s .given .1)) ∙ c .before .before .before .before .accept .ensures)) (accepted-sound (c .before .before .before .before .before .before .before .args .bytes .now) (sym (ap shape (c .before .before .s .given .1)) ∙ c .before .before .before .before .accept .ensures) .is-m) (c .if1 .taken)
+returns c =
+    let bytes = c .before .before .before .before .before .before .before .args .bytes .now in
+    let list = c .before .before .before .before .before .before .before .args .list .now in
+    let accept = c .before .before .before .before .accept in
+    unpack-misfit bytes list (accepted-kept bytes (sym (ap shape (c .before .before .s .given .1)) ∙ accept .ensures)) (accepted-sound bytes (sym (ap shape (c .before .before .s .given .1)) ∙ accept .ensures) .is-m) (c .if1 .taken)
 
 mul-read-fields : tie.Need-mul-read-fields
 mul-read-fields c = search needs
 
 add-read-fields : tie.Need-add-read-fields
-add-read-fields c = let s = accepted-sound (c .before .before .before .before .before .before .before .args .bytes .now) (sym (ap shape (c .before .before .s .given .1)) ∙ c .before .before .before .before .accept .ensures) in omega arith
+add-read-fields c =
+    let bytes = c .before .before .before .before .before .before .before .args .bytes .now in
+    let s = accepted-sound bytes (sym (ap shape (c .before .before .s .given .1)) ∙ c .before .before .before .before .accept .ensures) in omega arith
 
 add-read-fields-2 : tie.Need-add-read-fields-2
-add-read-fields-2 c = let s = accepted-sound (c .before .before .before .before .before .before .before .args .bytes .now) (sym (ap shape (c .before .before .s .given .1)) ∙ c .before .before .before .before .accept .ensures) in omega arith
+add-read-fields-2 c =
+    let bytes = c .before .before .before .before .before .before .before .args .bytes .now in
+    let s = accepted-sound bytes (sym (ap shape (c .before .before .s .given .1)) ∙ c .before .before .before .before .accept .ensures) in omega arith
 
 read-fields-requires : tie.Need-read-fields-requires
-read-fields-requires c κs = let s = accepted-sound (c .before .before .before .before .before .before .before .before .args .bytes .now) (sym (ap shape (c .before .before .before .s .given .1)) ∙ c .before .before .before .before .before .accept .ensures) in (omega arith, omega arith, omega arith, omega arith)
+read-fields-requires c κs =
+    let bytes = c .before .before .before .before .before .before .before .before .args .bytes .now in
+    let s = accepted-sound bytes (sym (ap shape (c .before .before .before .s .given .1)) ∙ c .before .before .before .before .before .accept .ensures) in (omega arith, omega arith, omega arith, omega arith)
 
 returns-2 : tie.Need-returns-2
-returns-2 c = unpack-refused (c .before .before .before .before .before .before .args .bytes .now) (c .before .before .before .before .before .before .args .list .now) (sym (ap shape (c .before .r .given .1)) ∙ c .before .before .before .accept .ensures)
+returns-2 c =
+    let bytes = c .before .before .before .before .before .before .args .bytes .now in
+    let list = c .before .before .before .before .before .before .args .list .now in
+    unpack-refused bytes list (sym (ap shape (c .before .r .given .1)) ∙ c .before .before .before .accept .ensures)
 
 same-length : tie.Need-same-length
 same-length c = search needs
 
 returns-3 : tie.Need-returns-3
 returns-3 c =
-    let e = (sym (ap shape (c .before .before .before .before .before .before .s .given .1)) ∙ c .before .before .before .before .before .before .before .before .accept .ensures) in
-    let s = accepted-sound (c .before .before .before .before .before .before .before .before .before .before .before .args .bytes .now) e in
-    unpack-done (c .before .before .before .before .before .before .before .before .before .before .before .args .bytes .now) (c .before .before .before .before .before .before .before .before .before .before .before .args .list .now) (accepted-kept (c .before .before .before .before .before .before .before .before .before .before .before .args .bytes .now) e) (s .is-m) (c .before .before .before .before .if1 .left) (c .before .before .read-fields .ensures ∙ fields-read s 1 (c .before .before .before .before .if1 .left) ∙ raised-one (fields (c .before .before .before .before .before .before .before .before .before .before .before .args .bytes .now)))
+    let bytes = c .before .before .before .before .before .before .before .before .before .before .before .args .bytes .now in
+    let list = c .before .before .before .before .before .before .before .before .before .before .before .args .list .now in
+    let accept = c .before .before .before .before .before .before .before .before .accept in
+    let if1 = c .before .before .before .before .if1 in
+    let e = (sym (ap shape (c .before .before .before .before .before .before .s .given .1)) ∙ accept .ensures) in
+    let s = accepted-sound bytes e in
+    unpack-done bytes list (accepted-kept bytes e) (s .is-m) (if1 .left) (c .before .before .read-fields .ensures ∙ fields-read s 1 (if1 .left) ∙ raised-one (fields bytes))
 
 pub unpack-spec : {M : Type 1} → statement M
 unpack-spec =

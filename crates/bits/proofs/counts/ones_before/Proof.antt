@@ -60,12 +60,13 @@ add-result c = omega (arith, count-take-le (64 * c .before .before .before .loop
 
 returns-2 : tie.Need-returns-2 Inv-loop μ-loop
 returns-2 c =
+    let loop = c .before .before .before .loop in
     let s = bits (c .before .before .before .before .before .args .bytes .now) in
     let n = c .before .before .before .before .before .args .n in
-    let i = c .before .before .before .loop .i in
+    let i = loop .i in
     let e : n ≡ 64 * i + n % 64 = omega arith in
     let f : 8 * (8 * (n / 64)) ≡ 64 * i = omega arith in
-    ap₂ _+_ (c .before .before .before .loop .inv .1) (c .short-ones .ensures .0 ∙ ap (λ (x : ℕ). count (take (n % 64) (drop x s))) f)
+    ap₂ _+_ (loop .inv .1) (c .short-ones .ensures .0 ∙ ap (λ (x : ℕ). count (take (n % 64) (drop x s))) f)
     ∙ sym (ap (λ (x : ℕ). count (take x s)) e ∙ count-take-add s (64 * i) (n % 64))
 
 pub ones-before-spec : {M : Type 1} → statement M

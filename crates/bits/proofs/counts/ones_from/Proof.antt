@@ -40,8 +40,11 @@ ones-after-requires c κs = search needs
 
 add-result : tie.Need-add-result
 add-result c =
-    let s = ones-beyond (c .before .before .before .byte-rest .ensures) (c .before .before .before .before .before .before .args .n) (c .before .ones-of2 .result) (c .ones-after .result) (omega arith) (c .before .ones-of2 .ensures .0) (c .ones-after .ensures) in
-    omega (arith, count-take-le (c .before .before .before .before .before .before .args .n) (from (c .before .before .before .before .before .before .args .bytes .now) (c .before .before .before .before .before .before .args .start)))
+    let n = c .before .before .before .before .before .before .args .n in
+    let bytes = c .before .before .before .before .before .before .args .bytes .now in
+    let start = c .before .before .before .before .before .before .args .start in
+    let s = ones-beyond (c .before .before .before .byte-rest .ensures) n (c .before .ones-of2 .result) (c .ones-after .result) (omega arith) (c .before .ones-of2 .ensures .0) (c .ones-after .ensures) in
+    omega (arith, count-take-le n (from bytes start))
 
 returns-3 : tie.Need-returns-3
 returns-3 c = ones-beyond (c .before .before .before .byte-rest .ensures) (c .before .before .before .before .before .before .args .n) (c .before .ones-of2 .result) (c .ones-after .result) (omega arith) (c .before .ones-of2 .ensures .0) (c .ones-after .ensures)

@@ -26,12 +26,13 @@ shr-result c = search needs
 
 returns : tie.Need-returns
 returns c =
-    let s = bits (c .before .before .args .bytes .now) in
+    let bytes = c .before .before .args .bytes .now in
+    let s = bits bytes in
     let index = c .before .before .args .index in
     let k = 7 - index % 8 in
     let e : bitAnd (c .byte-at .result / 2 ^ k) 1 ≡ bit (getD s index false) =
     and-mask (c .byte-at .result / 2 ^ k) 1 ∙ field-in-byte index 1 k (c .byte-at .ensures) (omega arith)
-    ∙ field-one s index (rw (length-bits (c .before .before .args .bytes .now)) (omega arith)) in
+    ∙ field-one s index (rw (length-bits bytes) (omega arith)) in
     ap (λ (x : ℕ). eqb x 1) e ∙ eqb-bit (getD s index false)
 
 pub read-bit-spec : {M : Type 1} → statement M

@@ -58,7 +58,8 @@ sub-result-3 c =
 
 returns : tie.Need-returns
 returns c =
-    let a = c .before .before .before .before .before .before .before .args in
+    let args = c .before .before .before .before .before .before .before .args in
+    let a = args in
     let x = c .join3 .result in
     let k = 24 - a .width - a .start % 8 in
     rw (shifted-one (a .width) (omega arith)) (

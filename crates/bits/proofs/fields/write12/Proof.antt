@@ -77,11 +77,13 @@ same-length c = search needs
 
 returns : tie.Need-returns
 returns c =
-    let a = c .before .before .before .before .before .before .before .before .before .args in
+    let args = c .before .before .before .before .before .before .before .before .before .args in
+    let slice-known = c .before .before .before .before .before .before .before .before .slice-known in
+    let a = args in
     let bytes = a .bytes .now in
     let first = a .start / 8 in (
       ap₂ (λ (m n : ℕ). bits (set (set bytes first m) (first + 1) n)) (c .before .low-byte .ensures) (c .low-byte2 .ensures)
-          ∙ write-two bytes (a .start) 12 (4 - a .start % 8) (a .v) _ (c .before .before .replaced .result) (λ i. c .before .before .before .before .before .before .before .before .slice-known .given i .fits) (omega arith) (c .before .before .replaced .ensures) (omega arith) (omega arith) (omega arith),
+          ∙ write-two bytes (a .start) 12 (4 - a .start % 8) (a .v) _ (c .before .before .replaced .result) (λ i. slice-known .given i .fits) (omega arith) (c .before .before .replaced .ensures) (omega arith) (omega arith) (omega arith),
       simp length-set,
     )
 
@@ -90,13 +92,16 @@ same-length-2 c = search needs
 
 returns-2 : tie.Need-returns-2
 returns-2 c =
-    let a = c .before .before .before .before .before .before .before .before .before .before .before .before .args in
+    let args = c .before .before .before .before .before .before .before .before .before .before .before .before .args in
+    let slice-known = c .before .before .before .before .before .before .before .before .before .before .before .slice-known in
+    let replaced2 = c .before .before .before .replaced2 in
+    let a = args in
     let bytes = a .bytes .now in
     let first = a .start / 8 in
-    let y = c .before .before .before .replaced2 .result in (
+    let y = replaced2 .result in (
       ap (λ (m : ℕ). bits (set (set (set bytes first m) (first + 1) (c .before .low-byte4 .result)) (first + 2) (c .low-byte5 .result))) (c .before .before .low-byte3 .ensures)
           ∙ ap₂ (λ (m n : ℕ). bits (set (set (set bytes first (y / 2 ^ 16 % 256)) (first + 1) m) (first + 2) n)) (c .before .low-byte4 .ensures) (c .low-byte5 .ensures)
-          ∙ write-three bytes (a .start) 12 (12 - a .start % 8) (a .v) _ y (λ i. c .before .before .before .before .before .before .before .before .before .before .before .slice-known .given i .fits) (omega arith) (c .before .before .before .replaced2 .ensures) (omega arith) (omega arith) (omega arith),
+          ∙ write-three bytes (a .start) 12 (12 - a .start % 8) (a .v) _ y (λ i. slice-known .given i .fits) (omega arith) (replaced2 .ensures) (omega arith) (omega arith) (omega arith),
       simp length-set,
     )
 

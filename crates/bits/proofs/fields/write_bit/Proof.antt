@@ -34,11 +34,12 @@ same-length c = search needs
 
 returns : tie.Need-returns
 returns c =
+    let bit = c .before .before .bit in
     let bytes = c .before .before .before .before .before .before .args .bytes .now in
     let index = c .before .before .before .before .before .before .args .index in (
       ap (λ (x : ℕ). bits (set bytes (index / 8) x)) (c .low-byte .ensures)
-          ∙ write-one index 1 (7 - index % 8) (c .before .before .bit .result) (c .before .replaced .result) (c .before .before .before .byte-at .ensures) (omega arith) (c .before .before .bit .ensures .1) (c .before .replaced .ensures)
-          ∙ ap (λ (v : ℕ). put 1 v (bits bytes) index) (c .before .before .bit .ensures .0)
+          ∙ write-one index 1 (7 - index % 8) (bit .result) (c .before .replaced .result) (c .before .before .before .byte-at .ensures) (omega arith) (bit .ensures .1) (c .before .replaced .ensures)
+          ∙ ap (λ (v : ℕ). put 1 v (bits bytes) index) (bit .ensures .0)
           ∙ put-one (c .before .before .before .before .before .before .args .on) (bits bytes) index (rw (length-bits bytes) (omega arith)),
       simp length-set,
     )

@@ -29,7 +29,9 @@ within-requires c κs =
     omega arith
 
 returns : tie.Need-returns
-returns c = c .within .ensures ∙ place-within (c .before .before .before .before .byte-rest .ensures) (omega arith) (omega arith) (c .before .in-byte .ensures) (c .before .before .before .before .before .before .args .places)
+returns c =
+    let places = c .before .before .before .before .before .before .args .places in
+    c .within .ensures ∙ place-within (c .before .before .before .before .byte-rest .ensures) (omega arith) (omega arith) (c .before .in-byte .ensures) places
 
 returns-2 : tie.Need-returns-2
 returns-2 c = sym (place-none (c .before .before .before .byte-rest .ensures) (c .before .before .before .before .before .args .places) (c .before .before .byte-ones .ensures .0) (c .before .if1 .left) (c .if2 .taken))
@@ -45,14 +47,19 @@ place-after-requires c κs = search needs
 
 add-result : tie.Need-add-result
 add-result c =
-    let p = place-le (c .before .before .before .before .before .byte-rest .ensures) (c .before .before .before .before .before .before .before .args .places) (c .before .before .before .before .byte-ones .ensures .0) (c .before .before .before .if1 .left) (omega arith) (c .before .place-after .ensures) in
+    let places = c .before .before .before .before .before .before .before .args .places in
+    let p = place-le (c .before .before .before .before .before .byte-rest .ensures) places (c .before .before .before .before .byte-ones .ensures .0) (c .before .before .before .if1 .left) (omega arith) (c .before .place-after .ensures) in
     omega arith
 
 returns-3 : tie.Need-returns-3
-returns-3 c = sym (place-missing (c .before .before .before .before .before .byte-rest .ensures) (c .before .before .before .before .before .before .before .args .places) (c .before .before .before .before .byte-ones .ensures .0) (c .before .before .before .if1 .left) (omega arith) (c .before .place-after .ensures) (c .if3 .taken))
+returns-3 c =
+    let places = c .before .before .before .before .before .before .before .args .places in
+    sym (place-missing (c .before .before .before .before .before .byte-rest .ensures) places (c .before .before .before .before .byte-ones .ensures .0) (c .before .before .before .if1 .left) (omega arith) (c .before .place-after .ensures) (c .if3 .taken))
 
 returns-4 : tie.Need-returns-4
-returns-4 c = place-beyond (c .before .before .before .before .before .byte-rest .ensures) (c .before .before .before .before .before .before .before .args .places) (c .before .before .before .before .byte-ones .ensures .0) (c .before .before .before .if1 .left) (omega arith) (c .before .place-after .ensures) (omega arith)
+returns-4 c =
+    let places = c .before .before .before .before .before .before .before .args .places in
+    place-beyond (c .before .before .before .before .before .byte-rest .ensures) places (c .before .before .before .before .byte-ones .ensures .0) (c .before .before .before .if1 .left) (omega arith) (c .before .place-after .ensures) (omega arith)
 
 pub place-from-spec : {M : Type 1} → statement M
 place-from-spec =

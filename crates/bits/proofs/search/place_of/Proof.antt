@@ -35,7 +35,9 @@ within-requires c κs =
     omega arith
 
 returns : tie.Need-returns Inv-loop μ-loop
-returns c = c .within .ensures ∙ found-within (c .before .before .before .before .byte-at .ensures) (c .before .before .before .before .before .before .loop .inv) (omega arith) (c .before .before .before .before .before .before .before .before .before .args .limit) (c .before .in-byte .result) (c .before .in-byte .ensures)
+returns c =
+    let limit = c .before .before .before .before .before .before .before .before .before .args .limit in
+    c .within .ensures ∙ found-within (c .before .before .before .before .byte-at .ensures) (c .before .before .before .before .before .before .loop .inv) (omega arith) limit (c .before .in-byte .result) (c .before .in-byte .ensures)
 
 sub-left : tie.Need-sub-left Inv-loop μ-loop
 sub-left c = omega arith

@@ -34,8 +34,10 @@ join-requires-8 c κs = search needs
 
 returns : tie.Need-returns
 returns c =
-    let x = c .before .before .before .before .before .before .before .before .args in
-    let f = c .before .before .before .before .before .before .before .before .fits in
+    let args = c .before .before .before .before .before .before .before .before .args in
+    let fits = c .before .before .before .before .before .before .before .before .fits in
+    let x = args in
+    let f = fits in
     let all : List ℕ = x .a ∷ x .b ∷ x .c ∷ x .d ∷ x .e ∷ x .f ∷ x .g ∷ x .h ∷ [] in
     let r : c .join8 .result ≡ joined 0 all = omega arith in
     let each : EachByte all =

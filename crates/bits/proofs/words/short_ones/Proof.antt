@@ -18,10 +18,12 @@ ones-of-requires c κs = search needs
 
 returns : tie.Need-returns
 returns c =
+    let n = c .before .before .before .args .n in
+    let at = c .before .before .before .args .at in
     let s = bits (c .before .before .before .args .bytes .now) in
-    let e : c .ones-of .result ≡ count (take (c .before .before .before .args .n) (drop (8 * c .before .before .before .args .at) s)) =
-    c .ones-of .ensures .0 ∙ ap ones (c .before .short-word .ensures) ∙ ones-field (c .before .before .before .args .n) s (8 * c .before .before .before .args .at) in
-    (e, omega (arith, count-take-le (c .before .before .before .args .n) (drop (8 * c .before .before .before .args .at) s)))
+    let e : c .ones-of .result ≡ count (take n (drop (8 * at) s)) =
+    c .ones-of .ensures .0 ∙ ap ones (c .before .short-word .ensures) ∙ ones-field n s (8 * at) in
+    (e, omega (arith, count-take-le n (drop (8 * at) s)))
 
 pub short-ones-spec : {M : Type 1} → statement M
 short-ones-spec = tie.close (tie.spec short-word-requires ones-of-requires returns)

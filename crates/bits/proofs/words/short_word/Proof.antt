@@ -64,9 +64,13 @@ shr-result c = search needs
 
 returns : tie.Need-returns
 returns c =
-    let a = c .before .before .before .before .before .before .before .before .before .before .args in
+    let args = c .before .before .before .before .before .before .before .before .before .before .args in
+    let byte-or-zero = c .before .before .before .before .before .before .before .before .byte-or-zero in
+    let byte-or-zero2 = c .before .before .before .before .before .before .before .byte-or-zero2 in
+    let byte-or-zero3 = c .before .before .before .before .before .before .byte-or-zero3 in
+    let a = args in
     let e : c .join8 .result ≡ value (bits (eight (a .bytes .now) (a .at))) =
-    rw (← c .before .before .before .before .before .before .before .before .byte-or-zero .ensures, ← c .before .before .before .before .before .before .before .byte-or-zero2 .ensures, ← c .before .before .before .before .before .before .byte-or-zero3 .ensures, ← c .before .before .before .before .before .byte-or-zero4 .ensures, ← c .before .before .before .before .byte-or-zero5 .ensures, ← c .before .before .before .byte-or-zero6 .ensures, ← c .before .before .byte-or-zero7 .ensures, ← c .before .byte-or-zero8 .ensures) (c .join8 .ensures) in
+    rw (← byte-or-zero .ensures, ← byte-or-zero2 .ensures, ← byte-or-zero3 .ensures, ← c .before .before .before .before .before .byte-or-zero4 .ensures, ← c .before .before .before .before .byte-or-zero5 .ensures, ← c .before .before .before .byte-or-zero6 .ensures, ← c .before .before .byte-or-zero7 .ensures, ← c .before .byte-or-zero8 .ensures) (c .join8 .ensures) in
     ap (λ (x : ℕ). x / 2 ^ (64 - a .n)) e ∙ short-field (a .bytes .now) (a .at) (a .n) (64 - a .n) (omega arith) (omega arith) (omega arith)
 
 pub short-word-spec : {M : Type 1} → statement M

@@ -35,7 +35,9 @@ slice-aggregate-places-2 : tie.Need-slice-aggregate-places-2
 slice-aggregate-places-2 c = sym (part-zeros 32768 (2 * c .before .before .before .before .before .args .m) (let s = c .before .before .before .before .before .pre .m-fits in omega arith))
 
 places-requires : tie.Need-places-requires
-places-requires c κs = (c .before .before .before .before .before .pre, sym (c .before .before .before .spare-set .ensures) ∙ c .before .before .if1 .left, part-zeros 4097 (c .before .before .before .before .before .args .n + 1) (let s = c .before .before .before .before .before .pre .n-fits in omega arith), part-zeros 32768 (2 * c .before .before .before .before .before .args .m) (let s = c .before .before .before .before .before .pre .m-fits in omega arith))
+places-requires c κs =
+    let pre = c .before .before .before .before .before .pre in
+    (pre, sym (c .before .before .before .spare-set .ensures) ∙ c .before .before .if1 .left, part-zeros 4097 (c .before .before .before .before .before .args .n + 1) (let s = pre .n-fits in omega arith), part-zeros 32768 (2 * c .before .before .before .before .before .args .m) (let s = pre .m-fits in omega arith))
 
 returns-2 : tie.Need-returns-2
 returns-2 c = search needs

@@ -23,7 +23,10 @@ read-fields-requires : tie.Need-read-fields-requires
 read-fields-requires c κs = search needs
 
 some-stray-requires : tie.Need-some-stray-requires
-some-stray-requires c κs = arrays-divided (arrays-read (c .before .before .before .before .before .before .before .before .before .before .before .before .before .pre .0) (c .before .before .before .before .before .before .before .before .before .before .before .before .before .pre .1) (c .before .before .before .before .before .before .before .before .before .before .before .before .before .pre .3) (c .before .before .before .before .before .before .before .before .fill-starts .ensures) (c .before .before .before .before .read-fields .ensures))
+some-stray-requires c κs =
+    let pre = c .before .before .before .before .before .before .before .before .before .before .before .before .before .pre in
+    let fill-starts = c .before .before .before .before .before .before .before .before .fill-starts in
+    arrays-divided (arrays-read (pre .0) (pre .1) (pre .3) (fill-starts .ensures) (c .before .before .before .before .read-fields .ensures))
 
 same-length : tie.Need-same-length
 same-length c = search needs
@@ -32,10 +35,19 @@ same-length-2 : tie.Need-same-length-2
 same-length-2 c = search needs
 
 returns : tie.Need-returns
-returns c = told (sizesOf (c .before .before .before .before .before .before .before .before .before .before .before .before .before .before .before .args .bytes .now)) (rule-6 (arrays-read (c .before .before .before .before .before .before .before .before .before .before .before .before .before .before .before .pre .0) (c .before .before .before .before .before .before .before .before .before .before .before .before .before .before .before .pre .1) (c .before .before .before .before .before .before .before .before .before .before .before .before .before .before .before .pre .3) (c .before .before .before .before .before .before .before .before .before .before .fill-starts .ensures) (c .before .before .before .before .before .before .read-fields .ensures)) (c .before .some-stray .ensures) (c .if1 .taken))
+returns c =
+    let bytes = c .before .before .before .before .before .before .before .before .before .before .before .before .before .before .before .args .bytes .now in
+    let pre = c .before .before .before .before .before .before .before .before .before .before .before .before .before .before .before .pre in
+    let fill-starts = c .before .before .before .before .before .before .before .before .before .before .fill-starts in
+    let read-fields = c .before .before .before .before .before .before .read-fields in
+    told (sizesOf bytes) (rule-6 (arrays-read (pre .0) (pre .1) (pre .3) (fill-starts .ensures) (read-fields .ensures)) (c .before .some-stray .ensures) (c .if1 .taken))
 
 some-doubled-requires : tie.Need-some-doubled-requires
-some-doubled-requires c κs = arrays-input (arrays-read (c .before .before .before .before .before .before .before .before .before .before .before .before .before .before .before .before .before .pre .0) (c .before .before .before .before .before .before .before .before .before .before .before .before .before .before .before .before .before .pre .1) (c .before .before .before .before .before .before .before .before .before .before .before .before .before .before .before .before .before .pre .3) (c .before .before .before .before .before .before .before .before .before .before .before .before .fill-starts .ensures) (c .before .before .before .before .before .before .before .before .read-fields .ensures)) (c .before .before .before .some-stray .ensures) (c .before .before .if1 .left)
+some-doubled-requires c κs =
+    let pre = c .before .before .before .before .before .before .before .before .before .before .before .before .before .before .before .before .before .pre in
+    let fill-starts = c .before .before .before .before .before .before .before .before .before .before .before .before .fill-starts in
+    let read-fields = c .before .before .before .before .before .before .before .before .read-fields in
+    arrays-input (arrays-read (pre .0) (pre .1) (pre .3) (fill-starts .ensures) (read-fields .ensures)) (c .before .before .before .some-stray .ensures) (c .before .before .if1 .left)
 
 same-length-3 : tie.Need-same-length-3
 same-length-3 c = search needs
@@ -44,10 +56,20 @@ same-length-4 : tie.Need-same-length-4
 same-length-4 c = search needs
 
 returns-2 : tie.Need-returns-2
-returns-2 c = told (sizesOf (c .before .before .before .before .before .before .before .before .before .before .before .before .before .before .before .before .before .before .before .args .bytes .now)) (rule-7 (arrays-read (c .before .before .before .before .before .before .before .before .before .before .before .before .before .before .before .before .before .before .before .pre .0) (c .before .before .before .before .before .before .before .before .before .before .before .before .before .before .before .before .before .before .before .pre .1) (c .before .before .before .before .before .before .before .before .before .before .before .before .before .before .before .before .before .before .before .pre .3) (c .before .before .before .before .before .before .before .before .before .before .before .before .before .before .fill-starts .ensures) (c .before .before .before .before .before .before .before .before .before .before .read-fields .ensures)) (c .before .before .before .before .before .some-stray .ensures) (c .before .before .before .before .if1 .left) (c .before .some-doubled .ensures) (c .if2 .taken))
+returns-2 c =
+    let bytes = c .before .before .before .before .before .before .before .before .before .before .before .before .before .before .before .before .before .before .before .args .bytes .now in
+    let pre = c .before .before .before .before .before .before .before .before .before .before .before .before .before .before .before .before .before .before .before .pre in
+    let fill-starts = c .before .before .before .before .before .before .before .before .before .before .before .before .before .before .fill-starts in
+    let read-fields = c .before .before .before .before .before .before .before .before .before .before .read-fields in
+    told (sizesOf bytes) (rule-7 (arrays-read (pre .0) (pre .1) (pre .3) (fill-starts .ensures) (read-fields .ensures)) (c .before .before .before .before .before .some-stray .ensures) (c .before .before .before .before .if1 .left) (c .before .some-doubled .ensures) (c .if2 .taken))
 
 some-one-sided-requires : tie.Need-some-one-sided-requires
-some-one-sided-requires c κs = arrays-input (arrays-read (c .before .before .before .before .before .before .before .before .before .before .before .before .before .before .before .before .before .before .before .before .before .pre .0) (c .before .before .before .before .before .before .before .before .before .before .before .before .before .before .before .before .before .before .before .before .before .pre .1) (c .before .before .before .before .before .before .before .before .before .before .before .before .before .before .before .before .before .before .before .before .before .pre .3) (c .before .before .before .before .before .before .before .before .before .before .before .before .before .before .before .before .fill-starts .ensures) (c .before .before .before .before .before .before .before .before .before .before .before .before .read-fields .ensures)) (c .before .before .before .before .before .before .before .some-stray .ensures) (c .before .before .before .before .before .before .if1 .left)
+some-one-sided-requires c κs =
+    let pre = c .before .before .before .before .before .before .before .before .before .before .before .before .before .before .before .before .before .before .before .before .before .pre in
+    let fill-starts = c .before .before .before .before .before .before .before .before .before .before .before .before .before .before .before .before .fill-starts in
+    let read-fields = c .before .before .before .before .before .before .before .before .before .before .before .before .read-fields in
+    let some-stray = c .before .before .before .before .before .before .before .some-stray in
+    arrays-input (arrays-read (pre .0) (pre .1) (pre .3) (fill-starts .ensures) (read-fields .ensures)) (some-stray .ensures) (c .before .before .before .before .before .before .if1 .left)
 
 same-length-5 : tie.Need-same-length-5
 same-length-5 c = search needs
@@ -56,7 +78,14 @@ same-length-6 : tie.Need-same-length-6
 same-length-6 c = search needs
 
 returns-3 : tie.Need-returns-3
-returns-3 c = told (sizesOf (c .before .before .before .before .before .before .before .before .before .before .before .before .before .before .before .before .before .before .before .before .before .before .before .args .bytes .now)) (rule-8 (arrays-read (c .before .before .before .before .before .before .before .before .before .before .before .before .before .before .before .before .before .before .before .before .before .before .before .pre .0) (c .before .before .before .before .before .before .before .before .before .before .before .before .before .before .before .before .before .before .before .before .before .before .before .pre .1) (c .before .before .before .before .before .before .before .before .before .before .before .before .before .before .before .before .before .before .before .before .before .before .before .pre .3) (c .before .before .before .before .before .before .before .before .before .before .before .before .before .before .before .before .before .before .fill-starts .ensures) (c .before .before .before .before .before .before .before .before .before .before .before .before .before .before .read-fields .ensures)) (c .before .before .before .before .before .before .before .before .before .some-stray .ensures) (c .before .before .before .before .before .before .before .before .if1 .left) (c .before .before .before .before .before .some-doubled .ensures) (c .before .before .before .before .if2 .left) (c .before .some-one-sided .ensures) (c .if3 .taken))
+returns-3 c =
+    let bytes = c .before .before .before .before .before .before .before .before .before .before .before .before .before .before .before .before .before .before .before .before .before .before .before .args .bytes .now in
+    let pre = c .before .before .before .before .before .before .before .before .before .before .before .before .before .before .before .before .before .before .before .before .before .before .before .pre in
+    let fill-starts = c .before .before .before .before .before .before .before .before .before .before .before .before .before .before .before .before .before .before .fill-starts in
+    let read-fields = c .before .before .before .before .before .before .before .before .before .before .before .before .before .before .read-fields in
+    let some-stray = c .before .before .before .before .before .before .before .before .before .some-stray in
+    let if1 = c .before .before .before .before .before .before .before .before .if1 in
+    told (sizesOf bytes) (rule-8 (arrays-read (pre .0) (pre .1) (pre .3) (fill-starts .ensures) (read-fields .ensures)) (some-stray .ensures) (if1 .left) (c .before .before .before .before .before .some-doubled .ensures) (c .before .before .before .before .if2 .left) (c .before .some-one-sided .ensures) (c .if3 .taken))
 
 same-length-7 : tie.Need-same-length-7
 same-length-7 c = search needs
@@ -65,7 +94,14 @@ same-length-8 : tie.Need-same-length-8
 same-length-8 c = search needs
 
 returns-4 : tie.Need-returns-4
-returns-4 c = sizes-told (c .before .before .before .before .before .before .before .before .before .before .before .before .before .before .before .before .before .before .before .before .before .before .before .pre .0) ∙ untold (sizesOf (c .before .before .before .before .before .before .before .before .before .before .before .before .before .before .before .before .before .before .before .before .before .before .before .args .bytes .now)) (all-kept (arrays-read (c .before .before .before .before .before .before .before .before .before .before .before .before .before .before .before .before .before .before .before .before .before .before .before .pre .0) (c .before .before .before .before .before .before .before .before .before .before .before .before .before .before .before .before .before .before .before .before .before .before .before .pre .1) (c .before .before .before .before .before .before .before .before .before .before .before .before .before .before .before .before .before .before .before .before .before .before .before .pre .3) (c .before .before .before .before .before .before .before .before .before .before .before .before .before .before .before .before .before .before .fill-starts .ensures) (c .before .before .before .before .before .before .before .before .before .before .before .before .before .before .read-fields .ensures)) (c .before .before .before .before .before .before .before .before .before .some-stray .ensures) (c .before .before .before .before .before .before .before .before .if1 .left) (c .before .before .before .before .before .some-doubled .ensures) (c .before .before .before .before .if2 .left) (c .before .some-one-sided .ensures) (c .if3 .left))
+returns-4 c =
+    let pre = c .before .before .before .before .before .before .before .before .before .before .before .before .before .before .before .before .before .before .before .before .before .before .before .pre in
+    let bytes = c .before .before .before .before .before .before .before .before .before .before .before .before .before .before .before .before .before .before .before .before .before .before .before .args .bytes .now in
+    let fill-starts = c .before .before .before .before .before .before .before .before .before .before .before .before .before .before .before .before .before .before .fill-starts in
+    let read-fields = c .before .before .before .before .before .before .before .before .before .before .before .before .before .before .read-fields in
+    let some-stray = c .before .before .before .before .before .before .before .before .before .some-stray in
+    let if1 = c .before .before .before .before .before .before .before .before .if1 in
+    sizes-told (pre .0) ∙ untold (sizesOf bytes) (all-kept (arrays-read (pre .0) (pre .1) (pre .3) (fill-starts .ensures) (read-fields .ensures)) (some-stray .ensures) (if1 .left) (c .before .before .before .before .before .some-doubled .ensures) (c .before .before .before .before .if2 .left) (c .before .some-one-sided .ensures) (c .if3 .left))
 
 pub places-spec : {M : Type 1} → statement M
 places-spec =

@@ -15,7 +15,9 @@ abbrev μ-loop : tie.MeasureT-loop
 μ-loop bytes start more list₀ i₀ list i = length list - i
 
 loop-holds : tie.Need-loop-holds Inv-loop μ-loop
-loop-holds c = reads-start (bits (c .before .before .args .bytes .now)) (c .before .before .args .start) (c .before .before .args .more) (length (c .before .before .args .list .now)) (c .before .before .args .list .now) refl
+loop-holds c =
+    let list = c .before .before .args .list .now in
+    reads-start (bits (c .before .before .args .bytes .now)) (c .before .before .args .start) (c .before .before .args .more) (length list) list refl
 
 mul-read12 : tie.Need-mul-read12 Inv-loop μ-loop
 mul-read12 c = omega arith
@@ -36,10 +38,15 @@ add-i : tie.Need-add-i Inv-loop μ-loop
 add-i c = omega arith
 
 loop-less : tie.Need-loop-less Inv-loop μ-loop
-loop-less c = let e = ap length (c .before .before .put .ensures) ∙ length-set (c .before .before .before .before .before .before .loop .list) (c .before .before .before .before .before .before .loop .i) (c .before .before .before .read12 .result + c .before .before .before .before .before .before .before .before .before .args .more) in omega arith
+loop-less c =
+    let more = c .before .before .before .before .before .before .before .before .before .args .more in
+    let loop = c .before .before .before .before .before .before .loop in
+    let e = ap length (c .before .before .put .ensures) ∙ length-set (loop .list) (loop .i) (c .before .before .before .read12 .result + more) in omega arith
 
 loop-again : tie.Need-loop-again Inv-loop μ-loop
-loop-again c = reads-more (c .before .before .before .before .before .before .loop .inv) (c .before .before .before .read12 .result) (omega arith) (c .before .before .before .read12 .ensures .0) (c .before .before .put .ensures)
+loop-again c =
+    let read12 = c .before .before .before .read12 in
+    reads-more (c .before .before .before .before .before .before .loop .inv) (read12 .result) (omega arith) (read12 .ensures .0) (c .before .before .put .ensures)
 
 same-length : tie.Need-same-length Inv-loop μ-loop
 same-length c = c .before .loop .inv .size

@@ -22,11 +22,15 @@ read15-requires c κs = search needs
 
 returns-2 : tie.Need-returns-2
 unfolding terminals wires
-returns-2 c = told (sizesOf (c .before .before .before .before .before .args .bytes .now)) (rule-2-n (c .before .before .before .before .before .args .bytes .now) (c .before .before .before .if1 .left) (omega arith))
+returns-2 c =
+    let bytes = c .before .before .before .before .before .args .bytes .now in
+    told (sizesOf bytes) (rule-2-n bytes (c .before .before .before .if1 .left) (omega arith))
 
 returns-3 : tie.Need-returns-3
 unfolding terminals wires
-returns-3 c = told (sizesOf (c .before .before .before .before .before .before .args .bytes .now)) (rule-2-m (c .before .before .before .before .before .before .args .bytes .now) (c .before .before .before .before .if1 .left) (omega arith) (omega arith))
+returns-3 c =
+    let bytes = c .before .before .before .before .before .before .args .bytes .now in
+    told (sizesOf bytes) (rule-2-m bytes (c .before .before .before .before .if1 .left) (omega arith) (omega arith))
 
 record-length-requires : tie.Need-record-length-requires
 record-length-requires c κs = search needs
@@ -34,8 +38,9 @@ record-length-requires c κs = search needs
 returns-4 : tie.Need-returns-4
 unfolding terminals wires
 returns-4 c =
+    let bytes = c .before .before .before .before .before .before .before .before .args .bytes .now in
     let e = c .before .record-length .ensures ∙ ap₂ recordLength (c .before .before .before .before .before .read13 .ensures .0) (c .before .before .before .before .read15 .ensures .0) in
-    told (sizesOf (c .before .before .before .before .before .before .before .before .args .bytes .now)) (rule-3 (c .before .before .before .before .before .before .before .before .args .bytes .now) (omega arith) (omega arith) (omega arith) (λ z. c .if4 .taken (z ∙ sym e)))
+    told (sizesOf bytes) (rule-3 bytes (omega arith) (omega arith) (omega arith) (λ z. c .if4 .taken (z ∙ sym e)))
 
 bad-unary-requires : tie.Need-bad-unary-requires
 unfolding terminals wires
@@ -51,16 +56,21 @@ bad-unary-requires c κs =
 returns-5 : tie.Need-returns-5
 unfolding terminals wires
 returns-5 c =
-    let e = c .before .before .before .record-length .ensures ∙ ap₂ recordLength (c .before .before .before .before .before .before .before .read13 .ensures .0) (c .before .before .before .before .before .before .read15 .ensures .0) in
-    told (sizesOf (c .before .before .before .before .before .before .before .before .before .before .args .bytes .now)) (rule-4 (c .before .before .before .before .before .before .before .before .before .before .args .bytes .now) (omega arith) (omega arith) (omega arith) (c .before .before .if4 .left ∙ e) (c .before .bad-unary .ensures) (c .if5 .taken))
+    let bytes = c .before .before .before .before .before .before .before .before .before .before .args .bytes .now in
+    let read13 = c .before .before .before .before .before .before .before .read13 in
+    let e = c .before .before .before .record-length .ensures ∙ ap₂ recordLength (read13 .ensures .0) (c .before .before .before .before .before .before .read15 .ensures .0) in
+    told (sizesOf bytes) (rule-4 bytes (omega arith) (omega arith) (omega arith) (c .before .before .if4 .left ∙ e) (c .before .bad-unary .ensures) (c .if5 .taken))
 
 returns-6 : tie.Need-returns-6
 unfolding terminals wires
 returns-6 c =
-    let e = c .before .before .before .record-length .ensures ∙ ap₂ recordLength (c .before .before .before .before .before .before .before .read13 .ensures .0) (c .before .before .before .before .before .before .read15 .ensures .0) in
+    let bytes = c .before .before .before .before .before .before .before .before .before .before .args .bytes .now in
+    let read13 = c .before .before .before .before .before .before .before .read13 in
+    let read15 = c .before .before .before .before .before .before .read15 in
+    let e = c .before .before .before .record-length .ensures ∙ ap₂ recordLength (read13 .ensures .0) (read15 .ensures .0) in
     let sized : ℕ → ℕ → Answer Sizes = λ x y. answered (record { n = x; m = y }) in
-    ap₂ sized (c .before .before .before .before .before .before .before .read13 .ensures .0) (c .before .before .before .before .before .before .read15 .ensures .0)
-    ∙ untold (sizesOf (c .before .before .before .before .before .before .before .before .before .before .args .bytes .now)) (rules-kept (c .before .before .before .before .before .before .before .before .before .before .args .bytes .now) (omega arith) (omega arith) (omega arith) (c .before .before .if4 .left ∙ e) (c .before .bad-unary .ensures) (c .if5 .left))
+    ap₂ sized (read13 .ensures .0) (read15 .ensures .0)
+    ∙ untold (sizesOf bytes) (rules-kept bytes (omega arith) (omega arith) (omega arith) (c .before .before .if4 .left ∙ e) (c .before .bad-unary .ensures) (c .if5 .left))
 
 pub order-r-spec : {M : Type 1} → statement M
 order-r-spec =

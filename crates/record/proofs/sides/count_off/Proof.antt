@@ -15,7 +15,9 @@ get-requires : tie.Need-get-requires Inv-loop μ-loop
 get-requires c κs = omega arith
 
 loop-holds : tie.Need-loop-holds Inv-loop μ-loop
-loop-holds c = walk-start (c .before .before .before .before .before .before .before .pre .0) (c .before .before .before .before .before .before .before .pre .1) (c .before .before .before .before .before .before .before .pre .2) (c .get .ensures .0)
+loop-holds c =
+    let pre = c .before .before .before .before .before .before .before .pre in
+    walk-start (pre .0) (pre .1) (pre .2) (c .get .ensures .0)
 
 sub-q : tie.Need-sub-q Inv-loop μ-loop
 sub-q c = omega arith
@@ -39,13 +41,23 @@ put-requires : tie.Need-put-requires Inv-loop μ-loop
 put-requires c κs = let p = walk-source (c .before .before .before .before .before .before .loop .inv) (c .before .before .before .before .before .loop-test .taken) refl (c .before .before .before .before .get2 .ensures .0) in omega arith
 
 get-requires-4 : tie.Need-get-requires-4 Inv-loop μ-loop
-get-requires-4 c κs = let p = walk-place (c .before .before .before .before .before .before .before .before .before .loop .inv) (c .before .before .before .before .before .before .before .before .loop-test .taken) refl in omega arith
+get-requires-4 c κs =
+    let loop = c .before .before .before .before .before .before .before .before .before .loop in
+    let loop-test = c .before .before .before .before .before .before .before .before .loop-test in
+    let p = walk-place (loop .inv) (loop-test .taken) refl in omega arith
 
 loop-less : tie.Need-loop-less Inv-loop μ-loop
-loop-less c = walk-less (c .before .before .before .before .before .before .before .before .before .before .loop .inv) (c .before .before .before .before .before .before .before .before .before .loop-test .taken) refl (c .get4 .ensures .0)
+loop-less c =
+    let loop = c .before .before .before .before .before .before .before .before .before .before .loop in
+    let loop-test = c .before .before .before .before .before .before .before .before .before .loop-test in
+    walk-less (loop .inv) (loop-test .taken) refl (c .get4 .ensures .0)
 
 loop-again : tie.Need-loop-again Inv-loop μ-loop
-loop-again c = walk-more (c .before .before .before .before .before .before .before .before .before .before .loop .inv) (c .before .before .before .before .before .before .before .before .before .loop-test .taken) refl (c .before .before .before .before .before .before .before .before .get2 .ensures .0) (c .before .before .before .before .before .before .get3 .ensures .0) (c .before .before .before .before .before .if1 .left) (c .before .before .before .put .ensures) (c .get4 .ensures .0)
+loop-again c =
+    let loop = c .before .before .before .before .before .before .before .before .before .before .loop in
+    let loop-test = c .before .before .before .before .before .before .before .before .before .loop-test in
+    let get2 = c .before .before .before .before .before .before .before .before .get2 in
+    walk-more (loop .inv) (loop-test .taken) refl (get2 .ensures .0) (c .before .before .before .before .before .before .get3 .ensures .0) (c .before .before .before .before .before .if1 .left) (c .before .before .before .put .ensures) (c .get4 .ensures .0)
 
 same-length-2 : tie.Need-same-length-2 Inv-loop μ-loop
 same-length-2 c = omega arith

@@ -22,7 +22,9 @@ get-requires-2 : tie.Need-get-requires-2 Inv-loop μ-loop
 get-requires-2 c κs = omega arith
 
 loop-holds : tie.Need-loop-holds Inv-loop μ-loop
-loop-holds c = counting-start (c .before .before .before .before .before .pre .0) (c .before .before .before .before .before .pre .1) (c .before .get .ensures .0) (c .get2 .ensures .0)
+loop-holds c =
+    let pre = c .before .before .before .before .before .pre in
+    counting-start (pre .0) (pre .1) (c .before .get .ensures .0) (c .get2 .ensures .0)
 
 get-requires-3 : tie.Need-get-requires-3 Inv-loop μ-loop
 get-requires-3 c κs = span-place (c .before .loop .inv .span) (c .loop-test .taken) .0
@@ -34,7 +36,11 @@ add-put : tie.Need-add-put Inv-loop μ-loop
 add-put c = omega arith
 
 put-requires : tie.Need-put-requires Inv-loop μ-loop
-put-requires c κs = let k = span-known (c .before .before .before .before .before .loop .inv .span) (c .before .before .before .before .loop-test .taken) (c .before .before .before .get3 .ensures .0) in let s = counting-small (c .before .before .before .before .before .loop .inv) (c .before .before .before .before .loop-test .taken) (c .before .before .before .get3 .result) in omega arith
+put-requires c κs =
+    let loop = c .before .before .before .before .before .loop in
+    let loop-test = c .before .before .before .before .loop-test in
+    let get3 = c .before .before .before .get3 in
+    let k = span-known (loop .inv .span) (loop-test .taken) (get3 .ensures .0) in let s = counting-small (loop .inv) (loop-test .taken) (get3 .result) in omega arith
 
 add-p : tie.Need-add-p Inv-loop μ-loop
 add-p c = omega arith
@@ -43,7 +49,10 @@ loop-less : tie.Need-loop-less Inv-loop μ-loop
 loop-less c = omega arith
 
 loop-again : tie.Need-loop-again Inv-loop μ-loop
-loop-again c = counting-more (c .before .before .before .before .before .before .before .before .loop .inv) (c .before .before .before .before .before .before .before .loop-test .taken) (c .before .before .before .before .before .before .get3 .ensures .0) (c .before .before .before .before .get4 .ensures .0) (c .before .before .put .ensures)
+loop-again c =
+    let loop = c .before .before .before .before .before .before .before .before .loop in
+    let loop-test = c .before .before .before .before .before .before .before .loop-test in
+    counting-more (loop .inv) (loop-test .taken) (c .before .before .before .before .before .before .get3 .ensures .0) (c .before .before .before .before .get4 .ensures .0) (c .before .before .put .ensures)
 
 same-length : tie.Need-same-length Inv-loop μ-loop
 same-length c = omega arith

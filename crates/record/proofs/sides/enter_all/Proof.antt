@@ -20,7 +20,9 @@ loop-holds : tie.Need-loop-holds Inv-loop μ-loop
 loop-holds c = filled-start (c .before .before .before .before .before .pre .0) refl (c .before .before .before .before .before .pre .1)
 
 enter-block-requires : tie.Need-enter-block-requires Inv-loop μ-loop
-enter-block-requires c κs = (sized-at (c .before .before .before .before .loop .inv .sized) (c .before .before .before .loop-test .taken), c .before .before .before .before .loop .inv .listed)
+enter-block-requires c κs =
+    let loop = c .before .before .before .before .loop in
+    (sized-at (loop .inv .sized) (c .before .before .before .loop-test .taken), loop .inv .listed)
 
 add-u : tie.Need-add-u Inv-loop μ-loop
 add-u c = omega arith
@@ -29,7 +31,11 @@ loop-less : tie.Need-loop-less Inv-loop μ-loop
 loop-less c = omega arith
 
 loop-again : tie.Need-loop-again Inv-loop μ-loop
-loop-again c = filled-more (c .before .before .before .before .before .before .before .before .before .before .before .loop .inv) (c .before .before .before .before .before .before .before .before .before .before .loop-test .taken) (c .before .before .before .before .before .before .enter-block .ensures)
+loop-again c =
+    let loop = c .before .before .before .before .before .before .before .before .before .before .before .loop in
+    let loop-test = c .before .before .before .before .before .before .before .before .before .before .loop-test in
+    let enter-block = c .before .before .before .before .before .before .enter-block in
+    filled-more (loop .inv) (loop-test .taken) (enter-block .ensures)
 
 same-length : tie.Need-same-length Inv-loop μ-loop
 same-length c = omega arith

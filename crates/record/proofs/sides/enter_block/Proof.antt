@@ -22,7 +22,9 @@ get-requires-2 : tie.Need-get-requires-2 Inv-loop μ-loop
 get-requires-2 c κs = omega arith
 
 loop-holds : tie.Need-loop-holds Inv-loop μ-loop
-loop-holds c = entered-start (c .before .before .before .before .before .before .before .pre .0) (c .before .before .before .before .before .before .before .pre .1) (c .before .get .ensures .0) (c .get2 .ensures .0)
+loop-holds c =
+    let pre = c .before .before .before .before .before .before .before .pre in
+    entered-start (pre .0) (pre .1) (c .before .get .ensures .0) (c .get2 .ensures .0)
 
 get-requires-3 : tie.Need-get-requires-3 Inv-loop μ-loop
 get-requires-3 c κs = span-place (c .before .loop .inv .span) (c .loop-test .taken) .0
@@ -37,7 +39,12 @@ loop-less : tie.Need-loop-less Inv-loop μ-loop
 loop-less c = omega arith
 
 loop-again : tie.Need-loop-again Inv-loop μ-loop
-loop-again c = entered-more (c .before .before .before .before .before .before .before .before .before .before .before .before .loop .inv) (c .before .before .before .before .before .before .before .before .before .before .before .loop-test .taken) (c .before .before .before .before .before .before .before .before .before .before .get3 .ensures .0) (c .before .before .before .before .before .before .enter .ensures .0) (c .before .before .before .before .before .before .enter .ensures .1) (c .before .before .before .before .before .before .enter .ensures .2)
+loop-again c =
+    let loop = c .before .before .before .before .before .before .before .before .before .before .before .before .loop in
+    let loop-test = c .before .before .before .before .before .before .before .before .before .before .before .loop-test in
+    let get3 = c .before .before .before .before .before .before .before .before .before .before .get3 in
+    let enter = c .before .before .before .before .before .before .enter in
+    entered-more (loop .inv) (loop-test .taken) (get3 .ensures .0) (enter .ensures .0) (enter .ensures .1) (enter .ensures .2)
 
 same-length : tie.Need-same-length Inv-loop μ-loop
 same-length c = omega arith

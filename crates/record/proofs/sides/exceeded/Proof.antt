@@ -8,7 +8,9 @@ count-up-requires : tie.Need-count-up-requires
 count-up-requires c κs = (c .before .before .before .before .before .before .before .pre .0, c .before .before .before .before .before .before .before .pre .2)
 
 count-off-requires : tie.Need-count-off-requires
-count-off-requires c κs = (c .before .before .before .before .before .before .before .before .before .before .before .pre .0, c .before .before .before .before .before .before .before .before .before .before .before .pre .1, c .before .before .before .count-up .ensures)
+count-off-requires c κs =
+    let pre = c .before .before .before .before .before .before .before .before .before .before .before .pre in
+    (pre .0, pre .1, c .before .before .before .count-up .ensures)
 
 same-length : tie.Need-same-length
 same-length c = omega arith
@@ -17,13 +19,17 @@ returns : tie.Need-returns
 returns c = settled-found (c .before .before .before .count-off .ensures) (c .if1 .taken)
 
 wipe-requires : tie.Need-wipe-requires
-wipe-requires c κs = (c .before .before .before .before .before .before .before .before .before .before .before .before .before .before .before .before .pre .0, left-within (c .before .before .before .before .count-off .ensures) (c .before .if1 .left))
+wipe-requires c κs =
+    let pre = c .before .before .before .before .before .before .before .before .before .before .before .before .before .before .before .before .pre in
+    (pre .0, left-within (c .before .before .before .before .count-off .ensures) (c .before .if1 .left))
 
 same-length-2 : tie.Need-same-length-2
 same-length-2 c = omega arith
 
 returns-2 : tie.Need-returns-2
-returns-2 c = settled-none (c .before .before .before .before .before .before .before .count-off .ensures) (c .before .before .before .before .if1 .left) (c .before .before .wipe .ensures)
+returns-2 c =
+    let count-off = c .before .before .before .before .before .before .before .count-off in
+    settled-none (count-off .ensures) (c .before .before .before .before .if1 .left) (c .before .before .wipe .ensures)
 
 pub exceeded-spec : {M : Type 1} → statement M
 exceeded-spec =

@@ -32,7 +32,9 @@ enter-all-requires : tie.Need-enter-all-requires Inv-loop μ-loop
 enter-all-requires c κs = (c .before .before .before .before .before .pre, listed-none _ _)
 
 loop-holds : tie.Need-loop-holds Inv-loop μ-loop
-loop-holds c = even-start (c .before .before .before .before .before .before .before .before .before .pre) refl (c .before .before .before .enter-all .ensures) clear-none
+loop-holds c =
+    let pre = c .before .before .before .before .before .before .before .before .before .pre in
+    even-start pre refl (c .before .before .before .enter-all .ensures) clear-none
 
 slice-aggregate-exceeded : tie.Need-slice-aggregate-exceeded Inv-loop μ-loop
 slice-aggregate-exceeded c = search needs
@@ -47,7 +49,9 @@ slice-aggregate-exceeded-4 : tie.Need-slice-aggregate-exceeded-4 Inv-loop μ-loo
 slice-aggregate-exceeded-4 c = search needs
 
 exceeded-requires : tie.Need-exceeded-requires Inv-loop μ-loop
-exceeded-requires c κs = (sized-at (c .before .before .before .before .before .loop .inv .sized) (c .before .before .before .before .loop-test .taken), c .before .before .before .before .before .loop .inv .listed, c .before .before .before .before .before .loop .inv .clear)
+exceeded-requires c κs =
+    let loop = c .before .before .before .before .before .loop in
+    (sized-at (loop .inv .sized) (c .before .before .before .before .loop-test .taken), loop .inv .listed, loop .inv .clear)
 
 returns : tie.Need-returns Inv-loop μ-loop
 returns c = one-sided-found (c .before .before .before .before .before .before .before .before .loop .inv) (c .before .before .exceeded .ensures) (c .if1 .taken)

@@ -22,7 +22,9 @@ get-requires-2 : tie.Need-get-requires-2 Inv-loop μ-loop
 get-requires-2 c κs = omega arith
 
 loop-holds : tie.Need-loop-holds Inv-loop μ-loop
-loop-holds c = wiping-start (c .before .before .before .before .before .pre .0) (c .before .before .before .before .before .pre .1) (c .before .get .ensures .0) (c .get2 .ensures .0)
+loop-holds c =
+    let pre = c .before .before .before .before .before .pre in
+    wiping-start (pre .0) (pre .1) (c .before .get .ensures .0) (c .get2 .ensures .0)
 
 get-requires-3 : tie.Need-get-requires-3 Inv-loop μ-loop
 get-requires-3 c κs = span-place (c .before .loop .inv .span) (c .loop-test .taken) .0

@@ -36,9 +36,10 @@ sub-note c = let b = filling-bounds (c .before .before .before .loop .inv) in om
 
 note-requires : tie.Need-note-requires Inv-loop μ-loop
 note-requires c κs =
-    let b = filling-bounds (c .before .before .before .loop .inv) in
+    let loop = c .before .before .before .loop in
+    let b = filling-bounds (loop .inv) in
     let e = sound-ones (c .before .before .before .before .before .before .pre .0) in
-    let s = c .before .before .before .loop .inv .size in
+    let s = loop .inv .size in
     omega arith
 
 add-i : tie.Need-add-i Inv-loop μ-loop
@@ -49,30 +50,38 @@ loop-less c = omega arith
 
 loop-again : tie.Need-loop-again Inv-loop μ-loop
 loop-again c =
+    let pre = c .before .before .before .before .before .before .before .before .before .pre in
+    let loop = c .before .before .before .before .before .before .loop in
+    let read-bit = c .before .before .before .read-bit in
     let h = c .before .before .before .before .before .loop-test .taken in
-    filling-more (c .before .before .before .before .before .before .loop .inv) (c .before .before .before .read-bit .result) (let e = sound-places (c .before .before .before .before .before .before .before .before .before .pre .0) in omega arith) (c .before .before .before .read-bit .ensures ∙ sound-bit (c .before .before .before .before .before .before .before .before .before .pre .0) (c .before .before .before .before .before .before .loop .i) h) (c .before .before .note .ensures .0) (c .before .before .note .ensures .1)
+    filling-more (loop .inv) (read-bit .result) (let e = sound-places (pre .0) in omega arith) (read-bit .ensures ∙ sound-bit (pre .0) (loop .i) h) (c .before .before .note .ensures .0) (c .before .before .note .ensures .1)
 
 sub-put : tie.Need-sub-put Inv-loop μ-loop
 sub-put c = let b = filling-bounds (c .before .before .loop .inv) in omega arith
 
 put-requires : tie.Need-put-requires Inv-loop μ-loop
 put-requires c κs =
-    let b = filling-bounds (c .before .before .loop .inv) in
-    let s = c .before .before .loop .inv .size in
-    let u = c .before .before .loop .inv .upto in
+    let loop = c .before .before .loop in
+    let b = filling-bounds (loop .inv) in
+    let s = loop .inv .size in
+    let u = loop .inv .upto in
     let e = sound-places (c .before .before .before .before .before .pre .0) in
     omega arith
 
 same-length : tie.Need-same-length Inv-loop μ-loop
 same-length c =
-    let l = ap length (c .before .before .put .ensures) ∙ length-set (c .before .before .before .before .before .loop .starts) (c .before .before .before .before .before .loop .k) _ in
-    let s = c .before .before .before .before .before .loop .inv .size in
-    let e = sound-ones (c .before .before .before .before .before .before .before .before .pre .0) in
-    let p = c .before .before .before .before .before .before .before .before .pre .1 in
+    let pre = c .before .before .before .before .before .before .before .before .pre in
+    let loop = c .before .before .before .before .before .loop in
+    let l = ap length (c .before .before .put .ensures) ∙ length-set (loop .starts) (loop .k) _ in
+    let s = loop .inv .size in
+    let e = sound-ones (pre .0) in
+    let p = pre .1 in
     omega arith
 
 returns : tie.Need-returns Inv-loop μ-loop
-returns c = filling-end (c .before .before .before .before .before .loop .inv) (let e = sound-places (c .before .before .before .before .before .before .before .before .pre .0) in let h = c .before .before .before .before .loop-test .left in omega arith) (c .before .before .put .ensures)
+returns c =
+    let pre = c .before .before .before .before .before .before .before .before .pre in
+    filling-end (c .before .before .before .before .before .loop .inv) (let e = sound-places (pre .0) in let h = c .before .before .before .before .loop-test .left in omega arith) (c .before .before .put .ensures)
 
 pub fill-starts-spec : {M : Type 1} → statement M
 fill-starts-spec =

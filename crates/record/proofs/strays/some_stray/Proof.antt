@@ -22,7 +22,10 @@ stray-in-requires : tie.Need-stray-in-requires Inv-loop μ-loop
 stray-in-requires c κs = (c .before .before .before .before .pre, omega arith)
 
 returns : tie.Need-returns Inv-loop μ-loop
-returns c = stray-found (c .before .before .before .before .before .before .args .starts .now) (c .before .before .before .before .before .before .args .nbrs .now) (c .before .before .loop-test .taken) (c .before .stray-in .ensures) (c .if1 .taken)
+returns c =
+    let starts = c .before .before .before .before .before .before .args .starts .now in
+    let nbrs = c .before .before .before .before .before .before .args .nbrs .now in
+    stray-found starts nbrs (c .before .before .loop-test .taken) (c .before .stray-in .ensures) (c .if1 .taken)
 
 add-u : tie.Need-add-u Inv-loop μ-loop
 add-u c = omega arith
@@ -31,7 +34,10 @@ loop-less : tie.Need-loop-less Inv-loop μ-loop
 loop-less c = omega arith
 
 loop-again : tie.Need-loop-again Inv-loop μ-loop
-loop-again c = strayless-more (c .before .before .before .before .before .before .args .starts .now) (c .before .before .before .before .before .before .args .nbrs .now) (c .before .before .before .loop .inv) (c .before .before .loop-test .taken) (c .before .stray-in .ensures) (c .if1 .left)
+loop-again c =
+    let starts = c .before .before .before .before .before .before .args .starts .now in
+    let nbrs = c .before .before .before .before .before .before .args .nbrs .now in
+    strayless-more starts nbrs (c .before .before .before .loop .inv) (c .before .before .loop-test .taken) (c .before .stray-in .ensures) (c .if1 .left)
 
 returns-2 : tie.Need-returns-2 Inv-loop μ-loop
 returns-2 c = stray-absent (c .before .before .before .before .args .starts .now) (c .before .before .before .before .args .nbrs .now) (c .before .loop .inv) (c .loop-test .left)
