@@ -1,0 +1,3 @@
+-- Laws about the index.
+pub mod Sections
+pub mod Bytes

@@ -1,0 +1,5 @@
+-- The index: the definitions that the contracts cite, and the laws about them.
+pub mod Index
+pub mod Operations
+pub mod Laws
+mod Examples
