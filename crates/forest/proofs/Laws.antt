@@ -1,0 +1,3 @@
+-- Laws about what the code computes.
+pub mod Zeros
+pub mod Numbers

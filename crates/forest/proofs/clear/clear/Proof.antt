@@ -1,0 +1,48 @@
+-- `clear::clear` meets its contract: the zeros reach from the front.
+use Prim.Native.Nat.{_-_}
+use native.Mathlib.Omega.{arith}
+use lib.ListN.{length, length-set}
+use Rattle.forest.proofs.Laws.Zeros.{Zeroed, zeroed-start, zeroed-more, zeroed-end}
+use Rattle.forest.proofs.clear.clear.Statement.{statement}
+use Rattle.forest.proofs.clear.clear.Tie as tie
+
+abbrev Inv-loop : tie.InvT-loop
+Inv-loop section₀ i₀ section i = Zeroed (length section₀) section i
+
+abbrev μ-loop : tie.MeasureT-loop
+μ-loop section₀ i₀ section i = length section - i
+
+loop-holds : tie.Need-loop-holds Inv-loop μ-loop
+loop-holds c = zeroed-start (c .args .section .now)
+
+slice-write-section : tie.Need-slice-write-section Inv-loop μ-loop
+slice-write-section c = omega arith
+
+add-i : tie.Need-add-i Inv-loop μ-loop
+add-i c = omega arith
+
+loop-less : tie.Need-loop-less Inv-loop μ-loop
+loop-less c = let e = length-set (c .before .loop .section) (c .before .loop .i) 0 in omega arith
+
+loop-again : tie.Need-loop-again Inv-loop μ-loop
+loop-again c = zeroed-more (c .before .loop .inv) (omega arith)
+
+same-length : tie.Need-same-length Inv-loop μ-loop
+same-length c = c .before .loop .inv .size
+
+returns : tie.Need-returns Inv-loop μ-loop
+returns c = zeroed-end (c .before .loop .inv) (omega arith)
+
+pub clear-spec : {M : Type 1} → statement M
+clear-spec =
+    tie.close
+    (tie.spec
+    Inv-loop
+    μ-loop
+    loop-holds
+    slice-write-section
+    add-i
+    loop-less
+    loop-again
+    same-length
+    returns)

@@ -1,0 +1,4 @@
+// The index of a record (document 01, "Forest").
+
+mod clear; // clear.rt: a section of zeros
+pub mod numbers; // numbers.rt: the section of the visit numbers
