@@ -1,5 +1,6 @@
 -- The index: the definitions that the contracts cite, and the laws about them.
 pub mod Index
 pub mod Operations
+pub mod Steps
 pub mod Laws
 mod Examples

@@ -1,4 +1,5 @@
 // The index of a record (document 01, "Forest").
 
 mod clear; // clear.rt: a section of zeros
+pub mod search; // search.rt: the depth-first search
 pub mod numbers; // numbers.rt: the section of the visit numbers
