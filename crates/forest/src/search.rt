@@ -1,10 +1,10 @@
-// The depth-first search over the work slice.
+// The depth-first search over the work slice, whose parts are listed in specs/Steps.antt. `left` bounds the steps that are still to come.
 ghost use mathlib.Core.Path.{_≡_};
+ghost use mathlib.Core.Bool.{true, _||_};
 ghost use Prim.Native.Nat.{_+_, _*_, _-_, _≤_, _<_};
+ghost use lib.Dec.{ltb};
 ghost use lib.ListN.{length};
 ghost use Rattle.graph.specs.Laws.Loop.Arrays.{Enters};
-ghost use mathlib.Core.Bool.{true, _||_};
-ghost use lib.Dec.{ltb};
 ghost use Rattle.forest.specs.Steps.{cellsOf, Holding, Searching, StartsStay, Unvisited, Searched};
 use record::cells::get;
 use record::cells::put;
