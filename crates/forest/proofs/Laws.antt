@@ -1,6 +1,9 @@
--- Laws about what the code computes.
+-- Laws about what the code computes: sections, the search over the work slice, lowpoints.
 pub mod Zeros
 pub mod Numbers
+pub mod Rows
 pub mod Entering
 pub mod Searched
 pub mod Bounds
+pub mod Lowest
+pub mod Lifted

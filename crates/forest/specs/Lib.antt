@@ -2,5 +2,6 @@
 pub mod Index
 pub mod Operations
 pub mod Steps
+pub mod Lows
 pub mod Laws
 mod Examples

@@ -2,4 +2,5 @@
 
 mod clear; // clear.rt: a section of zeros
 pub mod search; // search.rt: the depth-first search
+pub mod lows; // lows.rt: lowpoints
 pub mod numbers; // numbers.rt: the section of the visit numbers

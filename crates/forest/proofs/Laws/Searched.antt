@@ -4,22 +4,19 @@ use mathlib.Core.List.{List, _∷_}
 use Prim.Native.Nat.{ℕ, suc, _+_, _-_, _*_, _≤_, _<_}
 use native.Mathlib.Numerals.{add-one}
 use native.Mathlib.Omega.{arith}
-use lib.ListN.{length, getD, set, drop}
-use lib.Seq.{getD-take, getD-drop}
-use Rattle.bits.specs.Bits.{count}
+use lib.ListN.{length, getD, set}
 use Rattle.graph.specs.Graph.{block, target}
 use Rattle.graph.specs.Search.{countUp, forest}
 use Rattle.graph.specs.Laws.Joined.Spanning.{count-more}
 use Rattle.graph.specs.Laws.Bridges.Stores.{Stored}
 use Rattle.graph.specs.Laws.Loop.Arrays.{Cells, Enters, Same}
 use Rattle.graph.specs.Laws.Loop.Invariant.{Loop, loop-room, loop-vertex, loop-busy, loop-busy-start, loop-pass-start, loop-enter-start, loop-pass, loop-enter, loop-return}
-use Rattle.record.specs.Record.{unary, fields, blocks}
-use Rattle.record.specs.Starts.{startsOf}
-use Rattle.record.specs.Laws.Layout.{length-blocks, degree-starts}
-use Rattle.record.specs.Laws.Parts.{starts-rise, starts-fit, part-block}
+use Rattle.record.specs.Record.{fields, blocks}
+use Rattle.record.specs.Laws.Layout.{length-blocks}
 use Rattle.record.specs.Laws.Sound.{accepted-well-formed}
-use Rattle.record.proofs.Laws.Reading.Sounded.{sound-shaped, sound-ones, sound-places}
+use Rattle.record.proofs.Laws.Reading.Sounded.{sound-shaped}
 use Rattle.forest.specs.Steps.{cellsOf, Holding, Searching, StartsStay}
+use Rattle.forest.proofs.Laws.Rows.{row-rises, row-ends, row-size, row-neighbour}
 use Rattle.forest.proofs.Laws.Entering.{Put, put-length, put-other, put-here}
 
 -- a vertex is entered after stores that leave its arrays
@@ -91,33 +88,14 @@ module _ {bytes work : List ℕ} {n m left i cur k : ℕ} (s : Searching bytes w
   pub hand-busy : 0 < left
   hand-busy = loop-busy hand
 
-  start-is : getD work (cur - 1) 0 ≡ getD (startsOf (unary bytes)) (cur - 1) 0
-  start-is = s .holds .starts-are (cur - 1) (let v = hand-vertex in omega arith)
-
-  end-is : getD work (cur - 1 + 1) 0 ≡ getD (startsOf (unary bytes)) (cur - 1 + 1) 0
-  end-is = s .holds .starts-are (cur - 1 + 1) (let v = hand-vertex in omega arith)
-
-  counted : cur - 1 < count (unary bytes)
-  counted = let v = hand-vertex in let c = sound-ones (s .holds .sound) in omega arith
-
-  -- its block lies between two starts
   pub hand-rises : getD work (cur - 1) 0 ≤ getD work (cur - 1 + 1) 0
-  hand-rises = rw (start-is, end-is) (starts-rise 0 (unary bytes) (cur - 1) counted)
+  hand-rises = row-rises (s .holds) hand-vertex
 
   pub hand-ends : getD work (cur - 1 + 1) 0 ≤ 2 * m
-  hand-ends =
-      let c = sound-ones (s .holds .sound) in
-      let l = sound-places (s .holds .sound) in
-      let v = hand-vertex in
-      let f = starts-fit 0 (unary bytes) (cur - 1 + 1) (omega arith) in
-      let e = end-is in
-      omega arith
+  hand-ends = row-ends (s .holds) hand-vertex
 
   block-size : length (block (blocks bytes) (cur - 1)) ≡ getD work (cur - 1 + 1) 0 - getD work (cur - 1) 0
-  block-size =
-      let v = hand-vertex in
-      let e = s .holds .sound .is-n in
-      degree-starts (sound-shaped (s .holds .sound)) (cur - 1) (omega arith) ∙ sym (ap₂ _-_ end-is start-is)
+  block-size = row-size (s .holds) hand-vertex
 
   pub hand-returned : getD work (cur - 1 + 1) 0 - getD work (cur - 1) 0 ≤ getD work (2 * n + (cur - 1)) 0 → Searching bytes work n m (left - 1) i (getD work (3 * n + (cur - 1)) 0) k
   hand-returned d = let b = block-size in record { holds = s .holds; begun = s .begun; loop = loop-return hand (omega arith) }
@@ -127,16 +105,7 @@ module _ {bytes work : List ℕ} {n m left i cur k : ℕ} (s : Searching bytes w
     more = let b = block-size in omega arith
 
     neighbour : target (blocks bytes) (cur - 1) (getD work (2 * n + (cur - 1)) 0) ≡ getD (fields bytes) (getD work (cur - 1) 0 + getD work (2 * n + (cur - 1)) 0) 0
-    unfolding blocks
-    neighbour =
-        let j : ℕ = getD work (2 * n + (cur - 1)) 0 in
-        let b = block-size in
-        let e = start-is in
-        let f = end-is in
-        ap (λ (l : List ℕ). getD l j 0) (part-block (unary bytes) (sound-shaped (s .holds .sound) .begins) (fields bytes) (cur - 1) counted)
-        ∙ getD-take (getD (startsOf (unary bytes)) (cur - 1 + 1) 0 - getD (startsOf (unary bytes)) (cur - 1) 0) (drop (getD (startsOf (unary bytes)) (cur - 1) 0) (fields bytes)) j 0 (omega arith)
-        ∙ getD-drop (getD (startsOf (unary bytes)) (cur - 1) 0) (fields bytes) j 0
-        ∙ ap (λ (x : ℕ). getD (fields bytes) (x + j) 0) (sym start-is)
+    neighbour = row-neighbour (s .holds) hand-vertex (getD work (2 * n + (cur - 1)) 0) d
 
     in-range : target (blocks bytes) (cur - 1) (getD work (2 * n + (cur - 1)) 0) < length (blocks bytes)
     in-range = accepted-well-formed (s .holds .accepted) .in-range (cur - 1) (getD work (2 * n + (cur - 1)) 0) (target (blocks bytes) (cur - 1) (getD work (2 * n + (cur - 1)) 0)) (record { fits = more; leads = refl })
