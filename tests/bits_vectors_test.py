@@ -3,11 +3,7 @@
 The stored output is what `rt ci` holds the proved program to. Here each of its lines is found again, a bit string being a list of
 bits that are looked at one by one. With an argument it prints the lines instead.
 """
-import sys
-from pathlib import Path
-
-STORED = Path(__file__).parent.parent / "crates" / "bits_vectors" / "stdout"
-
+from stored import main
 
 SAMPLE = bytes.fromhex("00300059 22A00200 10000020 01003000 00200500 40")
 MIXED = bytes.fromhex(
@@ -83,23 +79,5 @@ def lines():
         yield from write(44 + shift, 0xABC, 0)
 
 
-def compare():
-    """Prints each line that differs, and the tally."""
-    found = STORED.read_text().splitlines()
-    expected = list(lines())
-    wrong = 0
-    for number_of_line in range(max(len(found), len(expected))):
-        pair = [texts[number_of_line] if number_of_line < len(texts) else "nothing" for texts in (expected, found)]
-        if pair[0] != pair[1]:
-            wrong += 1
-            print(f"line {number_of_line + 1}: expected {pair[0]}, stored {pair[1]}")
-    print(f"{len(expected)} lines of {STORED.name} compared")
-    print(f"{0 if wrong else 1} passed, {1 if wrong else 0} failed")
-    return 1 if wrong else 0
-
-
 if __name__ == "__main__":
-    if len(sys.argv) > 1:
-        print("\n".join(lines()))
-    else:
-        sys.exit(compare())
+    main("bits_vectors", lines())

@@ -3,10 +3,7 @@
 The stored output is what `rt ci` holds the proved program to. Here each record is packed from its blocks, damaged where it must be, and
 asked by counting over lists of bits and numbers. With an argument it prints the lines instead.
 """
-import sys
-from pathlib import Path
-
-STORED = Path(__file__).parent.parent / "crates" / "record_vectors" / "stdout"
+from stored import main
 
 SAMPLE = [[3, 2], [1, 3], [2, 4, 1], [3], [6], [5]]
 WIRE = [[2], [1]]
@@ -254,23 +251,5 @@ def lines():
         yield f"widest degree {v}: {degree(widest, v)}"
 
 
-def compare():
-    """Prints each line that differs, and the tally."""
-    found = STORED.read_text().splitlines()
-    expected = list(lines())
-    wrong = 0
-    for i in range(max(len(found), len(expected))):
-        pair = [texts[i] if i < len(texts) else "nothing" for texts in (expected, found)]
-        if pair[0] != pair[1]:
-            wrong += 1
-            print(f"line {i + 1}: expected {pair[0]}, stored {pair[1]}")
-    print(f"{len(expected)} lines of {STORED.name} compared")
-    print(f"{0 if wrong else 1} passed, {1 if wrong else 0} failed")
-    return 1 if wrong else 0
-
-
 if __name__ == "__main__":
-    if len(sys.argv) > 1:
-        print("\n".join(lines()))
-    else:
-        sys.exit(compare())
+    main("record_vectors", lines())
