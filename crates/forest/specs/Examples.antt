@@ -8,6 +8,7 @@ use Rattle.graph.specs.Search.{entered, arcs, run, search, countUp}
 use Rattle.graph.specs.Joined.{without, joined, bridge}
 use Rattle.graph.specs.Forest.{number, childMark, parentMark}
 use Rattle.record.specs.Record.{terminals, wires, unary, fieldsFrom, fields, zeros, parts, blocks, layOut, fieldBits}
+use Rattle.record.specs.Examples.{sample, empty, single, wire}
 use Rattle.forest.specs.Index.{marksFrom, section, sectionE, sectionP, sectionB, numbers, indexBy, indexOf}
 
 -- a record and its index
@@ -17,16 +18,12 @@ data Line : Type 0 where
 abbrev computed : Line → Line
 computed (indexed bytes index) = indexed bytes (indexOf (blocks bytes))
 
-abbrev sample : List ℕ
-sample =
-    0x00 ∷ 0x30 ∷ 0x00 ∷ 0x59 ∷ 0x22 ∷ 0xA0 ∷ 0x02 ∷ 0x00 ∷ 0x10 ∷ 0x00 ∷ 0x00 ∷ 0x20 ∷ 0x01 ∷ 0x00 ∷ 0x30 ∷ 0x00 ∷ 0x00 ∷ 0x20 ∷ 0x05 ∷ 0x00 ∷ 0x40 ∷ []
-
 abbrev lines : List Line
 lines =
     indexed sample (0x41 ∷ 0x84 ∷ 0x04 ∷ 0x51 ∷ 0x00 ∷ 0x95 ∷ 0x00 ∷ 0x00 ∷ 0x02 ∷ 0x00 ∷ 0x10 ∷ 0x03 ∷ 0x00 ∷ 0x40 ∷ 0x05 ∷ [])
-    ∷ indexed (0x00 ∷ 0x00 ∷ 0x00 ∷ 0x00 ∷ []) []
-    ∷ indexed (0x00 ∷ 0x08 ∷ 0x00 ∷ 0x08 ∷ []) (0x00 ∷ 0x00 ∷ 0x00 ∷ 0x00 ∷ 0x00 ∷ [])
-    ∷ indexed (0x00 ∷ 0x10 ∷ 0x00 ∷ 0x1A ∷ 0x00 ∷ 0x10 ∷ 0x00 ∷ []) (0x40 ∷ 0x10 ∷ 0x50 ∷ 0x00 ∷ 0x00 ∷ 0x01 ∷ [])
+    ∷ indexed empty []
+    ∷ indexed single (0x00 ∷ 0x00 ∷ 0x00 ∷ 0x00 ∷ 0x00 ∷ [])
+    ∷ indexed wire (0x40 ∷ 0x10 ∷ 0x50 ∷ 0x00 ∷ 0x00 ∷ 0x01 ∷ [])
     ∷ []
 
 as-stated : map computed lines ≡ lines

@@ -1,7 +1,6 @@
 // Lowpoints: for each vertex the least visit number that it and the vertices below it reach by a wire other than the way back to the parent.
 ghost use mathlib.Core.Path.{_≡_};
-ghost use mathlib.Core.Bool.{Bool};
-ghost use Prim.Native.Nat.{_+_, _*_, _-_, _≤_, _<_, min};
+ghost use Prim.Native.Nat.{_+_, _*_, _-_, _<_, min};
 ghost use lib.ListN.{length, getD};
 ghost use Rattle.graph.specs.Graph.{block};
 ghost use Rattle.graph.specs.Search.{forest};
@@ -18,13 +17,18 @@ pub struct Low {
     pub back: bool,
 }
 
+fn lesser(a: usize, b: usize) -> usize
+    ensures { λ r. ⌜ r ≡ min a b ⌝ }
+{
+    if a < b { a } else { b }
+}
+
 // The lesser of `low` and the number in cell i less 1.
 fn lower(work: &[u16], i: usize, low: usize) -> usize
     requires { ⌜ (i < length (now work)) × (0 < getD (now work) i 0) ⌝ }
     ensures { λ r. ⌜ r ≡ min low (getD (now (work .entry)) i 0 - 1) ⌝ }
 {
-    let x = get(work, i) - 1;
-    if x < low { x } else { low }
+    lesser(low, get(work, i) - 1)
 }
 
 // The place p of vertex c is looked at.
@@ -95,12 +99,6 @@ fn lift(bytes: &[u8], n: usize, m: usize, work: &mut [u16], k: usize)
         let b = get(work, 7 * n + (up - 1));
         put(work, 7 * n + (up - 1), lesser(b, a));
     }
-}
-
-fn lesser(a: usize, b: usize) -> usize
-    ensures { λ r. ⌜ r ≡ min a b ⌝ }
-{
-    if a < b { a } else { b }
 }
 
 // The lowpoints, from the last visited vertex back.

@@ -25,17 +25,17 @@ computed (checks bytes a) = checks bytes (check bytes)
 abbrev loom : Blocks
 loom = (2 ∷ 1 ∷ []) ∷ (0 ∷ 2 ∷ []) ∷ (1 ∷ 3 ∷ 0 ∷ []) ∷ (2 ∷ []) ∷ (5 ∷ []) ∷ (4 ∷ []) ∷ []
 
-abbrev sample : List ℕ
+abbrev pub sample : List ℕ
 sample =
     0x00 ∷ 0x30 ∷ 0x00 ∷ 0x59 ∷ 0x22 ∷ 0xA0 ∷ 0x02 ∷ 0x00 ∷ 0x10 ∷ 0x00 ∷ 0x00 ∷ 0x20 ∷ 0x01 ∷ 0x00 ∷ 0x30 ∷ 0x00 ∷ 0x00 ∷ 0x20 ∷ 0x05 ∷ 0x00 ∷ 0x40 ∷ []
 
-abbrev empty : List ℕ
+abbrev pub empty : List ℕ
 empty = 0x00 ∷ 0x00 ∷ 0x00 ∷ 0x00 ∷ []
 
-abbrev single : List ℕ
+abbrev pub single : List ℕ
 single = 0x00 ∷ 0x08 ∷ 0x00 ∷ 0x08 ∷ []
 
-abbrev wire : List ℕ
+abbrev pub wire : List ℕ
 wire = 0x00 ∷ 0x10 ∷ 0x00 ∷ 0x1A ∷ 0x00 ∷ 0x10 ∷ 0x00 ∷ []
 
 -- for any three bytes a, b and c

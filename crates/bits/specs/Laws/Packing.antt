@@ -77,6 +77,14 @@ string-pack s =
     rw (held (pack s) 0 (length s) (le-leb (0 + length s) (8 * length (pack s)) (omega (arith, length-pack s))), bits-pack s)
     (take-at s (replicate (8 * ((length s + 7) / 8) - length s) false) (length s) refl)
 
+-- bytes of zero are zero bits
+pub zero-bits : (k : ℕ) → bits (replicate k 0) ≡ replicate (8 * k) false
+unfolding bits toBits
+zero-bits zero = refl
+zero-bits (suc k) =
+    let e : 8 * suc k ≡ suc (suc (suc (suc (suc (suc (suc (suc (8 * k)))))))) = omega arith in
+    rw e (ap (λ (t : List Bool). toBits 8 0 ++ t) (zero-bits k))
+
 packed-bytes : (n : ℕ) (s : List Bool) → AreBytes (packed n s)
 unfolding packed
 packed-bytes zero s i = lit< tt

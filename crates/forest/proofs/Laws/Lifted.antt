@@ -25,7 +25,7 @@ use Rattle.forest.proofs.Laws.Lowest.{spans, parent-cell}
 
 -- a store in the table leaves the forest's arrays
 module _ {bytes work next : List ℕ} {n m c x : ℕ} (s : Searched bytes work n m) (h : c < n) (p : Put work next (7 * n + c) x) where
-  pub still-searched : Searched bytes next n m
+  still-searched : Searched bytes next n m
   still-searched =
       let o = s .holds .some in
       let l = as-many (s .holds) in

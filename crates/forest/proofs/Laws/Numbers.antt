@@ -1,5 +1,5 @@
 -- The section of the visit numbers, written from the front into zeros.
-use mathlib.Core.Path.{_≡_, refl, sym, ap, ap₂, _∙_}
+use mathlib.Core.Path.{_≡_, sym, ap, ap₂, _∙_}
 use mathlib.Core.Bool.{Bool, false}
 use mathlib.Core.List.{List, [], _∷_, _++_, append-assoc, append-nil}
 use Prim.Native.Nat.{ℕ, zero, suc, _+_, _-_, _*_, _/_, _≤_, _<_}
@@ -9,22 +9,10 @@ use lib.ListN.{length, take, drop, getD, replicate, length-replicate}
 use lib.Seq.{take-suc, take-all, take-at, drop-at, drop-drop, length-take-le}
 use Rattle.bits.specs.Bits.{toBits, bits, put, pack}
 use Rattle.bits.specs.Laws.Bytes.{AreBytes}
-use Rattle.bits.specs.Laws.Packing.{bits-pack, pack-bytes, bits-injective}
+use Rattle.bits.specs.Laws.Packing.{zero-bits, bits-pack, pack-bytes, bits-injective}
 use Rattle.record.specs.Record.{fieldBits}
-use Rattle.record.specs.Laws.Fields.{length-fieldBits}
+use Rattle.record.specs.Laws.Fields.{length-fieldBits, fieldBits-append}
 use Rattle.forest.specs.Index.{numberBytes}
-
-pub zero-bits : (k : ℕ) → bits (replicate k 0) ≡ replicate (8 * k) false
-unfolding bits toBits
-zero-bits zero = refl
-zero-bits (suc k) =
-    let e : 8 * suc k ≡ suc (suc (suc (suc (suc (suc (suc (suc (8 * k)))))))) = omega arith in
-    rw e (ap (λ (t : List Bool). toBits 8 0 ++ t) (zero-bits k))
-
-fieldBits-append : (x y : List ℕ) → fieldBits (x ++ y) ≡ fieldBits x ++ fieldBits y
-unfolding fieldBits
-fieldBits-append [] y = refl
-fieldBits-append (v ∷ x) y = ap (λ (t : List Bool). toBits 12 v ++ t) (fieldBits-append x y) ∙ sym (append-assoc (toBits 12 v) (fieldBits x) (fieldBits y))
 
 drop-zeros : (a k : ℕ) → drop a (replicate k false) ≡ replicate (k - a) false
 drop-zeros zero k = let e : k - 0 ≡ k = omega arith in rw e

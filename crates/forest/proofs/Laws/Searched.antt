@@ -88,16 +88,16 @@ module _ {bytes work : List ℕ} {n m left i cur k : ℕ} (s : Searching bytes w
   pub hand-busy : 0 < left
   hand-busy = loop-busy hand
 
-  pub hand-rises : getD work (cur - 1) 0 ≤ getD work (cur - 1 + 1) 0
+  hand-rises : getD work (cur - 1) 0 ≤ getD work (cur - 1 + 1) 0
   hand-rises = row-rises (s .holds) hand-vertex
 
-  pub hand-ends : getD work (cur - 1 + 1) 0 ≤ 2 * m
+  hand-ends : getD work (cur - 1 + 1) 0 ≤ 2 * m
   hand-ends = row-ends (s .holds) hand-vertex
 
   block-size : length (block (blocks bytes) (cur - 1)) ≡ getD work (cur - 1 + 1) 0 - getD work (cur - 1) 0
   block-size = row-size (s .holds) hand-vertex
 
-  pub hand-returned : getD work (cur - 1 + 1) 0 - getD work (cur - 1) 0 ≤ getD work (2 * n + (cur - 1)) 0 → Searching bytes work n m (left - 1) i (getD work (3 * n + (cur - 1)) 0) k
+  hand-returned : getD work (cur - 1 + 1) 0 - getD work (cur - 1) 0 ≤ getD work (2 * n + (cur - 1)) 0 → Searching bytes work n m (left - 1) i (getD work (3 * n + (cur - 1)) 0) k
   hand-returned d = let b = block-size in record { holds = s .holds; begun = s .begun; loop = loop-return hand (omega arith) }
 
   module _ (d : getD work (2 * n + (cur - 1)) 0 < getD work (cur - 1 + 1) 0 - getD work (cur - 1) 0) where
@@ -114,17 +114,17 @@ module _ {bytes work : List ℕ} {n m left i cur k : ℕ} (s : Searching bytes w
       is-target : target (blocks bytes) (cur - 1) (getD work (2 * n + (cur - 1)) 0) ≡ v
       is-target = neighbour ∙ sym is-v
 
-      pub hand-inside : v < n
+      hand-inside : v < n
       hand-inside = let l = as-many (s .holds) in let r = in-range in let e = is-target in omega arith
 
-      pub hand-room : getD work (4 * n + v) 0 ≡ 0 → k < n
+      hand-room : getD work (4 * n + v) 0 ≡ 0 → k < n
       hand-room z = let l = as-many (s .holds) in let r = loop-room (s .loop) {x = v} (let g = hand-inside in omega arith) z in omega arith
 
       module _ {mid : List ℕ} (p : Put work mid (2 * n + (cur - 1)) (getD work (2 * n + (cur - 1)) 0 + 1)) where
         mid-starts : StartsStay n work mid
         mid-starts u l = let o = s .holds .some in put-other p u (λ e. omega arith)
 
-        pub mid-visit : getD mid (4 * n + v) 0 ≡ getD work (4 * n + v) 0
+        mid-visit : getD mid (4 * n + v) 0 ≡ getD work (4 * n + v) 0
         mid-visit = let g = hand-inside in let w = hand-vertex in put-other p (4 * n + v) (λ e. omega arith)
 
         mid-same : Same n (cellsOf n work) (cellsOf n mid)
@@ -146,7 +146,7 @@ module _ {bytes work : List ℕ} {n m left i cur k : ℕ} (s : Searching bytes w
               rest = λ x l q. put-other p (2 * n + x) (λ e. q (omega arith));
             }
 
-        pub hand-passed : (getD work (4 * n + v) 0 ≡ 0 → ⊥) → Searching bytes mid n m (left - 1) i cur k
+        hand-passed : (getD work (4 * n + v) 0 ≡ 0 → ⊥) → Searching bytes mid n m (left - 1) i cur k
         hand-passed q = record {
           holds = still-holding (s .holds) mid-starts (put-length p);
           begun = s .begun;
@@ -156,7 +156,7 @@ module _ {bytes work : List ℕ} {n m left i cur k : ℕ} (s : Searching bytes w
               (loop-pass hand more in-range (rw is-target q) (rw (as-many (s .holds)) mid-same) (rw (as-many (s .holds)) mid-next));
         }
 
-        pub hand-entered : {next : List ℕ} → getD work (4 * n + v) 0 ≡ 0
+        hand-entered : {next : List ℕ} → getD work (4 * n + v) 0 ≡ 0
             → Enters n (cellsOf n mid) (cellsOf n next) (cellsOf n mid .nexts) v k cur (getD work (2 * n + (cur - 1)) 0)
             → StartsStay n mid next → length next ≡ length mid → Searching bytes next n m (left - 1) i (v + 1) (k + 1)
         hand-entered {next} z e t l = record {

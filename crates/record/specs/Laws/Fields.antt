@@ -32,6 +32,11 @@ unfolding fieldBits
 length-fieldBits [] = refl
 length-fieldBits (x ∷ xs) = length-append (toBits 12 x) (fieldBits xs) ∙ omega (arith, length-toBits 12 x, length-fieldBits xs)
 
+pub fieldBits-append : (x y : List ℕ) → fieldBits (x ++ y) ≡ fieldBits x ++ fieldBits y
+unfolding fieldBits
+fieldBits-append [] y = refl
+fieldBits-append (v ∷ x) y = ap (λ (t : List Bool). toBits 12 v ++ t) (fieldBits-append x y) ∙ sym (append-assoc (toBits 12 v) (fieldBits x) (fieldBits y))
+
 -- fields that were read write the bits that they were read from
 pub fieldBits-from : (s : List Bool) (start k : ℕ) → start + 12 * k ≤ length s → fieldBits (fieldsFrom s start k) ≡ take (12 * k) (drop start s)
 unfolding fieldBits fieldsFrom field

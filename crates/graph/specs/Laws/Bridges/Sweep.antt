@@ -14,7 +14,7 @@ use Rattle.graph.specs.Laws.Tree.Numbers.{number-bound, number-injective
 use Rattle.graph.specs.Laws.Tree.Climbs.{slot, child-entry, parent-child}
 use Rattle.graph.specs.Laws.Joined.Spanning.{Spanning, source-entered, forest-length}
 use Rattle.graph.specs.Laws.Edges.Marks.{Back}
-use Rattle.graph.specs.Laws.Bridges.Stores.{Stored, Agree}
+use Rattle.graph.specs.Laws.Bridges.Stores.{Stored}
 use Rattle.graph.specs.Laws.Bridges.Lowpoints.{Attained, by-self, by-place, by-child, Lows}
 
 -- ---- over the places of one vertex
@@ -86,18 +86,6 @@ module _ {g : Blocks} {F : Forest} (span : Spanning g F) where
       go : (c : ℕ) → Met g F c (t c) → Attained g F (length g) t c
       go c (met-self e) = by-self e
       go c (met-place i w p n e) = by-place i w p n e
-
-  -- the rule speaks of the vertices' cells only
-  pub lows-agree : {m : ℕ} {t t′ : ℕ → ℕ} → Agree (length g) t t′ → Lows g F m t → Lows g F m t′
-  lows-agree {m} {t} {t′} a lo = record {
-    at-most = λ c i. (let e = here c i in let b = lo .at-most c i in omega arith);
-    at-place = λ c i w p n. (let e = here c (source-entered span p) in let b = lo .at-place c i w p n in omega arith);
-    at-child = λ c j x k l. (let e = here c (parent-entered (span .built) k) in let f = here x (entry-entered k) in let b = lo .at-child c j x k l in omega arith);
-    attained = λ c i. attained-keeps (omega arith) (here c i) (λ x k l. here x k) (lo .attained c i);
-  }
-    where
-      here : (c : ℕ) → Entered c F → t′ c ≡ t c
-      here c i = a c (span .within c i)
 
   module _ {m : ℕ} (h : m < length g) where
     abbrev v : ℕ

@@ -40,7 +40,7 @@ module _ (test : ℕ → Bool) where
   Clean l a p = anyIn test (take (p - a) (drop a l)) ≡ false
 
   module _ (l : List ℕ) (a : ℕ) where
-    pub clean-start : {p : ℕ} → p ≡ a → Clean l a p
+    clean-start : {p : ℕ} → p ≡ a → Clean l a p
     unfolding anyIn
     clean-start {p} e = let z : p - a ≡ 0 = omega arith in rw z
 
@@ -50,12 +50,12 @@ module _ (test : ℕ → Bool) where
         let q : a + (p - a) ≡ p = omega arith in
         rw z (take-suc (drop a l) (p - a) 0 (simp length-drop (omega arith)) ∙ ap (λ (v : ℕ). take (p - a) (drop a l) ++ (v ∷ [])) (getD-drop a l (p - a) 0 ∙ ap (λ (i : ℕ). getD l i 0) q))
 
-    pub clean-more : {p : ℕ} → a ≤ p → p < length l → test (getD l p 0) ≡ false → Clean l a p → Clean l a (p + 1)
+    clean-more : {p : ℕ} → a ≤ p → p < length l → test (getD l p 0) ≡ false → Clean l a p → Clean l a (p + 1)
     unfolding anyIn
     clean-more {p} h k e c =
         rw (one-more h k, any-append (take (p - a) (drop a l)) (getD l p 0 ∷ [])) (or-false c (or-false e refl))
 
-    pub clean-hit : {p end : ℕ} → a ≤ p → p < end → end ≤ length l → test (getD l p 0) ≡ true → anyIn test (take (end - a) (drop a l)) ≡ true
+    clean-hit : {p end : ℕ} → a ≤ p → p < end → end ≤ length l → test (getD l p 0) ≡ true → anyIn test (take (end - a) (drop a l)) ≡ true
     unfolding anyIn
     clean-hit {p} {end} h k m e =
         let z : end - a ≡ p + 1 - a + (end - (p + 1)) = omega arith in
@@ -81,13 +81,13 @@ module _ (test : ℕ → ℕ → Bool) where
     first-blocks : u < length g → length (take u g) ≡ u
     first-blocks h = length-take-le u g (omega arith)
 
-    pub blocks-more : u < length g → anyFrom test 0 (take u g) ≡ false → anyIn (test u) (block g u) ≡ false → anyFrom test 0 (take (u + 1) g) ≡ false
+    blocks-more : u < length g → anyFrom test 0 (take u g) ≡ false → anyIn (test u) (block g u) ≡ false → anyFrom test 0 (take (u + 1) g) ≡ false
     unfolding anyFrom
     blocks-more h c e =
         let z : 0 + u ≡ u = omega arith in
         rw (add-one u, take-suc g u [] h, from-append 0 (take u g) (block g u ∷ []), first-blocks h, z) (or-false c (or-false e refl))
 
-    pub blocks-hit : u < length g → anyIn (test u) (block g u) ≡ true → anyPlace test g ≡ true
+    blocks-hit : u < length g → anyIn (test u) (block g u) ≡ true → anyPlace test g ≡ true
     unfolding anyFrom
     blocks-hit h e =
         let z : 0 + u ≡ u = omega arith in
@@ -95,7 +95,7 @@ module _ (test : ℕ → ℕ → Bool) where
         ap (λ (x : Blocks). anyFrom test 0 x) s ∙ from-append 0 (take u g) (block g u ∷ drop (suc u) g)
         ∙ rw (first-blocks h, z, e) (or-true (anyFrom test 0 (take u g)) refl)
 
-    pub blocks-end : length g ≤ u → anyFrom test 0 (take u g) ≡ false → anyPlace test g ≡ false
+    blocks-end : length g ≤ u → anyFrom test 0 (take u g) ≡ false → anyPlace test g ≡ false
     blocks-end h c = ap (anyFrom test 0) (sym (take-all u g h)) ∙ c
 
 -- ---- no stray neighbour in block u before place p
