@@ -1,20 +1,17 @@
 // Lowpoints: for each vertex the least visit number that it and the vertices below it reach by a wire other than the way back to the parent.
+// On the way the way back itself is found: the first mention of the parent.
 ghost use mathlib.Core.Path.{_≡_};
 ghost use Prim.Native.Nat.{_+_, _*_, _-_, _<_, min};
 ghost use lib.ListN.{length, getD};
-ghost use Rattle.graph.specs.Graph.{block};
-ghost use Rattle.graph.specs.Search.{forest};
-ghost use Rattle.graph.specs.Laws.Bridges.Sweep.{Least};
-ghost use Rattle.record.specs.Record.{blocks};
 ghost use Rattle.forest.specs.Steps.{Searched};
-ghost use Rattle.forest.specs.Lows.{LowAt, Lifting};
+ghost use Rattle.forest.specs.Lows.{LowAt, OwnLow, Lifting};
 use record::cells::get;
 use record::cells::put;
 
-// The least number so far, and whether the way back is passed.
+// The least number so far, and 1 + the place of the way back, or 0 where it is not passed yet.
 pub struct Low {
     pub low: usize,
-    pub back: bool,
+    pub back: usize,
 }
 
 fn lesser(a: usize, b: usize) -> usize
@@ -40,7 +37,7 @@ fn next_low(
     c: usize,
     p: usize,
     low: usize,
-    back: bool,
+    back: usize,
 ) -> Low
     requires { ⌜ (LowAt (now bytes) (now work) n m c p low back) × (p < getD (now work) (c + 1) 0) ⌝ }
     ensures { λ r. ⌜ LowAt (now (bytes .entry)) (now (work .entry)) n m c (p + 1) (r .low) (r .back) ⌝ }
@@ -48,41 +45,42 @@ fn next_low(
     let v = record::fields::field(bytes, n, m, p);
     let x = lower(work, 4 * n + v, low);
     if v + 1 == get(work, 3 * n + c) {
-        if back {
-            return Low { low: x, back: true };
+        if back == 0 {
+            return Low { low, back: p + 1 };
         }
-        return Low { low, back: true };
+        return Low { low: x, back };
     }
     Low { low: x, back }
 }
 
-// The least number over all places of vertex c.
-fn own_low(bytes: &[u8], n: usize, m: usize, work: &[u16], c: usize) -> usize
+// The least number over all places of vertex c, and its way back.
+fn own_low(bytes: &[u8], n: usize, m: usize, work: &[u16], c: usize) -> Low
     requires { ⌜ (Searched (now bytes) (now work) n m) × (c < n) ⌝ }
-    ensures { λ r. ⌜ (Least (blocks (now (bytes .entry))) (forest (blocks (now (bytes .entry)))) c (length (block (blocks (now (bytes .entry))) c)) r) × (r < n) ⌝ }
+    ensures { λ r. ⌜ OwnLow (now (bytes .entry)) n (getD (now (work .entry)) c 0) c (r .low) (r .back) ⌝ }
 {
     let end = get(work, c + 1);
     let mut p = get(work, c);
     let mut low = get(work, 4 * n + c) - 1;
-    let mut back = false;
+    let mut back: usize = 0;
     while p < end {
         let l = next_low(bytes, n, m, work, c, p, low, back);
         low = l.low;
         back = l.back;
         p += 1;
     }
-    low
+    Low { low, back }
 }
 
-// The least number over its own places, for every vertex.
+// The least number over its own places, and the way back, for every vertex.
 fn own_lows(bytes: &[u8], n: usize, m: usize, work: &mut [u16])
     requires { ⌜ Searched (now bytes) (now work) n m ⌝ }
     ensures { λ _. ⌜ Lifting (now (bytes .entry)) (now (work .exit)) n m n ⌝ }
 {
     let mut c = 0;
     while c < n {
-        let low = own_low(bytes, n, m, work, c);
-        put(work, 7 * n + c, low);
+        let l = own_low(bytes, n, m, work, c);
+        put(work, 7 * n + c, l.low);
+        put(work, 2 * n + c, l.back);
         c += 1;
     }
 }

@@ -18,13 +18,13 @@ use Rattle.graph.specs.Laws.Joined.Spanning.{forest-length}
 use Rattle.graph.specs.Laws.Loop.Arrays.{kept-same}
 use Rattle.record.specs.Record.{blocks}
 use Rattle.forest.specs.Steps.{cellsOf, Searched}
-use Rattle.forest.specs.Lows.{Lifting}
+use Rattle.forest.specs.Lows.{Passed, OwnLow, Lifting}
 use Rattle.forest.proofs.Laws.Entering.{Put, put-length, put-other, put-here}
 use Rattle.forest.proofs.Laws.Searched.{as-many, still-holding}
 use Rattle.forest.proofs.Laws.Lowest.{spans, parent-cell}
 
--- a store in the table leaves the forest's arrays
-module _ {bytes work next : List ℕ} {n m c x : ℕ} (s : Searched bytes work n m) (h : c < n) (p : Put work next (7 * n + c) x) where
+-- a store behind the starts and outside the forest's arrays leaves both
+module _ {bytes work next : List ℕ} {n m a x : ℕ} (s : Searched bytes work n m) (past : 2 * n ≤ a) (apart : (i : ℕ) → 3 * n ≤ i → i < 7 * n → i ≡ a → ⊥) (p : Put work next a x) where
   still-searched : Searched bytes next n m
   still-searched =
       let o = s .holds .some in
@@ -33,10 +33,10 @@ module _ {bytes work next : List ℕ} {n m c x : ℕ} (s : Searched bytes work n
       record {
         holds = still-holding (s .holds) (λ u k. put-other p u (λ e. omega arith)) (put-length p);
         kept = kept-same {c′ = cellsOf n next} (s .kept) (spans s .within) (omega arith) (record {
-          visits-same = λ v k. put-other p (4 * n + v) (λ e. omega arith);
-          parents-same = λ v k. put-other p (3 * n + v) (λ e. omega arith);
-          slots-same = λ v k. put-other p (6 * n + v) (λ e. omega arith);
-          order-same = λ v k. put-other p (5 * n + v) (λ e. omega arith);
+          visits-same = λ v k. put-other p (4 * n + v) (apart (4 * n + v) (omega arith) (omega arith));
+          parents-same = λ v k. put-other p (3 * n + v) (apart (3 * n + v) (omega arith) (omega arith));
+          slots-same = λ v k. put-other p (6 * n + v) (apart (6 * n + v) (omega arith) (omega arith));
+          order-same = λ v k. put-other p (5 * n + v) (apart (5 * n + v) (omega arith) (omega arith));
         });
       }
 
@@ -44,21 +44,34 @@ module _ {bytes work next : List ℕ} {n m c x : ℕ} (s : Searched bytes work n
 pub record Filled (bytes work : List ℕ) (n m c : ℕ) : Type 0 where
   pub searched : Searched bytes work n m
   pub upto : c ≤ n
-  pub each : (x : ℕ) → x < c → Least (blocks bytes) (forest (blocks bytes)) x (length (block (blocks bytes) x)) (getD work (7 * n + x) 0)
+  pub each : (x : ℕ) → x < c → OwnLow bytes n (getD work x 0) x (getD work (7 * n + x) 0) (getD work (2 * n + x) 0)
 
 pub filled-begin : {bytes work : List ℕ} {n m : ℕ} → Searched bytes work n m → Filled bytes work n m 0
 filled-begin s = record { searched = s; upto = omega arith; each = λ x l. absurd (omega arith) }
 
-pub filled-more : {bytes work next : List ℕ} {n m c low : ℕ} → Filled bytes work n m c → c < n → next ≡ set work (7 * n + c) low
-    → Least (blocks bytes) (forest (blocks bytes)) c (length (block (blocks bytes) c)) low → Filled bytes next n m (c + 1)
-filled-more {bytes} {work} {next} {n} {m} {c} {low} f h e r = record { searched = still-searched (f .searched) h p; upto = omega arith; each = λ x l. go x l (ℕ-discrete x c) }
-  where
-    p : Put work next (7 * n + c) low
-    p = record { is = e }
+module _ {bytes work mid next : List ℕ} {n m c low back : ℕ} (f : Filled bytes work n m c) (h : c < n)
+    (first : Put work mid (7 * n + c) low) (second : Put mid next (2 * n + c) back) where
+  stays : (i : ℕ) → (i ≡ 7 * n + c → ⊥) → (i ≡ 2 * n + c → ⊥) → getD next i 0 ≡ getD work i 0
+  stays i p q = put-other second i q ∙ put-other first i p
 
-    go : (x : ℕ) → x < c + 1 → Dec (x ≡ c) → Least (blocks bytes) (forest (blocks bytes)) x (length (block (blocks bytes) x)) (getD next (7 * n + x) 0)
-    go x l (yes q) = let z = f .searched .holds .size in rw (q, put-here p (omega arith)) r
-    go x l (no d) = rw (put-other p (7 * n + x) (λ t. d (omega arith))) (f .each x (omega arith))
+  more : OwnLow bytes n (getD work c 0) c low back → (x : ℕ) → x < c + 1 → Dec (x ≡ c) → OwnLow bytes n (getD next x 0) x (getD next (7 * n + x) 0) (getD next (2 * n + x) 0)
+  more r x l (yes q) =
+      let z = f .searched .holds .size in
+      let y = put-length first in
+      let a : getD next x 0 ≡ getD work x 0 = stays x (λ t. omega arith) (λ t. omega arith) in
+      let b : getD next (7 * n + c) 0 ≡ low = put-other second (7 * n + c) (λ t. omega arith) ∙ put-here first (omega arith) in
+      let k : getD next (2 * n + c) 0 ≡ back = put-here second (omega arith) in
+      rw (a, q, b, k) r
+  more r x l (no q) =
+      let a : getD next x 0 ≡ getD work x 0 = stays x (λ t. omega arith) (λ t. omega arith) in
+      let b : getD next (7 * n + x) 0 ≡ getD work (7 * n + x) 0 = stays (7 * n + x) (λ t. q (omega arith)) (λ t. omega arith) in
+      let k : getD next (2 * n + x) 0 ≡ getD work (2 * n + x) 0 = stays (2 * n + x) (λ t. omega arith) (λ t. q (omega arith)) in
+      rw (a, b, k) (f .each x (omega arith))
+
+  pub filled-more : OwnLow bytes n (getD work c 0) c low back → Filled bytes next n m (c + 1)
+  filled-more r =
+      let s = still-searched (f .searched) (omega arith) (λ i a b t. omega arith) first in
+      record { searched = still-searched s (omega arith) (λ i a b t. omega arith) second; upto = omega arith; each = λ x l. more r x l (ℕ-discrete x c) }
 
 pub filled-end : {bytes work : List ℕ} {n m c : ℕ} → Filled bytes work n m c → n ≤ c → Lifting bytes work n m n
 filled-end {bytes} {work} {n} f h =
@@ -66,7 +79,8 @@ filled-end {bytes} {work} {n} f h =
     let u = f .upto in
     record {
       searched = f .searched;
-      lows = subst (λ (k : ℕ). Lows (blocks bytes) (forest (blocks bytes)) k (λ v. getD work (7 * n + v) 0)) l (sweep-begin (spans (f .searched)) (λ c k. f .each c (omega arith)));
+      lows = subst (λ (k : ℕ). Lows (blocks bytes) (forest (blocks bytes)) k (λ v. getD work (7 * n + v) 0)) l (sweep-begin (spans (f .searched)) (λ c k. f .each c (omega arith) .least));
+      backs = λ c k. f .each c (omega arith) .passed;
     }
 
 -- the vertex of visit number k
@@ -94,7 +108,7 @@ module _ {bytes work : List ℕ} {n m k v up : ℕ} (f : Lifting bytes work n m 
   lows-here = subst (λ (x : ℕ). Lows (blocks bytes) (forest (blocks bytes)) x (λ y. getD work (7 * n + y) 0)) (add-one k) (f .lows)
 
   pub lift-root : up ≤ 0 → Lifting bytes work n m k
-  lift-root z = let e = the-parent in record { searched = f .searched; lows = sweep-root (spans (f .searched)) below (omega arith) lows-here }
+  lift-root z = let e = the-parent in record { searched = f .searched; lows = sweep-root (spans (f .searched)) below (omega arith) lows-here; backs = f .backs }
 
   module _ (z : 0 < up) where
     parent-is : parent (forest (blocks bytes)) (vertexAt (forest (blocks bytes)) k) ≡ suc (up - 1)
@@ -116,9 +130,14 @@ module _ {bytes work : List ℕ} {n m k v up : ℕ} (f : Lifting bytes work n m 
         let l = as-many (f .searched .holds) in
         let x : a ≡ getD work (7 * n + vertexAt (forest (blocks bytes)) k) 0 = ea ∙ ap (λ (y : ℕ). getD work (7 * n + y) 0) (vertex f h is-v) in
         record {
-          searched = still-searched (f .searched) i p;
+          searched = still-searched (f .searched) (omega arith) (λ y q r t. omega arith) p;
           lows = sweep-child (spans (f .searched)) below {t′ = λ y. getD next (7 * n + y) 0} parent-is (record {
             hit = put-here p (omega arith) ∙ ap₂ min eb x;
             rest = λ y k q. put-other p (7 * n + y) (λ t. q (omega arith));
           }) lows-here;
+          backs = λ c q. (
+              let a : getD next c 0 ≡ getD work c 0 = put-other p c (λ t. omega arith) in
+              let b : getD next (2 * n + c) 0 ≡ getD work (2 * n + c) 0 = put-other p (2 * n + c) (λ t. omega arith) in
+              rw (a, b) (f .backs c q)
+              );
         }

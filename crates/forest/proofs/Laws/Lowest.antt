@@ -1,8 +1,7 @@
 -- The least visit number over the places of one vertex.
-use mathlib.Core.Path.{_≡_, sym, ap, subst, _∙_}
-use mathlib.Core.Bool.{Bool, true, false}
+use mathlib.Core.Path.{_≡_, refl, sym, ap, subst, _∙_}
 use mathlib.Core.List.{List}
-use Prim.Native.Nat.{ℕ, suc, _+_, _-_, _*_, _≤_, _<_, min}
+use Prim.Native.Nat.{ℕ, zero, suc, _+_, _-_, _*_, _≤_, _<_, min}
 use native.Mathlib.Numerals.{add-one}
 use native.Mathlib.Omega.{arith}
 use native.Mathlib.Decide.{ℕ-discrete}
@@ -19,8 +18,8 @@ use Rattle.graph.specs.Laws.Bridges.Sweep.{Least, least-begin, least-pass, leas
 use Rattle.record.specs.Record.{fields, blocks}
 use Rattle.record.specs.Laws.Sound.{accepted-well-formed}
 use Rattle.forest.specs.Steps.{Searched}
-use Rattle.forest.specs.Lows.{Passed, LowAt}
-use Rattle.forest.proofs.Laws.Rows.{row-rises, row-size, row-neighbour}
+use Rattle.forest.specs.Lows.{Passed, LowAt, OwnLow}
+use Rattle.forest.proofs.Laws.Rows.{row-rises, row-ends, row-size, row-neighbour}
 use Rattle.forest.proofs.Laws.Searched.{as-many}
 
 module _ {bytes work : List ℕ} {n m : ℕ} (s : Searched bytes work n m) where
@@ -52,15 +51,15 @@ neighbour {bytes} {work} {n} {m} {c} s h p l k =
 
 -- ---- the loop over the places
 
-passed-more : (bytes : List ℕ) (c j : ℕ) (flag : Bool) → Passed bytes c j flag → (parent (forest (blocks bytes)) c ≡ suc (target (blocks bytes) c j) → ⊥) → Passed bytes c (suc j) flag
-passed-more bytes c j true b d = let l = b .before in record { at = b .at; before = omega arith; is-back = b .is-back }
-passed-more bytes c j false b d = λ i l e. go i l e (ℕ-discrete i j)
+passed-more : (bytes : List ℕ) (a c j back : ℕ) → Passed bytes a c j back → (parent (forest (blocks bytes)) c ≡ suc (target (blocks bytes) c j) → ⊥) → Passed bytes a c (suc j) back
+passed-more bytes a c j (suc p) b d = let l = b .before in record { from = b .from; before = omega arith; is-back = b .is-back }
+passed-more bytes a c j zero b d = λ i l e. go i l e (ℕ-discrete i j)
   where
     go : (i : ℕ) → i < suc j → parent (forest (blocks bytes)) c ≡ suc (target (blocks bytes) c i) → Dec (i ≡ j) → ⊥
     go i l e (yes q) = d (e ∙ ap (λ (x : ℕ). suc (target (blocks bytes) c x)) q)
     go i l e (no q) = b i (omega arith) e
 
-pub low-begin : {bytes work : List ℕ} {n m c p low : ℕ} → Searched bytes work n m → c < n → p ≡ getD work c 0 → low + 1 ≡ getD work (4 * n + c) 0 → LowAt bytes work n m c p low false
+pub low-begin : {bytes work : List ℕ} {n m c p low : ℕ} → Searched bytes work n m → c < n → p ≡ getD work c 0 → low + 1 ≡ getD work (4 * n + c) 0 → LowAt bytes work n m c p low 0
 low-begin {bytes} {work} {n} {m} {c} {p} {low} s h e f =
     let r = row-rises (s .holds) h in
     let v = visit-cell s h in
@@ -75,7 +74,7 @@ low-begin {bytes} {work} {n} {m} {c} {p} {low} s h e f =
       passed = λ i l. absurd (omega arith);
     }
 
-module _ {bytes work : List ℕ} {n m c p low v : ℕ} {flag : Bool} (a : LowAt bytes work n m c p low flag) (k : p < getD work (c + 1) 0) (is-v : v ≡ getD (fields bytes) p 0) where
+module _ {bytes work : List ℕ} {n m c p low back v : ℕ} (a : LowAt bytes work n m c p low back) (k : p < getD work (c + 1) 0) (is-v : v ≡ getD (fields bytes) p 0) where
   abbrev j : ℕ
   j = p - getD work c 0
 
@@ -113,20 +112,20 @@ module _ {bytes work : List ℕ} {n m c p low v : ℕ} {flag : Bool} (a : LowAt 
   no-mention : (v + 1 ≡ getD work (3 * n + c) 0 → ⊥) → parent (forest (blocks bytes)) c ≡ suc (target (blocks bytes) c (p - getD work c 0)) → ⊥
   no-mention d e = let t = leads-to in let u = the-parent in d (omega arith)
 
-  pub low-other : {x : ℕ} → (v + 1 ≡ getD work (3 * n + c) 0 → ⊥) → x ≡ min low (getD work (4 * n + v) 0 - 1) → LowAt bytes work n m c (p + 1) x flag
+  pub low-other : {x : ℕ} → (v + 1 ≡ getD work (3 * n + c) 0 → ⊥) → x ≡ min low (getD work (4 * n + v) 0 - 1) → LowAt bytes work n m c (p + 1) x back
   low-other d e = record {
     searched = a .searched;
     inside = a .inside;
     from = let f = a .from in omega arith;
     upto = omega arith;
     least = took (other-no-back d) e;
-    passed = subst (λ (i : ℕ). Passed bytes c i flag) next (passed-more bytes c (p - getD work c 0) flag (a .passed) (no-mention d));
+    passed = subst (λ (i : ℕ). Passed bytes (getD work c 0) c i back) next (passed-more bytes (getD work c 0) c (p - getD work c 0) back (a .passed) (no-mention d));
   }
 
 module _ {bytes work : List ℕ} {n m c p low v : ℕ} where
   -- the way back is passed already
-  again : {x : ℕ} (a : LowAt bytes work n m c p low true) (k : p < getD work (c + 1) 0) (is-v : v ≡ getD (fields bytes) p 0)
-      → x ≡ min low (getD work (4 * n + v) 0 - 1) → LowAt bytes work n m c (p + 1) x true
+  again : {x q : ℕ} (a : LowAt bytes work n m c p low (suc q)) (k : p < getD work (c + 1) 0) (is-v : v ≡ getD (fields bytes) p 0)
+      → x ≡ min low (getD work (4 * n + v) 0 - 1) → LowAt bytes work n m c (p + 1) x (suc q)
   again a k is-v e = record {
     searched = a .searched;
     inside = a .inside;
@@ -137,12 +136,12 @@ module _ {bytes work : List ℕ} {n m c p low v : ℕ} where
         let l = a .passed .before in
         omega arith
         )) e;
-    passed = let l = a .passed .before in let f = a .from in record { at = a .passed .at; before = omega arith; is-back = a .passed .is-back };
+    passed = let l = a .passed .before in let f = a .from in record { from = a .passed .from; before = omega arith; is-back = a .passed .is-back };
   }
 
   -- this is the way back
-  way-back : (a : LowAt bytes work n m c p low false) (k : p < getD work (c + 1) 0) (is-v : v ≡ getD (fields bytes) p 0)
-      → v + 1 ≡ getD work (3 * n + c) 0 → LowAt bytes work n m c (p + 1) low true
+  way-back : (a : LowAt bytes work n m c p low 0) (k : p < getD work (c + 1) 0) (is-v : v ≡ getD (fields bytes) p 0)
+      → v + 1 ≡ getD work (3 * n + c) 0 → LowAt bytes work n m c (p + 1) low (suc p)
   way-back a k is-v e =
       let f = a .from in
       let l = as-many (a .searched .holds) in
@@ -160,23 +159,38 @@ module _ {bytes work : List ℕ} {n m c p low v : ℕ} where
         from = omega arith;
         upto = omega arith;
         least = rw (sym (next a k is-v)) (least-pass b (a .least));
-        passed = record { at = p - getD work c 0; before = omega arith; is-back = b };
+        passed = record { from = f; before = omega arith; is-back = b };
       }
 
-  pub low-again : {x : ℕ} {flag : Bool} → LowAt bytes work n m c p low flag → flag ≡ true → p < getD work (c + 1) 0 → v ≡ getD (fields bytes) p 0
-      → x ≡ min low (getD work (4 * n + v) 0 - 1) → LowAt bytes work n m c (p + 1) x true
-  low-again a f k is-v e = again (subst (λ (b : Bool). LowAt bytes work n m c p low b) f a) k is-v e
+  pub low-again : {x back : ℕ} → LowAt bytes work n m c p low back → (back ≡ 0 → ⊥) → p < getD work (c + 1) 0 → v ≡ getD (fields bytes) p 0
+      → x ≡ min low (getD work (4 * n + v) 0 - 1) → LowAt bytes work n m c (p + 1) x back
+  low-again {back = zero} a f k is-v e = absurd (f refl)
+  low-again {back = suc q} a f k is-v e = again a k is-v e
 
-  pub low-back : {flag : Bool} → LowAt bytes work n m c p low flag → flag ≡ false → p < getD work (c + 1) 0 → v ≡ getD (fields bytes) p 0
-      → v + 1 ≡ getD work (3 * n + c) 0 → LowAt bytes work n m c (p + 1) low true
-  low-back a f k is-v e = way-back (subst (λ (b : Bool). LowAt bytes work n m c p low b) f a) k is-v e
+  pub low-back : {back : ℕ} → LowAt bytes work n m c p low back → back ≡ 0 → p < getD work (c + 1) 0 → v ≡ getD (fields bytes) p 0
+      → v + 1 ≡ getD work (3 * n + c) 0 → LowAt bytes work n m c (p + 1) low (p + 1)
+  low-back {back = zero} a f k is-v e = subst (λ (b : ℕ). LowAt bytes work n m c (p + 1) low b) (sym (add-one p)) (way-back a k is-v e)
+  low-back {back = suc q} a f k is-v e = absurd (omega arith)
 
-pub low-end : {bytes work : List ℕ} {n m c p low : ℕ} {flag : Bool} → LowAt bytes work n m c p low flag → getD work (c + 1) 0 ≤ p
-    → (Least (blocks bytes) (forest (blocks bytes)) c (length (block (blocks bytes) c)) low) × (low < n)
-low-end {bytes} {work} {n} {m} {c} {p} {low} a h =
+-- the place of the way back is one of the record's
+back-most : (bytes : List ℕ) (a c j back most : ℕ) → Passed bytes a c j back → a + j ≤ most → back ≤ most
+back-most bytes a c j zero most b l = omega arith
+back-most bytes a c j (suc p) most b l = let f = b .from in let g = b .before in omega arith
+
+pub low-end : {bytes work : List ℕ} {n m c p low back : ℕ} → LowAt bytes work n m c p low back → getD work (c + 1) 0 ≤ p → OwnLow bytes n (getD work c 0) c low back
+low-end {bytes} {work} {n} {m} {c} {p} {low} {back} a h =
     let u = a .upto in
     let b = row-size (a .searched .holds) (a .inside) in
     let e : length (block (blocks bytes) c) ≡ p - getD work c 0 = omega arith in
     let q = number-below (a .searched) (a .inside) in
     let r = a .least .at-most in
-    (rw e (a .least), omega arith)
+    let t = row-rises (a .searched .holds) (a .inside) in
+    let i = row-ends (a .searched .holds) (a .inside) in
+    let k = a .searched .holds .sound .m-fits in
+    let all : Passed bytes (getD work c 0) c (length (block (blocks bytes) c)) back = subst (λ (j : ℕ). Passed bytes (getD work c 0) c j back) (sym e) (a .passed) in
+    record {
+      least = rw e (a .least);
+      low-fits = omega arith;
+      passed = all;
+      back-fits = back-most bytes (getD work c 0) c (length (block (blocks bytes) c)) back 32768 all (omega arith);
+    }

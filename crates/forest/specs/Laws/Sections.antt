@@ -15,7 +15,7 @@ use Rattle.forest.specs.Index.{marksFrom, section, numbers}
 
 -- ---- a function at i, i + 1, ..
 
-length-each : {A : Type 0} (f : ℕ → A) (i n : ℕ) → length (map f (countUp i n)) ≡ n
+pub length-each : {A : Type 0} (f : ℕ → A) (i n : ℕ) → length (map f (countUp i n)) ≡ n
 length-each f i n = length-map (countUp i n) f ∙ count-length i n
 
 each-at : {A : Type 0} (f : ℕ → A) (d : A) (i n k : ℕ) → k < n → getD (map f (countUp i n)) k d ≡ f (i + k)
@@ -24,7 +24,7 @@ each-at f d i zero k h = absurd (omega arith)
 each-at f d i (suc n) zero h = ap f (omega arith)
 each-at f d i (suc n) (suc k) h = each-at f d (suc i) n k (omega arith) ∙ ap f (omega arith)
 
-each-same : {A : Type 0} (f h : ℕ → A) (i n : ℕ) → ((k : ℕ) → k < n → f (i + k) ≡ h (i + k)) → map f (countUp i n) ≡ map h (countUp i n)
+pub each-same : {A : Type 0} (f h : ℕ → A) (i n : ℕ) → ((k : ℕ) → k < n → f (i + k) ≡ h (i + k)) → map f (countUp i n) ≡ map h (countUp i n)
 unfolding countUp
 each-same f h i zero e = refl
 each-same {A} f h i (suc n) e =
@@ -41,12 +41,16 @@ each-same {A} f h i (suc n) e =
 abbrev pub blockStart : Blocks → ℕ → ℕ
 blockStart g u = length (flatten (take u g))
 
+-- the bit of the place (u, j)
+abbrev pub placeBit : Blocks → ℕ → ℕ → ℕ
+placeBit g u j = blockStart g u + u + 1 + j
+
 -- the marks laid out, where the first block is vertex u's
-abbrev laidFrom : PlaceTest → ℕ → Blocks → List Bool
+abbrev pub laidFrom : PlaceTest → ℕ → Blocks → List Bool
 laidFrom test u g = layOut false (marksFrom test u g)
 
 -- the marks of one block
-abbrev marksOf : PlaceTest → ℕ → List ℕ → List Bool
+abbrev pub marksOf : PlaceTest → ℕ → List ℕ → List Bool
 marksOf test u b = map (test u) (countUp 0 (length b))
 
 length-laid : (test : PlaceTest) (u : ℕ) (g : Blocks) → length (laidFrom test u g) ≡ length g + length (flatten g)
@@ -59,7 +63,7 @@ pub length-section : (test : PlaceTest) (g : Blocks) → length (section test g)
 unfolding section
 length-section test g = length-laid test 0 g
 
-marks-same : (a b : PlaceTest) (u : ℕ) (g : Blocks) → ((x j : ℕ) → x < length g → j < length (block g x) → a (u + x) j ≡ b (u + x) j)
+pub marks-same : (a b : PlaceTest) (u : ℕ) (g : Blocks) → ((x j : ℕ) → x < length g → j < length (block g x) → a (u + x) j ≡ b (u + x) j)
     → marksFrom a u g ≡ marksFrom b u g
 unfolding marksFrom
 marks-same a b u [] e = refl
@@ -126,7 +130,7 @@ own-bit test g u h = own-from test 0 g u h
 
 -- the bit of a place
 pub mark-bit : (test : PlaceTest) (g : Blocks) (u j : ℕ) → u < length g → j < length (block g u)
-    → getD (section test g) (blockStart g u + u + 1 + j) false ≡ test u j
+    → getD (section test g) (placeBit g u j) false ≡ test u j
 unfolding section
 mark-bit test g u j h k = let z : 0 + u ≡ u = omega arith in mark-from test 0 g u j h k ∙ ap (λ (i : ℕ). test i j) z
 

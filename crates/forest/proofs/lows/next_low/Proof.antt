@@ -37,15 +37,20 @@ add-get c = search needs
 get-requires : tie.Need-get-requires
 get-requires c κs = search needs
 
+add-t17 : tie.Need-add-t17
+add-t17 c =
+    let pre = c .before .before .before .before .before .before .before .pre in
+    let e = row-ends (pre .0 .searched .holds) (pre .0 .inside) in let q = pre .0 .searched .holds .sound .m-fits in omega arith
+
 returns : tie.Need-returns
 returns c =
     let pre = c .before .before .before .before .before .before .before .pre in
-    low-again (pre .0) (c .if2 .taken) (pre .1) (c .before .before .before .before .field .ensures .0) (c .before .before .before .lower .ensures)
+    low-back (pre .0) (c .if2 .taken) (pre .1) (c .before .before .before .before .field .ensures .0) (c .before .if1 .taken ∙ c .before .before .get .ensures .0)
 
 returns-2 : tie.Need-returns-2
 returns-2 c =
     let pre = c .before .before .before .before .before .before .before .pre in
-    low-back (pre .0) (c .if2 .left) (pre .1) (c .before .before .before .before .field .ensures .0) (c .before .if1 .taken ∙ c .before .before .get .ensures .0)
+    low-again (pre .0) (c .if2 .left) (pre .1) (c .before .before .before .before .field .ensures .0) (c .before .before .before .lower .ensures)
 
 returns-3 : tie.Need-returns-3
 returns-3 c =
@@ -64,6 +69,7 @@ next-low-spec =
     mul-get
     add-get
     get-requires
+    add-t17
     returns
     returns-2
     returns-3)

@@ -1,11 +1,15 @@
 -- `lows::own_lows` meets its contract.
-use mathlib.Core.Path.{_≡_, refl, _∙_}
-use Prim.Native.Nat.{_-_}
-use native.Mathlib.Omega.{arith}
-use lib.ListN.{length}
 use Rattle.forest.proofs.Laws.Lifted.{Filled, filled-begin, filled-more, filled-end}
+use lib.ListN.{length}
+use native.Mathlib.Omega.{arith}
+use Prim.Native.Nat.{_-_}
+use mathlib.Core.Path.{_≡_, refl, _∙_}
 use Rattle.forest.proofs.lows.own_lows.Statement.{statement}
 use Rattle.forest.proofs.lows.own_lows.Tie as tie
+use Rattle.forest.proofs.lows.own_lows.Reads as reads
+use Rattle.forest.proofs.lows.own_lows.Lts as lts
+use Rattle.forest.proofs.lows.own_low.Reads as own-low-reads
+use Rattle.record.proofs.cells.put.Reads as put-reads
 
 abbrev Inv-loop : tie.InvT-loop
 Inv-loop bytes n m work₀ c₀ work c = (Filled bytes work n m c) × (length work ≡ length work₀)
@@ -26,21 +30,25 @@ add-put : tie.Need-add-put Inv-loop μ-loop
 add-put c = let s = c .before .before .before .before .loop .inv .0 .searched .holds in let o = s .sound .n-fits in let q = s .size in omega arith
 
 put-requires : tie.Need-put-requires Inv-loop μ-loop
-put-requires c κs = let s = c .before .before .before .before .loop .inv .0 .searched .holds in let o = s .sound .n-fits in let q = s .size in let r = c .before .own-low .ensures .1 in (omega arith, omega arith)
+put-requires c κs = let s = c .before .before .before .before .loop .inv .0 .searched .holds in let o = s .sound .n-fits in let q = s .size in let r = c .before .own-low .ensures .low-fits in (omega arith, omega arith)
+
+mul-put-2 : tie.Need-mul-put-2 Inv-loop μ-loop
+mul-put-2 c = let s = c .before .before .before .before .before .before .before .before .loop .inv .0 .searched .holds in let o = s .sound .n-fits in let q = s .size in omega arith
+
+add-put-2 : tie.Need-add-put-2 Inv-loop μ-loop
+add-put-2 c = let s = c .before .before .before .before .before .before .before .before .loop .inv .0 .searched .holds in let o = s .sound .n-fits in let q = s .size in omega arith
+
+put-requires-2 : tie.Need-put-requires-2 Inv-loop μ-loop
+put-requires-2 c κs = let s = c .before .before .before .before .before .before .before .before .loop .inv .0 .searched .holds in let o = s .sound .n-fits in let q = s .size in let r = c .before .before .before .before .before .own-low .ensures .back-fits in let l = c .before .before .work .given in (omega arith, omega arith)
 
 add-c : tie.Need-add-c Inv-loop μ-loop
-add-c c =
-    let loop = c .before .before .before .before .before .before .before .loop in
-    let s = loop .inv .0 .searched .holds in let o = s .sound .n-fits in let q = s .size in omega arith
+add-c c = let s = c .before .before .before .before .before .before .before .before .before .before .before .loop .inv .0 .searched .holds in let o = s .sound .n-fits in omega arith
 
 loop-less : tie.Need-loop-less Inv-loop μ-loop
 loop-less c = omega arith
 
 loop-again : tie.Need-loop-again Inv-loop μ-loop
-loop-again c =
-    let loop = c .before .before .before .before .before .before .before .loop in
-    let loop-test = c .before .before .before .before .before .before .loop-test in
-    (filled-more (loop .inv .0) (loop-test .taken) (c .before .before .put .ensures) (c .before .before .before .before .own-low .ensures .0), c .before .work .given ∙ loop .inv .1)
+loop-again c = (filled-more (c .before .before .before .before .before .before .before .before .before .before .before .loop .inv .0) (c .before .before .before .before .before .before .before .before .before .before .loop-test .taken) (record { is = c .before .before .before .before .before .before .put .ensures }) (record { is = c .before .before .put2 .ensures }) (c .before .before .before .before .before .before .before .before .own-low .ensures), c .before .work2 .given ∙ c .before .before .before .before .before .work .given ∙ c .before .before .before .before .before .before .before .before .before .before .before .loop .inv .1)
 
 same-length : tie.Need-same-length Inv-loop μ-loop
 same-length c = c .before .loop .inv .1
@@ -59,6 +67,9 @@ own-lows-spec =
     mul-put
     add-put
     put-requires
+    mul-put-2
+    add-put-2
+    put-requires-2
     add-c
     loop-less
     loop-again
