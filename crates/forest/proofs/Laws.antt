@@ -7,3 +7,6 @@ pub mod Searched
 pub mod Bounds
 pub mod Lowest
 pub mod Lifted
+pub mod Marked
+pub mod TreeEdges
+pub mod Sectioned

@@ -3,5 +3,6 @@ pub mod Index
 pub mod Operations
 pub mod Steps
 pub mod Lows
+pub mod Marks
 pub mod Laws
 mod Examples

@@ -23,7 +23,7 @@ use Rattle.forest.proofs.Laws.Rows.{row-rises, row-ends, row-size, row-
 use Rattle.forest.proofs.Laws.Searched.{as-many}
 
 module _ {bytes work : List ℕ} {n m : ℕ} (s : Searched bytes work n m) where
-  graph-formed : WellFormed (blocks bytes)
+  pub graph-formed : WellFormed (blocks bytes)
   graph-formed = accepted-well-formed (s .holds .accepted)
 
   pub spans : Spanning (blocks bytes) (forest (blocks bytes))

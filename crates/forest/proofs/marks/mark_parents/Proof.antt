@@ -1,0 +1,64 @@
+-- `marks::mark_parents` meets its contract.
+use Rattle.forest.proofs.Laws.Sectioned.{sections-begin, parents-end}
+use Rattle.forest.specs.Marks.{marked, parentMarks}
+use Rattle.record.specs.Record.{blocks}
+use Rattle.graph.specs.Forest.{parentMark}
+use Rattle.graph.specs.Search.{forest}
+use lib.ListN.{length}
+use borrow.Author.Needs.{needs}
+use native.Mathlib.Omega.{arith}
+use Prim.Native.Nat.{_-_}
+use mathlib.Core.Path.{_≡_, refl, sym, _∙_}
+use Rattle.forest.proofs.marks.mark_parents.Statement.{statement}
+use Rattle.forest.proofs.marks.mark_parents.Tie as tie
+use Rattle.forest.proofs.marks.mark_parents.Reads as reads
+use Rattle.forest.proofs.marks.mark_parents.Lts as lts
+use Rattle.forest.proofs.clear.clear.Reads as clear-reads
+use Rattle.forest.proofs.marks.mark_parent.Reads as mark-parent-reads
+
+abbrev Inv-loop : tie.InvT-loop
+Inv-loop bytes n m work section₀ c₀ section c = (section ≡ marked (blocks bytes) (parentMarks (blocks bytes) c)) × (length section ≡ length section₀)
+
+abbrev μ-loop : tie.MeasureT-loop
+μ-loop bytes n m work section₀ c₀ section c = n - c
+
+clear-requires : tie.Need-clear-requires Inv-loop μ-loop
+clear-requires c κs = search needs
+
+loop-holds : tie.Need-loop-holds Inv-loop μ-loop
+loop-holds c =
+    let g = blocks (c .before .before .before .before .before .before .before .args .bytes .now) in
+    (sections-begin (c .before .before .before .before .before .before .before .pre .0) (length (c .before .before .before .before .before .before .before .args .section .now)) (parentMark g g (forest g)) (λ u j. u) (c .before .before .before .before .before .before .before .pre .1) (λ j. c .slice-known2 .given j .fits) (c .before .before .clear .ensures), refl)
+
+mark-parent-requires : tie.Need-mark-parent-requires Inv-loop μ-loop
+mark-parent-requires c κs = (c .before .before .before .before .before .before .before .before .before .before .pre .0, c .before .loop-test .taken, c .before .before .loop .inv .0)
+
+add-c : tie.Need-add-c Inv-loop μ-loop
+add-c c = let o = c .before .before .before .before .before .before .before .before .before .before .before .before .before .pre .0 .searched .holds .sound .n-fits in let t = c .before .before .before .before .loop-test .taken in omega arith
+
+loop-less : tie.Need-loop-less Inv-loop μ-loop
+loop-less c = omega arith
+
+loop-again : tie.Need-loop-again Inv-loop μ-loop
+loop-again c = (c .before .before .mark-parent .ensures, c .before .section2 .given ∙ c .before .before .before .before .before .loop .inv .1)
+
+same-length : tie.Need-same-length Inv-loop μ-loop
+same-length c = c .before .loop .inv .1 ∙ c .before .before .before .section .given
+
+returns : tie.Need-returns Inv-loop μ-loop
+returns c = parents-end (c .before .before .before .before .before .before .before .before .before .pre .0) (c .loop-test .left) (c .before .loop .inv .0)
+
+pub mark-parents-spec : {M : Type 1} → statement M
+mark-parents-spec =
+    tie.close
+    (tie.spec
+    Inv-loop
+    μ-loop
+    clear-requires
+    loop-holds
+    mark-parent-requires
+    add-c
+    loop-less
+    loop-again
+    same-length
+    returns)
