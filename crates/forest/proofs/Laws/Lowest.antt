@@ -39,7 +39,7 @@ module _ {bytes work : List ℕ} {n m : ℕ} (s : Searched bytes work n m) where
   pub parent-cell : {v : ℕ} → v < n → getD work (3 * n + v) 0 ≡ parent (forest (blocks bytes)) v
   parent-cell {v} h = let l = as-many (s .holds) in s .kept .parent-cells v (spans .whole v (omega arith))
 
-  number-below : {v : ℕ} → v < n → number (forest (blocks bytes)) v < n
+  pub number-below : {v : ℕ} → v < n → number (forest (blocks bytes)) v < n
   number-below {v} h = let l = as-many (s .holds) in let r = number-range spans v (omega arith) in omega arith
 
 -- field p is the neighbour at its position

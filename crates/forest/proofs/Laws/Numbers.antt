@@ -10,9 +10,14 @@ use lib.Seq.{take-suc, take-all, take-at, drop-at, drop-drop, length-take-le}
 use Rattle.bits.specs.Bits.{toBits, bits, put, pack}
 use Rattle.bits.specs.Laws.Bytes.{AreBytes}
 use Rattle.bits.specs.Laws.Packing.{zero-bits, bits-pack, pack-bytes, bits-injective}
-use Rattle.record.specs.Record.{fieldBits}
+use Rattle.graph.specs.Search.{forest}
+use Rattle.record.specs.Record.{fieldBits, blocks}
 use Rattle.record.specs.Laws.Fields.{length-fieldBits, fieldBits-append}
-use Rattle.forest.specs.Index.{numberBytes}
+use Rattle.forest.specs.Index.{numbers, numberBytes}
+use Rattle.forest.specs.Lows.{Lifting}
+use Rattle.forest.specs.Laws.Sections.{length-numbers, number-at}
+use Rattle.forest.proofs.Laws.Searched.{as-many}
+use Rattle.forest.proofs.Laws.Lowest.{visit-cell, number-below}
 
 drop-zeros : (a k : ℕ) → drop a (replicate k false) ≡ replicate (k - a) false
 drop-zeros zero k = let e : k - 0 ≡ k = omega arith in rw e
@@ -71,3 +76,21 @@ module _ {numbers section : List ℕ} {i : ℕ} (w : Written numbers section i) 
       j ∙ sym (ap (λ (x : ℕ). 8 * ((x + 7) / 8) - x) l) in
       bits-injective section (pack (fieldBits numbers)) (w .are-bytes) (pack-bytes (fieldBits numbers))
       (w .are-bits ∙ ap₂ (λ (t : List ℕ) (j : ℕ). fieldBits t ++ replicate j false) (take-all i numbers h) k ∙ sym (bits-pack (fieldBits numbers)))
+
+-- the numbers of the forest, from the visit cells
+module _ {bytes work : List ℕ} {n m : ℕ} (f : Lifting bytes work n m 0) where
+  pub number-many : length (numbers (blocks bytes) (forest (blocks bytes))) ≡ n
+  number-many = length-numbers (blocks bytes) (forest (blocks bytes)) ∙ as-many (f .searched .holds)
+
+  pub number-begin : {next : List ℕ} {k : ℕ} → k ≡ numberBytes n → next ≡ replicate k 0 → AreBytes next → Written (numbers (blocks bytes) (forest (blocks bytes))) next 0
+  number-begin e h are =
+      written-start (numbers (blocks bytes) (forest (blocks bytes))) (h ∙ ap (λ (x : ℕ). replicate x 0) (e ∙ ap numberBytes (sym number-many))) are
+
+  -- the cell is 1 + the number
+  pub number-cell : {v x : ℕ} → v < n → x ≡ getD work (4 * n + v) 0 → (x ≡ getD (numbers (blocks bytes) (forest (blocks bytes))) v 0 + 1) × (x ≤ n)
+  number-cell {v} h e =
+      let l = as-many (f .searched .holds) in
+      let c = visit-cell (f .searched) h in
+      let a = number-at (blocks bytes) (forest (blocks bytes)) v (omega arith) in
+      let b = number-below (f .searched) h in
+      (omega arith, omega arith)

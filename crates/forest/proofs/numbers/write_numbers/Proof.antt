@@ -1,57 +1,77 @@
 -- `numbers::write_numbers` meets its contract: the numbers are written from the front into zeros.
-use mathlib.Core.Path.{sym, ap, _∙_}
-use Prim.Native.Nat.{ℕ, _-_}
-use native.Mathlib.Omega.{arith}
+use Rattle.forest.proofs.Laws.Numbers.{Written, written-more, written-end, number-many, number-begin, number-cell}
+use Rattle.forest.specs.Index.{numbers, numberBytes}
+use Rattle.record.specs.Record.{blocks}
+use Rattle.graph.specs.Search.{forest}
 use borrow.Author.Needs.{needs}
-use lib.ListN.{length, replicate}
-use Rattle.forest.proofs.Laws.Numbers.{Written, written-start, written-more, written-end}
-use Rattle.forest.specs.Index.{numberBytes}
+use native.Mathlib.Omega.{arith}
+use Prim.Native.Nat.{_-_}
+use mathlib.Core.Path.{sym, ap, _∙_}
 use Rattle.forest.proofs.numbers.write_numbers.Statement.{statement}
 use Rattle.forest.proofs.numbers.write_numbers.Tie as tie
+use Rattle.forest.proofs.numbers.write_numbers.Reads as reads
+use Rattle.forest.proofs.numbers.write_numbers.Lts as lts
+use Rattle.bits.proofs.fields.write12.Reads as write12-reads
+use Rattle.forest.proofs.clear.clear.Reads as clear-reads
+use Rattle.record.proofs.cells.get.Reads as get-reads
 
 abbrev Inv-loop : tie.InvT-loop
-Inv-loop section₀ numbers i₀ section i = Written numbers section i
+Inv-loop bytes n m work section₀ v₀ section v = Written (numbers (blocks bytes) (forest (blocks bytes))) section v
 
 abbrev μ-loop : tie.MeasureT-loop
-μ-loop section₀ numbers i₀ section i = length numbers - i
+μ-loop bytes n m work section₀ v₀ section v = n - v
 
 clear-requires : tie.Need-clear-requires Inv-loop μ-loop
 clear-requires c κs = search needs
 
 loop-holds : tie.Need-loop-holds Inv-loop μ-loop
-loop-holds c =
-    let numbers = c .before .before .before .before .before .before .args .numbers .now in
-    written-start numbers (c .before .before .clear .ensures ∙ ap (λ (k : ℕ). replicate k 0) (c .before .before .before .before .before .before .pre .0)) (λ j. c .slice-known2 .given j .fits)
+loop-holds c = number-begin (c .before .before .before .before .before .before .before .pre .0) (c .before .before .before .before .before .before .before .pre .1) (c .before .before .clear .ensures) (λ j. c .slice-known2 .given j .fits)
 
 mul-write12 : tie.Need-mul-write12 Inv-loop μ-loop
-mul-write12 c = omega arith
+mul-write12 c = let o = c .before .before .before .before .before .before .before .before .before .before .pre .0 .searched .holds .sound .n-fits in omega arith
+
+mul-get : tie.Need-mul-get Inv-loop μ-loop
+mul-get c = let o = c .before .before .before .before .before .before .before .before .before .before .pre .0 .searched .holds .sound .n-fits in omega arith
+
+add-get : tie.Need-add-get Inv-loop μ-loop
+add-get c = let o = c .before .before .before .before .before .before .before .before .before .before .pre .0 .searched .holds .sound .n-fits in omega arith
 
 get-requires : tie.Need-get-requires Inv-loop μ-loop
-get-requires c κs = c .before .loop-test .taken
+get-requires c κs = let q = c .before .before .before .before .before .before .before .before .before .before .pre .0 .searched .holds .size in omega arith
+
+sub-write12 : tie.Need-sub-write12 Inv-loop μ-loop
+sub-write12 c = let e = number-cell (c .before .before .before .before .before .before .before .before .before .before .before .pre .0) (c .before .before .loop-test .taken) (c .get .ensures .0) .0 in omega arith
 
 write12-requires : tie.Need-write12-requires Inv-loop μ-loop
 unfolding numberBytes
 write12-requires c κs =
-    let pre = c .before .before .before .before .before .before .before .before .before .before .pre in
-    let loop = c .before .before .before .loop in
-    let s = loop .inv .size in
-    let h = pre .2 (loop .i) in
+    let pre = c .before .before .before .before .before .before .before .before .before .before .before .pre in
+    let s = c .before .before .before .loop .inv .size in
+    let l = number-many (pre .0) in
+    let (e, b) = number-cell (pre .0) (c .before .before .loop-test .taken) (c .get .ensures .0) in
+    let o = pre .0 .searched .holds .sound .n-fits in
     (omega arith, omega arith)
 
-add-i : tie.Need-add-i Inv-loop μ-loop
-add-i c = omega arith
+add-v : tie.Need-add-v Inv-loop μ-loop
+add-v c = let o = c .before .before .before .before .before .before .before .before .before .before .before .before .before .before .pre .0 .searched .holds .sound .n-fits in omega arith
 
 loop-less : tie.Need-loop-less Inv-loop μ-loop
 loop-less c = omega arith
 
 loop-again : tie.Need-loop-again Inv-loop μ-loop
-loop-again c = written-more (c .before .before .before .before .before .before .loop .inv) (c .before .before .before .before .before .loop-test .taken) (c .before .before .before .get .ensures .0) (c .before .before .write12 .ensures .0) (c .before .before .write12 .ensures .1) (λ j. c .slice-known3 .given j .fits)
+loop-again c =
+    let pre = c .before .before .before .before .before .before .before .before .before .before .before .before .before .before .pre in
+    let l = number-many (pre .0) in
+    let e = number-cell (pre .0) (c .before .before .before .before .before .loop-test .taken) (c .before .before .before .get .ensures .0) .0 in
+    written-more (c .before .before .before .before .before .before .loop .inv) (omega arith) (omega arith) (c .before .before .write12 .ensures .0) (c .before .before .write12 .ensures .1) (λ j. c .slice-known3 .given j .fits)
 
 same-length : tie.Need-same-length Inv-loop μ-loop
-same-length c = c .before .loop .inv .size ∙ sym (c .before .before .before .before .before .before .before .before .pre .0)
+same-length c =
+    let l = number-many (c .before .before .before .before .before .before .before .before .before .pre .0) in
+    c .before .loop .inv .size ∙ ap numberBytes l ∙ sym (c .before .before .before .before .before .before .before .before .before .pre .1)
 
 returns : tie.Need-returns Inv-loop μ-loop
-returns c = written-end (c .before .loop .inv) (c .loop-test .left)
+returns c = let l = number-many (c .before .before .before .before .before .before .before .before .before .pre .0) in written-end (c .before .loop .inv) (omega arith)
 
 pub write-numbers-spec : {M : Type 1} → statement M
 write-numbers-spec =
@@ -62,9 +82,12 @@ write-numbers-spec =
     clear-requires
     loop-holds
     mul-write12
+    mul-get
+    add-get
     get-requires
+    sub-write12
     write12-requires
-    add-i
+    add-v
     loop-less
     loop-again
     same-length
