@@ -10,3 +10,5 @@ pub mod Numbers
 pub mod Marked
 pub mod TreeEdges
 pub mod Sectioned
+pub mod Fronts
+pub mod Building

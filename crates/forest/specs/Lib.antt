@@ -4,5 +4,6 @@ pub mod Operations
 pub mod Steps
 pub mod Lows
 pub mod Marks
+pub mod Fronts
 pub mod Laws
 mod Examples

@@ -1,12 +1,11 @@
 -- What Build answers, and the index buffer that it leaves (document 01, "Operations and their answers").
-use mathlib.Core.Bool.{true, false}
 use mathlib.Core.List.{List, [], _∷_, _++_}
 use Prim.Native.Nat.{ℕ, _*_}
-use lib.Dec.{eqb, ltb}
+use lib.Dec.{ltb}
 use lib.ListN.{length}
 use Rattle.record.specs.Record.{terminals, wires, blocks}
-use Rattle.record.specs.Rules.{Rule, firstBroken, checkRules}
-use Rattle.record.specs.Answers.{Answer, tried}
+use Rattle.record.specs.Rules.{Rule, checkRules}
+use Rattle.record.specs.Answers.{Answer, tried, bufferAfter}
 use Rattle.record.specs.Operations.{otherLength}
 use Rattle.forest.specs.Index.{indexOf, indexLength}
 
@@ -20,4 +19,4 @@ build bytes work index = tried (buildRules bytes work index) tt
 
 -- the index buffer afterwards
 unfoldable pub built : List ℕ → List ℕ → List ℕ → List ℕ
-built bytes work index = elim (eqb (firstBroken (buildRules bytes work index)) 0) [ true ↦ indexOf (blocks bytes) | false ↦ index ]
+built bytes work index = bufferAfter (buildRules bytes work index) (indexOf (blocks bytes)) index

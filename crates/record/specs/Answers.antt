@@ -1,6 +1,8 @@
 -- Answers: what an operation says, and document 01's number for each named case of the code's answers.
 use Prim.Native.Nat.{ℕ, zero, suc}
 use lib.IntN.{ℤ}
+use lib.Dec.{eqb}
+use mathlib.Core.Bool.{true, false}
 use mathlib.Core.List.{List}
 use Rattle.record.specs.Record.{terminals, wires}
 use Rattle.record.specs.Rules.{Rule, firstBroken}
@@ -28,6 +30,10 @@ outcome (suc k) a = refused (suc k)
 
 abbrev pub tried : {A : Type 0} → List Rule → A → Answer A
 tried rules a = outcome (firstBroken rules) a
+
+-- the result buffer afterwards: written where no rule is broken, else as it was
+unfoldable pub bufferAfter : List Rule → List ℕ → List ℕ → List ℕ
+bufferAfter rules written former = elim (eqb (firstBroken rules) 0) [ true ↦ written | false ↦ former ]
 
 -- the number of a refusal
 abbrev pub number : Refusal → ℕ

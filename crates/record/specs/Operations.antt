@@ -10,7 +10,7 @@ use Rattle.graph.specs.Graph.{block}
 use Rattle.record.specs.Record.{terminals, wires, unary, fields, parts, blocks}
 use Rattle.record.specs.Starts.{startsOf}
 use Rattle.record.specs.Rules.{Rule, firstBroken, orderR, checkRules}
-use Rattle.record.specs.Answers.{Answer, tried}
+use Rattle.record.specs.Answers.{Answer, tried, bufferAfter}
 
 -- a list has another length than this
 unfoldable pub otherLength : List ℕ → ℕ → Bool
@@ -43,7 +43,7 @@ unfoldable pub unpack : List ℕ → List ℕ → Answer (Unit {0})
 unpack bytes list = tried (unpackRules bytes list) tt
 
 unfoldable pub unpacked : List ℕ → List ℕ → List ℕ
-unpacked bytes list = elim (eqb (firstBroken (unpackRules bytes list)) 0) [ true ↦ map suc (fields bytes) | false ↦ list ]
+unpacked bytes list = bufferAfter (unpackRules bytes list) (map suc (fields bytes)) list
 
 -- Neighbours refuses, without a number, where Degree does or the list is not 2·m long
 unfoldable pub neighboursGiven : List ℕ → List ℕ → ℕ → Bool

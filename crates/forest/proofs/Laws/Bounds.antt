@@ -1,19 +1,22 @@
 -- The search from its begin to its end.
 use mathlib.Core.Path.{_≡_, refl, sym, ap, subst, _∙_}
 use mathlib.Core.Bool.{true, false, _||_}
-use mathlib.Core.List.{List, flatten}
+use mathlib.Core.List.{List, _++_, flatten}
 use Prim.Native.Nat.{ℕ, zero, suc, _+_, _-_, _*_, _≤_, _<_}
 use native.Mathlib.Decide.{ℕ-discrete}
 use native.Mathlib.Omega.{arith}
 use borrow.Author.Tests.{ltb-true, ltb-false, le-ltb}
 use lib.Dec.{ltb}
-use lib.ListN.{length, getD, set}
+use lib.ListN.{length, getD, set, drop, length-append, length-drop, List·getD-append}
 use Rattle.graph.specs.Search.{countUp, forest}
 use Rattle.graph.specs.Laws.Joined.Spanning.{count-length, count-none, covers-vertices}
 use Rattle.graph.specs.Laws.Loop.Invariant.{Loop, loop-begin, loop-end}
-use Rattle.record.specs.Record.{blocks}
+use Rattle.record.specs.Record.{unary, blocks}
+use Rattle.record.specs.Starts.{startsOf}
+use Rattle.record.specs.Steps.{Sound}
+use Rattle.record.specs.Operations.{Accepted}
 use Rattle.record.specs.Laws.First.{neither}
-use Rattle.record.specs.Laws.Layout.{length-fields}
+use Rattle.record.specs.Laws.Layout.{length-fields, starts-count}
 use Rattle.record.specs.Laws.RoundTrip.{flatten-blocks}
 use Rattle.record.specs.Laws.Sound.{accepted-well-formed}
 use Rattle.record.proofs.Laws.Reading.Sounded.{sound-shaped}
@@ -58,6 +61,19 @@ searching-busy {cur = zero} s e = start-busy s (busy-start {cur = 0} e (omega ar
 searching-busy {cur = suc u} s e = hand-busy s (omega arith)
 
 -- ---- begin and end
+
+-- the starts are filled in
+pub held : {bytes starts : List ℕ} {n m : ℕ} (work : List ℕ) → Sound bytes n m → Accepted bytes → 0 < n → 8 * n ≤ length work → starts ≡ startsOf (unary bytes)
+    → Holding bytes (starts ++ drop (n + 1) work) n m
+held {bytes} {starts} {n} work s a some size e =
+    let c : length starts ≡ n + 1 = ap length e ∙ starts-count (sound-shaped s) ∙ ap (λ (x : ℕ). x + 1) (sym (s .is-n)) in
+    record {
+      sound = s;
+      accepted = a;
+      some = some;
+      size = let l = length-append starts (drop (n + 1) work) in let d = length-drop (n + 1) work in omega arith;
+      starts-are = λ u h. List·getD-append starts (drop (n + 1) work) 0 u (omega arith) ∙ ap (λ (l : List ℕ). getD l u 0) e;
+    }
 
 module _ {bytes work next : List ℕ} {n m : ℕ} (o : Holding bytes work n m) (u : Unvisited n n work next) where
   after : Holding bytes next n m

@@ -99,13 +99,13 @@ module _ (g : Blocks) (F : Forest) (m : ℕ) (even : length (flatten g) ≡ 2 * 
   unfolding markBytes
   bytes-of s e = length-pack s ∙ ap (λ (k : ℕ). (k + 7) / 8) e
 
-  bytes-E : length (pack (sectionE g F)) ≡ markBytes (length g) m
+  pub bytes-E : length (pack (sectionE g F)) ≡ markBytes (length g) m
   bytes-E = bytes-of (sectionE g F) length-E
 
-  bytes-P : length (pack (sectionP g F)) ≡ markBytes (length g) m
+  pub bytes-P : length (pack (sectionP g F)) ≡ markBytes (length g) m
   bytes-P = bytes-of (sectionP g F) length-P
 
-  bytes-B : length (pack (sectionB g)) ≡ markBytes (length g) m
+  pub bytes-B : length (pack (sectionB g)) ≡ markBytes (length g) m
   bytes-B = bytes-of (sectionB g) length-B
 
   bytes-numbers : length (pack (fieldBits (numbers g F))) ≡ numberBytes (length g)

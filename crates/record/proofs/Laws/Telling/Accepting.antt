@@ -14,7 +14,7 @@ use Rattle.record.specs.Operations.{otherLength, unpackRules, unpack, un
 use Rattle.record.specs.Steps.{Sound}
 use Rattle.record.specs.declared.Sizes.{Sizes}
 use Rattle.record.specs.Laws.First.{first-broken, first-kept, append-kept, append-broken, both-kept, order-numbered, check-numbered}
-use Rattle.record.proofs.Laws.Telling.Told.{told, untold, told-back, untold-back}
+use Rattle.record.proofs.Laws.Telling.Told.{told, untold, told-back, untold-back, buffer-kept, buffer-written}
 use Rattle.record.proofs.Laws.Reading.Sounded.{sound-of}
 
 module _ (bytes : List ℕ) {s : Sizes} (e : answered s ≡ tried (checkRules bytes) (sizesOf bytes)) where
@@ -34,11 +34,11 @@ module _ (bytes : List ℕ) {s : Sizes} (e : answered s ≡ tried (checkRules by
 module _ (bytes list : List ℕ) where
   left-alone : {k : ℕ} → firstBroken (unpackRules bytes list) ≡ suc k → list ≡ unpacked bytes list
   unfolding unpacked
-  left-alone e = let f : eqb (firstBroken (unpackRules bytes list)) 0 ≡ false = ne-eqb (firstBroken (unpackRules bytes list)) 0 (λ z. omega arith) in rw (f, unpacked)
+  left-alone e = buffer-kept (unpackRules bytes list) (map suc (fields bytes)) list e
 
   written : firstBroken (unpackRules bytes list) ≡ 0 → map suc (fields bytes) ≡ unpacked bytes list
   unfolding unpacked
-  written e = let f : eqb (firstBroken (unpackRules bytes list)) 0 ≡ true = eq-eqb (firstBroken (unpackRules bytes list)) 0 e in rw (f, unpacked)
+  written e = buffer-written (unpackRules bytes list) (map suc (fields bytes)) list e
 
   pub unpack-refused : {k : ℕ} → refused k ≡ tried (checkRules bytes) (sizesOf bytes) → (refused k ≡ unpack bytes list) × (list ≡ unpacked bytes list)
   unfolding unpack unpackRules

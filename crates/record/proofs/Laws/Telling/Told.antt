@@ -1,10 +1,13 @@
--- How an answer tells the first broken rule, or that none is broken.
+-- How an answer tells the first broken rule, or that none is broken; and the result buffer then.
 use mathlib.Core.Path.{_≡_, refl}
 use mathlib.Core.List.{List, _++_}
 use Prim.Native.Nat.{ℕ, zero, suc}
 use native.Mathlib.Omega.{arith}
+use borrow.Author.Tests.{eq-eqb, ne-eqb}
+use lib.Dec.{eqb}
+use mathlib.Core.Bool.{true, false}
 use Rattle.record.specs.Rules.{Rule, firstBroken}
-use Rattle.record.specs.Answers.{refused, answered, outcome, tried}
+use Rattle.record.specs.Answers.{refused, answered, outcome, tried, bufferAfter}
 use Rattle.record.specs.Laws.First.{append-broken}
 
 module _ {A : Type 0} where
@@ -42,3 +45,14 @@ module _ {A B : Type 0} (rules : List Rule) (a : A) (b : B) where
 
   pub untold-same : {x : A} → answered x ≡ tried rules a → answered b ≡ tried rules b
   untold-same e = untold b (untold-back (firstBroken rules) a e .0)
+
+-- ---- the result buffer afterwards
+
+module _ (rules : List Rule) (written former : List ℕ) where
+  pub buffer-kept : {k : ℕ} → firstBroken rules ≡ suc k → former ≡ bufferAfter rules written former
+  unfolding bufferAfter
+  buffer-kept e = let f : eqb (firstBroken rules) 0 ≡ false = ne-eqb (firstBroken rules) 0 (λ z. omega arith) in rw (f, bufferAfter)
+
+  pub buffer-written : firstBroken rules ≡ 0 → written ≡ bufferAfter rules written former
+  unfolding bufferAfter
+  buffer-written e = let f : eqb (firstBroken rules) 0 ≡ true = eq-eqb (firstBroken rules) 0 e in rw (f, bufferAfter)

@@ -1,0 +1,46 @@
+-- `index::write_b` meets its contract.
+use Rattle.forest.proofs.Laws.Fronts.{next-written, length-upToP}
+use Prim.Native.Nat.{_*_, _-_}
+use borrow.Author.Needs.{needs}
+use Rattle.forest.proofs.index.write_b.Statement.{statement}
+use Rattle.forest.proofs.index.write_b.Tie as tie
+use Rattle.forest.proofs.index.write_b.Reads as reads
+use Rattle.forest.proofs.index.write_b.Lts as lts
+use Rattle.forest.proofs.marks.mark_bridges.Reads as mark-bridges-reads
+
+mul-mark-bridges : tie.Need-mul-mark-bridges
+mul-mark-bridges c = search needs
+
+mul-mark-bridges-2 : tie.Need-mul-mark-bridges-2
+mul-mark-bridges-2 c = search needs
+
+sub-mark-bridges : tie.Need-sub-mark-bridges
+sub-mark-bridges c = search needs
+
+part-mark-bridges-start : tie.Need-part-mark-bridges-start
+part-mark-bridges-start c = search needs
+
+part-mark-bridges-end : tie.Need-part-mark-bridges-end
+part-mark-bridges-end c = search needs
+
+mark-bridges-requires : tie.Need-mark-bridges-requires
+mark-bridges-requires c κs = search needs
+
+same-length : tie.Need-same-length
+same-length c = search needs
+
+returns : tie.Need-returns
+returns c = (next-written (c .before .before .before .before .before .before .before .pre .3) (2 * c .before .before .before .before .before .before .before .args .k) (3 * c .before .before .before .before .before .before .before .args .k - 2 * c .before .before .before .before .before .before .before .args .k) (length-upToP (c .before .before .before .before .before .before .before .pre .0) (c .before .before .before .before .before .before .before .pre .1)) (c .before .before .mark-bridges .ensures), search needs)
+
+pub write-b-spec : {M : Type 1} → statement M
+write-b-spec =
+    tie.close
+    (tie.spec
+    mul-mark-bridges
+    mul-mark-bridges-2
+    sub-mark-bridges
+    part-mark-bridges-start
+    part-mark-bridges-end
+    mark-bridges-requires
+    same-length
+    returns)

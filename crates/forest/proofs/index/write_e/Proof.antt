@@ -1,0 +1,36 @@
+-- `index::write_e` meets its contract.
+use Rattle.forest.proofs.Laws.Fronts.{first-written}
+use lib.Seq.{length-take-le}
+use lib.ListN.{drop}
+use mathlib.Core.Path.{sym, _∙_}
+use borrow.Author.Needs.{needs}
+use Rattle.forest.proofs.index.write_e.Statement.{statement}
+use Rattle.forest.proofs.index.write_e.Tie as tie
+use Rattle.forest.proofs.index.write_e.Reads as reads
+use Rattle.forest.proofs.index.write_e.Lts as lts
+use Rattle.forest.proofs.marks.mark_children.Reads as mark-children-reads
+
+slice-relend-prefix-mark-children : tie.Need-slice-relend-prefix-mark-children
+slice-relend-prefix-mark-children c = search needs
+
+slice-aggregate-mark-children : tie.Need-slice-aggregate-mark-children
+slice-aggregate-mark-children c = sym (length-take-le (c .before .before .before .before .args .k) (c .before .before .before .before .args .index .now) (c .before .before .before .before .pre .2))
+
+mark-children-requires : tie.Need-mark-children-requires
+mark-children-requires c κs = (c .before .before .before .before .pre .0, length-take-le (c .before .before .before .before .args .k) (c .before .before .before .before .args .index .now) (c .before .before .before .before .pre .2) ∙ c .before .before .before .before .pre .1)
+
+same-length : tie.Need-same-length
+same-length c = search needs
+
+returns : tie.Need-returns
+returns c = (first-written (drop (c .before .before .before .before .before .before .before .args .k) (c .before .before .before .before .before .before .before .args .index .now)) (c .before .before .mark-children .ensures), search needs)
+
+pub write-e-spec : {M : Type 1} → statement M
+write-e-spec =
+    tie.close
+    (tie.spec
+    slice-relend-prefix-mark-children
+    slice-aggregate-mark-children
+    mark-children-requires
+    same-length
+    returns)

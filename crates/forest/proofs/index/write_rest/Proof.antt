@@ -1,0 +1,44 @@
+-- `index::write_rest` meets its contract.
+use Rattle.forest.proofs.Laws.Fronts.{last-written, length-upToB, index-written}
+use lib.ListN.{length}
+use native.Mathlib.Omega.{arith}
+use Prim.Native.Nat.{_*_, _-_}
+use borrow.Author.Needs.{needs}
+use Rattle.forest.proofs.index.write_rest.Statement.{statement}
+use Rattle.forest.proofs.index.write_rest.Tie as tie
+use Rattle.forest.proofs.index.write_rest.Reads as reads
+use Rattle.forest.proofs.index.write_rest.Lts as lts
+use Rattle.forest.proofs.numbers.write_numbers.Reads as write-numbers-reads
+
+mul-write-numbers : tie.Need-mul-write-numbers
+mul-write-numbers c = search needs
+
+sub-write-numbers : tie.Need-sub-write-numbers
+sub-write-numbers c = search needs
+
+part-write-numbers-start : tie.Need-part-write-numbers-start
+part-write-numbers-start c = search needs
+
+part-write-numbers-end : tie.Need-part-write-numbers-end
+part-write-numbers-end c = search needs
+
+write-numbers-requires : tie.Need-write-numbers-requires
+write-numbers-requires c κs = search needs
+
+same-length : tie.Need-same-length
+same-length c = search needs
+
+returns : tie.Need-returns
+returns c = index-written (c .before .before .before .before .before .before .before .pre .0) (c .before .before .before .before .before .before .before .pre .1) (last-written (c .before .before .before .before .before .before .before .pre .3) (3 * c .before .before .before .before .before .before .before .args .k) (length (c .before .before .before .before .before .before .before .args .index .now) - 3 * c .before .before .before .before .before .before .before .args .k) (length-upToB (c .before .before .before .before .before .before .before .pre .0) (c .before .before .before .before .before .before .before .pre .1)) (c .before .before .write-numbers .ensures) (omega arith))
+
+pub write-rest-spec : {M : Type 1} → statement M
+write-rest-spec =
+    tie.close
+    (tie.spec
+    mul-write-numbers
+    sub-write-numbers
+    part-write-numbers-start
+    part-write-numbers-end
+    write-numbers-requires
+    same-length
+    returns)

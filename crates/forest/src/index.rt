@@ -1,0 +1,81 @@
+// The index of an accepted record: its length, and its sections written one after the other.
+ghost use mathlib.Core.Path.{_≡_};
+ghost use Prim.Native.Nat.{_+_, _*_, _≤_, _<_};
+ghost use lib.ListN.{length};
+ghost use Rattle.record.specs.Record.{blocks};
+ghost use Rattle.record.specs.Steps.{Sound};
+ghost use Rattle.record.specs.Operations.{Accepted};
+ghost use Rattle.forest.specs.Index.{indexOf, markBytes, numberBytes, indexLength};
+ghost use Rattle.forest.specs.Lows.{Lifting};
+ghost use Rattle.forest.specs.Fronts.{Begins, upToE, upToP, upToB};
+
+// The bytes of a section of marks.
+fn mark_bytes(n: usize, m: usize) -> usize
+    requires { ⌜ (n ≤ 4096) × (m ≤ 16384) ⌝ }
+    ensures { λ r. ⌜ (r ≡ markBytes n m) × (r ≤ 4608) ⌝ }
+{
+    (n + 2 * m + 7) / 8
+}
+
+// The bytes of the index.
+pub fn index_length(n: usize, m: usize) -> usize
+    requires { ⌜ (n ≤ 4096) × (m ≤ 16384) ⌝ }
+    ensures { λ r. ⌜ r ≡ indexLength n m ⌝ }
+{
+    3 * mark_bytes(n, m) + (12 * n + 7) / 8
+}
+
+// Section E, in the front of the buffer.
+fn write_e(bytes: &[u8], n: usize, m: usize, work: &[u16], index: &mut [u8], k: usize)
+    requires { ⌜ (Lifting (now bytes) (now work) n m 0) × (k ≡ markBytes n m) × (k ≤ length (now index)) ⌝ }
+    ensures { λ _. ⌜ (Begins (upToE (blocks (now (bytes .entry)))) (now (index .exit))) × (length (now (index .exit)) ≡ length (now (index .entry))) ⌝ }
+{
+    super::marks::mark_children(bytes, n, m, work, &mut index[..k]);
+}
+
+// Section P, behind E.
+fn write_p(bytes: &[u8], n: usize, m: usize, work: &[u16], index: &mut [u8], k: usize)
+    requires { ⌜ (Lifting (now bytes) (now work) n m 0) × (k ≡ markBytes n m) × (2 * k ≤ length (now index)) × (Begins (upToE (blocks (now bytes))) (now index)) ⌝ }
+    ensures { λ _. ⌜ (Begins (upToP (blocks (now (bytes .entry)))) (now (index .exit))) × (length (now (index .exit)) ≡ length (now (index .entry))) ⌝ }
+{
+    super::marks::mark_parents(bytes, n, m, work, &mut index[k..2 * k]);
+}
+
+// Section B, behind P.
+fn write_b(bytes: &[u8], n: usize, m: usize, work: &[u16], index: &mut [u8], k: usize)
+    requires { ⌜ (Lifting (now bytes) (now work) n m 0) × (k ≡ markBytes n m) × (3 * k ≤ length (now index)) × (Begins (upToP (blocks (now bytes))) (now index)) ⌝ }
+    ensures { λ _. ⌜ (Begins (upToB (blocks (now (bytes .entry)))) (now (index .exit))) × (length (now (index .exit)) ≡ length (now (index .entry))) ⌝ }
+{
+    super::marks::mark_bridges(bytes, n, m, work, &mut index[2 * k..3 * k]);
+}
+
+// The visit numbers, to the end.
+fn write_rest(bytes: &[u8], n: usize, m: usize, work: &[u16], index: &mut [u8], k: usize)
+    requires { ⌜ (Lifting (now bytes) (now work) n m 0) × (k ≡ markBytes n m) × (length (now index) ≡ 3 * k + numberBytes n) × (Begins (upToB (blocks (now bytes))) (now index)) ⌝ }
+    ensures { λ _. ⌜ now (index .exit) ≡ indexOf (blocks (now (bytes .entry))) ⌝ }
+{
+    super::numbers::write_numbers(bytes, n, m, work, &mut index[3 * k..]);
+}
+
+// The four sections, each in the part of the buffer that is its own.
+fn write_sections(bytes: &[u8], n: usize, m: usize, work: &[u16], index: &mut [u8])
+    requires { ⌜ (Lifting (now bytes) (now work) n m 0) × (length (now index) ≡ indexLength n m) ⌝ }
+    ensures { λ _. ⌜ now (index .exit) ≡ indexOf (blocks (now (bytes .entry))) ⌝ }
+{
+    let k = mark_bytes(n, m);
+    write_e(bytes, n, m, work, index, k);
+    write_p(bytes, n, m, work, index, k);
+    write_b(bytes, n, m, work, index, k);
+    write_rest(bytes, n, m, work, index, k);
+}
+
+// Searches the record and writes its index.
+pub fn write_index(bytes: &[u8], n: usize, m: usize, work: &mut [u16], index: &mut [u8])
+    requires { ⌜ (Sound (now bytes) n m) × (Accepted (now bytes)) × (0 < n) × (8 * n ≤ length (now work)) × (length (now index) ≡ indexLength n m) ⌝ }
+    ensures { λ _. ⌜ now (index .exit) ≡ indexOf (blocks (now (bytes .entry))) ⌝ }
+{
+    record::starts::fill_starts(bytes, n, m, &mut work[..n + 1]);
+    super::search::search(bytes, n, m, work);
+    super::lows::lowpoints(bytes, n, m, work);
+    write_sections(bytes, n, m, work, index);
+}
