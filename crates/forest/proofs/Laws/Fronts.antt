@@ -1,7 +1,7 @@
 -- The index buffer, filled from the front by sections.
 use mathlib.Core.Path.{_≡_, sym, ap, ap₂, _∙_}
-use mathlib.Core.List.{List, [], _++_, append-assoc, append-nil}
-use Prim.Native.Nat.{ℕ, _+_, _-_, _*_, _≤_}
+use mathlib.Core.List.{List, _++_, append-assoc, append-nil}
+use Prim.Native.Nat.{ℕ, _+_, _*_, _≤_}
 use native.Mathlib.Omega.{arith}
 use borrow.Rule.Slice.PartMut.{putMid}
 use lib.ListN.{length, take, drop, length-append, length-drop, drop-of-length-le}
@@ -9,7 +9,7 @@ use lib.Seq.{take-at}
 use Rattle.bits.specs.Bits.{pack}
 use Rattle.graph.specs.Search.{forest}
 use Rattle.record.specs.Record.{fieldBits, blocks}
-use Rattle.forest.specs.Index.{sectionE, sectionP, sectionB, numbers, indexBy, indexOf, markBytes, numberBytes, indexLength}
+use Rattle.forest.specs.Index.{sectionP, sectionB, numbers, indexBy, indexOf, markBytes}
 use Rattle.forest.specs.Lows.{Lifting}
 use Rattle.forest.specs.Fronts.{Begins, upToE, upToP, upToB}
 use Rattle.forest.specs.Laws.Bytes.{bytes-E, bytes-P, bytes-B}

@@ -6,19 +6,18 @@ use native.Mathlib.Numerals.{add-one}
 use native.Mathlib.Omega.{arith}
 use native.Mathlib.Decide.{ℕ-discrete}
 use lib.ListN.{length, getD, set}
-use Rattle.graph.specs.Graph.{block}
 use Rattle.graph.specs.Search.{forest}
 use Rattle.graph.specs.Forest.{vertexAt, parent}
 use Rattle.graph.specs.Laws.Tree.Entries.{Entered, parent-entered}
 use Rattle.graph.specs.Laws.Tree.Numbers.{vertex-entered}
 use Rattle.graph.specs.Laws.Tree.Climbs.{child-entry}
 use Rattle.graph.specs.Laws.Bridges.Lowpoints.{Lows}
-use Rattle.graph.specs.Laws.Bridges.Sweep.{Least, sweep-begin, sweep-root, sweep-child}
+use Rattle.graph.specs.Laws.Bridges.Sweep.{sweep-begin, sweep-root, sweep-child}
 use Rattle.graph.specs.Laws.Joined.Spanning.{forest-length}
 use Rattle.graph.specs.Laws.Loop.Arrays.{kept-same}
 use Rattle.record.specs.Record.{blocks}
 use Rattle.forest.specs.Steps.{cellsOf, Searched}
-use Rattle.forest.specs.Lows.{Passed, OwnLow, Lifting}
+use Rattle.forest.specs.Lows.{OwnLow, Lifting}
 use Rattle.forest.proofs.Laws.Entering.{Put, put-length, put-other, put-here}
 use Rattle.forest.proofs.Laws.Searched.{as-many, still-holding}
 use Rattle.forest.proofs.Laws.Lowest.{spans, parent-cell}

@@ -1,14 +1,13 @@
 -- The sections E, P and B, written vertex by vertex: cleared, one step, and the whole.
-use mathlib.Core.Path.{_≡_, sym, ap, subst, _∙_}
-use mathlib.Core.Logic.{_⊎_, inl, inr}
-use mathlib.Core.Bool.{true, false}
+use mathlib.Core.Path.{_≡_, sym, ap, _∙_}
+use mathlib.Core.Bool.{true}
 use mathlib.Core.List.{List}
 use Prim.Native.Nat.{ℕ, _+_, _*_, _≤_, _<_}
 use native.Mathlib.Omega.{arith}
 use lib.ListN.{length, getD, set, replicate}
 use Rattle.bits.specs.Bits.{bits, pack}
 use Rattle.bits.specs.Laws.Bytes.{AreBytes}
-use Rattle.graph.specs.Graph.{Blocks, block, target, Place}
+use Rattle.graph.specs.Graph.{block, target}
 use Rattle.graph.specs.Search.{PlaceTest, forest}
 use Rattle.graph.specs.Joined.{bridge}
 use Rattle.graph.specs.Forest.{childMark, parentMark}
@@ -18,7 +17,6 @@ use Rattle.record.specs.Record.{blocks}
 use Rattle.forest.specs.Index.{sectionE, sectionP, sectionB, markBytes}
 use Rattle.forest.specs.Lows.{Lifting}
 use Rattle.forest.specs.Marks.{upTo, childEnd, childMarks, parentMarks, bridgeMarks, marked, DownBit, UpBit}
-use Rattle.forest.specs.Laws.Marking.{also}
 use Rattle.forest.proofs.Laws.Searched.{as-many}
 use Rattle.forest.proofs.Laws.Lowest.{graph-formed}
 use Rattle.forest.proofs.Laws.Marked.{cleared, in-bytes, mark-put, mark-two, owns-none, owns-one, owns-two, upto-none, upto-all}

@@ -19,16 +19,16 @@ use Rattle.graph.specs.Laws.Places.Pairing.{place-at, source}
 use Rattle.graph.specs.Laws.Tree.Entries.{entry-once, parent-entered}
 use Rattle.graph.specs.Laws.Tree.Climbs.{slot, parent-child, child-entry}
 use Rattle.graph.specs.Laws.Joined.Spanning.{tree-place}
-use Rattle.graph.specs.Laws.Edges.Marks.{Back, child-mark, child-mark-entry, back-place, back-marked, marked-back, back-parent, back-once, root-unmarked, first-back}
+use Rattle.graph.specs.Laws.Edges.Marks.{Back, child-mark, child-mark-entry, back-place, back-marked, marked-back, back-parent, back-once, first-back}
 use Rattle.record.specs.Record.{unary, blocks}
 use Rattle.record.specs.Laws.Layout.{length-fields}
 use Rattle.record.specs.Laws.Parts.{start-first}
 use Rattle.record.specs.Laws.RoundTrip.{flatten-blocks}
 use Rattle.record.proofs.Laws.Reading.Sounded.{sound-shaped}
-use Rattle.forest.specs.Steps.{Holding, Searched}
+use Rattle.forest.specs.Steps.{Holding}
 use Rattle.forest.specs.Lows.{Passed, Lifting}
 use Rattle.forest.specs.Marks.{childEnd, DownBit, UpBit}
-use Rattle.forest.specs.Laws.Sections.{blockStart, placeBit}
+use Rattle.forest.specs.Laws.Sections.{blockStart}
 use Rattle.forest.proofs.Laws.Rows.{row-rises, row-size}
 use Rattle.forest.proofs.Laws.Searched.{as-many}
 use Rattle.forest.proofs.Laws.Lowest.{graph-formed, spans, visit-cell, parent-cell}

@@ -7,11 +7,6 @@ use mathlib.Core.Path.{sym, ap, _∙_}
 use borrow.Author.Needs.{needs}
 use Rattle.forest.proofs.build.Statement.{statement}
 use Rattle.forest.proofs.build.Tie as tie
-use Rattle.forest.proofs.build.Reads as reads
-use Rattle.forest.proofs.build.Lts as lts
-use Rattle.forest.proofs.index.index_length.Reads as index-length-reads
-use Rattle.forest.proofs.index.write_index.Reads as write-index-reads
-use Rattle.record.proofs.accept.Reads as accept-reads
 
 accept-requires : tie.Need-accept-requires
 accept-requires c κs = search needs
@@ -48,10 +43,10 @@ returns-2 c =
 
 returns-3 : tie.Need-returns-3
 returns-3 c =
+    let l = c .before .if2 .left ∙ c .before .before .index-length .ensures in
     let bytes = c .before .before .before .before .before .before .before .before .before .before .before .args .bytes .now in
     let e = sym (ap shape (c .before .before .before .before .before .s .given .1)) ∙ c .before .before .before .before .before .before .before .accept .ensures in
     let s = accepted-sound bytes e in
-    let l = c .before .if2 .left ∙ c .before .before .index-length .ensures in
     build-done bytes (c .before .before .before .before .before .before .before .before .before .before .before .args .work .now) (c .before .before .before .before .before .before .before .before .before .before .before .args .index .now) (accepted-kept bytes e) (s .is-n) (s .is-m) (c .before .before .before .if1 .left) l (empty-index s (c .if3 .taken) l)
 
 write-index-requires : tie.Need-write-index-requires

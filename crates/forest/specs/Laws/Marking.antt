@@ -12,7 +12,7 @@ use Rattle.graph.specs.Graph.{Blocks, block}
 use Rattle.graph.specs.Search.{PlaceTest, countUp}
 use Rattle.record.specs.Record.{layOut}
 use Rattle.forest.specs.Index.{marksFrom, section}
-use Rattle.forest.specs.Laws.Sections.{length-each, each-same, blockStart, placeBit, laidFrom, marksOf, marks-same}
+use Rattle.forest.specs.Laws.Sections.{length-each, each-same, placeBit, laidFrom, marksOf, marks-same}
 
 -- ---- no mark
 

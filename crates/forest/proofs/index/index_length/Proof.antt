@@ -4,9 +4,6 @@ use native.Mathlib.Omega.{arith}
 use borrow.Author.Needs.{needs}
 use Rattle.forest.proofs.index.index_length.Statement.{statement}
 use Rattle.forest.proofs.index.index_length.Tie as tie
-use Rattle.forest.proofs.index.index_length.Reads as reads
-use Rattle.forest.proofs.index.index_length.Lts as lts
-use Rattle.forest.proofs.index.mark_bytes.Reads as mark-bytes-reads
 
 mark-bytes-requires : tie.Need-mark-bytes-requires
 mark-bytes-requires c κs = search needs

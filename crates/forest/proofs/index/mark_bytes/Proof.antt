@@ -5,8 +5,6 @@ use mathlib.Core.Path.{refl}
 use borrow.Author.Needs.{needs}
 use Rattle.forest.proofs.index.mark_bytes.Statement.{statement}
 use Rattle.forest.proofs.index.mark_bytes.Tie as tie
-use Rattle.forest.proofs.index.mark_bytes.Reads as reads
-use Rattle.forest.proofs.index.mark_bytes.Lts as lts
 
 mul-result : tie.Need-mul-result
 mul-result c = search needs

@@ -4,9 +4,6 @@ use Prim.Native.Nat.{_*_, _-_}
 use borrow.Author.Needs.{needs}
 use Rattle.forest.proofs.index.write_b.Statement.{statement}
 use Rattle.forest.proofs.index.write_b.Tie as tie
-use Rattle.forest.proofs.index.write_b.Reads as reads
-use Rattle.forest.proofs.index.write_b.Lts as lts
-use Rattle.forest.proofs.marks.mark_bridges.Reads as mark-bridges-reads
 
 mul-mark-bridges : tie.Need-mul-mark-bridges
 mul-mark-bridges c = search needs
@@ -30,7 +27,10 @@ same-length : tie.Need-same-length
 same-length c = search needs
 
 returns : tie.Need-returns
-returns c = (next-written (c .before .before .before .before .before .before .before .pre .3) (2 * c .before .before .before .before .before .before .before .args .k) (3 * c .before .before .before .before .before .before .before .args .k - 2 * c .before .before .before .before .before .before .before .args .k) (length-upToP (c .before .before .before .before .before .before .before .pre .0) (c .before .before .before .before .before .before .before .pre .1)) (c .before .before .mark-bridges .ensures), search needs)
+returns c =
+    let pre = c .before .before .before .before .before .before .before .pre in
+    let k = c .before .before .before .before .before .before .before .args .k in
+    (next-written (pre .3) (2 * k) (3 * k - 2 * k) (length-upToP (pre .0) (pre .1)) (c .before .before .mark-bridges .ensures), search needs)
 
 pub write-b-spec : {M : Type 1} → statement M
 write-b-spec =

@@ -6,9 +6,6 @@ use mathlib.Core.Path.{sym, _∙_}
 use borrow.Author.Needs.{needs}
 use Rattle.forest.proofs.index.write_e.Statement.{statement}
 use Rattle.forest.proofs.index.write_e.Tie as tie
-use Rattle.forest.proofs.index.write_e.Reads as reads
-use Rattle.forest.proofs.index.write_e.Lts as lts
-use Rattle.forest.proofs.marks.mark_children.Reads as mark-children-reads
 
 slice-relend-prefix-mark-children : tie.Need-slice-relend-prefix-mark-children
 slice-relend-prefix-mark-children c = search needs
@@ -17,7 +14,9 @@ slice-aggregate-mark-children : tie.Need-slice-aggregate-mark-children
 slice-aggregate-mark-children c = sym (length-take-le (c .before .before .before .before .args .k) (c .before .before .before .before .args .index .now) (c .before .before .before .before .pre .2))
 
 mark-children-requires : tie.Need-mark-children-requires
-mark-children-requires c κs = (c .before .before .before .before .pre .0, length-take-le (c .before .before .before .before .args .k) (c .before .before .before .before .args .index .now) (c .before .before .before .before .pre .2) ∙ c .before .before .before .before .pre .1)
+mark-children-requires c κs =
+    let pre = c .before .before .before .before .pre in
+    (pre .0, length-take-le (c .before .before .before .before .args .k) (c .before .before .before .before .args .index .now) (pre .2) ∙ pre .1)
 
 same-length : tie.Need-same-length
 same-length c = search needs

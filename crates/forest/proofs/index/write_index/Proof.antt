@@ -7,12 +7,6 @@ use mathlib.Core.Path.{sym}
 use borrow.Author.Needs.{needs}
 use Rattle.forest.proofs.index.write_index.Statement.{statement}
 use Rattle.forest.proofs.index.write_index.Tie as tie
-use Rattle.forest.proofs.index.write_index.Reads as reads
-use Rattle.forest.proofs.index.write_index.Lts as lts
-use Rattle.forest.proofs.index.write_sections.Reads as write-sections-reads
-use Rattle.forest.proofs.lows.lowpoints.Reads as lowpoints-reads
-use Rattle.forest.proofs.search.search.Reads as search-reads
-use Rattle.record.proofs.starts.fill_starts.Reads as fill-starts-reads
 
 add-fill-starts : tie.Need-add-fill-starts
 add-fill-starts c = search needs
@@ -21,13 +15,19 @@ slice-relend-prefix-fill-starts : tie.Need-slice-relend-prefix-fill-starts
 slice-relend-prefix-fill-starts c = search needs
 
 slice-aggregate-fill-starts : tie.Need-slice-aggregate-fill-starts
-slice-aggregate-fill-starts c = let s = c .before .before .before .before .pre .2 in let q = c .before .before .before .before .pre .3 in sym (length-take-le (c .before .before .before .before .args .n + 1) (c .before .before .before .before .args .work .now) (omega arith))
+slice-aggregate-fill-starts c =
+    let pre = c .before .before .before .before .pre in
+    let s = pre .2 in let q = pre .3 in sym (length-take-le (c .before .before .before .before .args .n + 1) (c .before .before .before .before .args .work .now) (omega arith))
 
 fill-starts-requires : tie.Need-fill-starts-requires
-fill-starts-requires c κs = let s = c .before .before .before .before .pre .2 in let q = c .before .before .before .before .pre .3 in (c .before .before .before .before .pre .0, length-take-le (c .before .before .before .before .args .n + 1) (c .before .before .before .before .args .work .now) (omega arith))
+fill-starts-requires c κs =
+    let pre = c .before .before .before .before .pre in
+    let s = pre .2 in let q = pre .3 in (pre .0, length-take-le (c .before .before .before .before .args .n + 1) (c .before .before .before .before .args .work .now) (omega arith))
 
 search-requires : tie.Need-search-requires
-search-requires c κs = held (c .before .before .before .before .before .before .before .before .args .work .now) (c .before .before .before .before .before .before .before .before .pre .0) (c .before .before .before .before .before .before .before .before .pre .1) (c .before .before .before .before .before .before .before .before .pre .2) (c .before .before .before .before .before .before .before .before .pre .3) (c .before .before .before .fill-starts .ensures)
+search-requires c κs =
+    let pre = c .before .before .before .before .before .before .before .before .pre in
+    held (c .before .before .before .before .before .before .before .before .args .work .now) (pre .0) (pre .1) (pre .2) (pre .3) (c .before .before .before .fill-starts .ensures)
 
 lowpoints-requires : tie.Need-lowpoints-requires
 lowpoints-requires c κs = search needs

@@ -4,9 +4,6 @@ use Prim.Native.Nat.{_*_, _-_}
 use borrow.Author.Needs.{needs}
 use Rattle.forest.proofs.index.write_p.Statement.{statement}
 use Rattle.forest.proofs.index.write_p.Tie as tie
-use Rattle.forest.proofs.index.write_p.Reads as reads
-use Rattle.forest.proofs.index.write_p.Lts as lts
-use Rattle.forest.proofs.marks.mark_parents.Reads as mark-parents-reads
 
 mul-mark-parents : tie.Need-mul-mark-parents
 mul-mark-parents c = search needs
@@ -27,7 +24,10 @@ same-length : tie.Need-same-length
 same-length c = search needs
 
 returns : tie.Need-returns
-returns c = (next-written (c .before .before .before .before .before .before .before .pre .3) (c .before .before .before .before .before .before .before .args .k) (2 * c .before .before .before .before .before .before .before .args .k - c .before .before .before .before .before .before .before .args .k) (length-upToE (c .before .before .before .before .before .before .before .pre .0) (c .before .before .before .before .before .before .before .pre .1)) (c .before .before .mark-parents .ensures), search needs)
+returns c =
+    let pre = c .before .before .before .before .before .before .before .pre in
+    let k = c .before .before .before .before .before .before .before .args .k in
+    (next-written (pre .3) (k) (2 * k - k) (length-upToE (pre .0) (pre .1)) (c .before .before .mark-parents .ensures), search needs)
 
 pub write-p-spec : {M : Type 1} → statement M
 write-p-spec =

@@ -6,9 +6,6 @@ use Prim.Native.Nat.{_*_, _-_}
 use borrow.Author.Needs.{needs}
 use Rattle.forest.proofs.index.write_rest.Statement.{statement}
 use Rattle.forest.proofs.index.write_rest.Tie as tie
-use Rattle.forest.proofs.index.write_rest.Reads as reads
-use Rattle.forest.proofs.index.write_rest.Lts as lts
-use Rattle.forest.proofs.numbers.write_numbers.Reads as write-numbers-reads
 
 mul-write-numbers : tie.Need-mul-write-numbers
 mul-write-numbers c = search needs
@@ -29,7 +26,10 @@ same-length : tie.Need-same-length
 same-length c = search needs
 
 returns : tie.Need-returns
-returns c = index-written (c .before .before .before .before .before .before .before .pre .0) (c .before .before .before .before .before .before .before .pre .1) (last-written (c .before .before .before .before .before .before .before .pre .3) (3 * c .before .before .before .before .before .before .before .args .k) (length (c .before .before .before .before .before .before .before .args .index .now) - 3 * c .before .before .before .before .before .before .before .args .k) (length-upToB (c .before .before .before .before .before .before .before .pre .0) (c .before .before .before .before .before .before .before .pre .1)) (c .before .before .write-numbers .ensures) (omega arith))
+returns c =
+    let pre = c .before .before .before .before .before .before .before .pre in
+    let k = c .before .before .before .before .before .before .before .args .k in
+    index-written (pre .0) (pre .1) (last-written (pre .3) (3 * k) (length (c .before .before .before .before .before .before .before .args .index .now) - 3 * k) (length-upToB (pre .0) (pre .1)) (c .before .before .write-numbers .ensures) (omega arith))
 
 pub write-rest-spec : {M : Type 1} → statement M
 write-rest-spec =

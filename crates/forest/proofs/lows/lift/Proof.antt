@@ -67,9 +67,9 @@ lesser-requires c κs = search needs
 
 put-requires : tie.Need-put-requires
 put-requires c κs =
+    let get2 = c .before .before .before .before .before .before .before .get2 in
     let pre = c .before .before .before .before .before .before .before .before .before .before .before .before .before .pre in
     let get = c .before .before .before .before .before .before .before .before .before .get in
-    let get2 = c .before .before .before .before .before .before .before .get2 in
     let s = pre .0 .searched .holds in let o = s .sound .n-fits in let q = s .size in let i = lift-parent (pre .0) (pre .1) (get .ensures .0) (get2 .ensures .0) (c .before .before .before .before .before .before .if1 .taken) in let a = c .before .before .before .before .get3 .ensures .1 in let b = c .before .before .get4 .ensures .1 in let l = c .lesser .ensures in (omega arith, omega arith)
 
 same-length : tie.Need-same-length
@@ -77,13 +77,13 @@ same-length c = search needs
 
 returns : tie.Need-returns
 returns c =
-    let pre = c .before .before .before .before .before .before .before .before .before .before .before .before .before .before .before .before .pre in
-    let work = c .before .before .before .before .before .before .before .before .before .before .before .before .before .before .before .before .args .work .now in
     let n = c .before .before .before .before .before .before .before .before .before .before .before .before .before .before .before .before .args .n in
-    let get = c .before .before .before .before .before .before .before .before .before .before .before .before .get in
-    let get2 = c .before .before .before .before .before .before .before .before .before .before .get2 in
     let if1 = c .before .before .before .before .before .before .before .before .before .if1 in
     let get3 = c .before .before .before .before .before .before .before .get3 in
+    let pre = c .before .before .before .before .before .before .before .before .before .before .before .before .before .before .before .before .pre in
+    let get = c .before .before .before .before .before .before .before .before .before .before .before .before .get in
+    let get2 = c .before .before .before .before .before .before .before .before .before .before .get2 in
+    let work = c .before .before .before .before .before .before .before .before .before .before .before .before .before .before .before .before .args .work .now in
     lift-child (pre .0) (pre .1) (get .ensures .0) (get2 .ensures .0) (if1 .taken) (get3 .ensures .0) (c .before .before .before .before .before .get4 .ensures .0) (c .before .before .put .ensures ∙ ap (set work (7 * n + (get2 .result - 1))) (c .before .before .before .lesser .ensures))
 
 same-length-2 : tie.Need-same-length-2

@@ -6,10 +6,6 @@ use Prim.Native.Nat.{_-_}
 use mathlib.Core.Path.{_≡_, refl, _∙_}
 use Rattle.forest.proofs.lows.own_lows.Statement.{statement}
 use Rattle.forest.proofs.lows.own_lows.Tie as tie
-use Rattle.forest.proofs.lows.own_lows.Reads as reads
-use Rattle.forest.proofs.lows.own_lows.Lts as lts
-use Rattle.forest.proofs.lows.own_low.Reads as own-low-reads
-use Rattle.record.proofs.cells.put.Reads as put-reads
 
 abbrev Inv-loop : tie.InvT-loop
 Inv-loop bytes n m work₀ c₀ work c = (Filled bytes work n m c) × (length work ≡ length work₀)
@@ -48,7 +44,9 @@ loop-less : tie.Need-loop-less Inv-loop μ-loop
 loop-less c = omega arith
 
 loop-again : tie.Need-loop-again Inv-loop μ-loop
-loop-again c = (filled-more (c .before .before .before .before .before .before .before .before .before .before .before .loop .inv .0) (c .before .before .before .before .before .before .before .before .before .before .loop-test .taken) (record { is = c .before .before .before .before .before .before .put .ensures }) (record { is = c .before .before .put2 .ensures }) (c .before .before .before .before .before .before .before .before .own-low .ensures), c .before .work2 .given ∙ c .before .before .before .before .before .work .given ∙ c .before .before .before .before .before .before .before .before .before .before .before .loop .inv .1)
+loop-again c =
+    let loop = c .before .before .before .before .before .before .before .before .before .before .before .loop in
+    (filled-more (loop .inv .0) (c .before .before .before .before .before .before .before .before .before .before .loop-test .taken) (record { is = c .before .before .before .before .before .before .put .ensures }) (record { is = c .before .before .put2 .ensures }) (c .before .before .before .before .before .before .before .before .own-low .ensures), c .before .work2 .given ∙ c .before .before .before .before .before .work .given ∙ loop .inv .1)
 
 same-length : tie.Need-same-length Inv-loop μ-loop
 same-length c = c .before .loop .inv .1

@@ -4,9 +4,6 @@ use native.Mathlib.Omega.{arith}
 use borrow.Author.Needs.{needs}
 use Rattle.forest.proofs.marks.down_bit.Statement.{statement}
 use Rattle.forest.proofs.marks.down_bit.Tie as tie
-use Rattle.forest.proofs.marks.down_bit.Reads as reads
-use Rattle.forest.proofs.marks.down_bit.Lts as lts
-use Rattle.record.proofs.cells.get.Reads as get-reads
 
 mul-get : tie.Need-mul-get
 mul-get c = search needs

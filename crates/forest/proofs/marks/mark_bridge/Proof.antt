@@ -4,12 +4,6 @@ use native.Mathlib.Omega.{arith}
 use borrow.Author.Needs.{needs}
 use Rattle.forest.proofs.marks.mark_bridge.Statement.{statement}
 use Rattle.forest.proofs.marks.mark_bridge.Tie as tie
-use Rattle.forest.proofs.marks.mark_bridge.Reads as reads
-use Rattle.forest.proofs.marks.mark_bridge.Lts as lts
-use Rattle.forest.proofs.marks.down_bit.Reads as down-bit-reads
-use Rattle.forest.proofs.marks.mark_both.Reads as mark-both-reads
-use Rattle.forest.proofs.marks.up_bit.Reads as up-bit-reads
-use Rattle.record.proofs.cells.get.Reads as get-reads
 
 mul-get : tie.Need-mul-get
 mul-get c = search needs

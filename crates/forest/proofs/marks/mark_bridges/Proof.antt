@@ -7,13 +7,9 @@ use lib.ListN.{length}
 use borrow.Author.Needs.{needs}
 use native.Mathlib.Omega.{arith}
 use Prim.Native.Nat.{_-_}
-use mathlib.Core.Path.{_≡_, refl, sym, _∙_}
+use mathlib.Core.Path.{_≡_, refl, _∙_}
 use Rattle.forest.proofs.marks.mark_bridges.Statement.{statement}
 use Rattle.forest.proofs.marks.mark_bridges.Tie as tie
-use Rattle.forest.proofs.marks.mark_bridges.Reads as reads
-use Rattle.forest.proofs.marks.mark_bridges.Lts as lts
-use Rattle.forest.proofs.clear.clear.Reads as clear-reads
-use Rattle.forest.proofs.marks.mark_bridge.Reads as mark-bridge-reads
 
 abbrev Inv-loop : tie.InvT-loop
 Inv-loop bytes n m work section₀ c₀ section c = (section ≡ marked (blocks bytes) (bridgeMarks (blocks bytes) c)) × (length section ≡ length section₀)
@@ -26,8 +22,9 @@ clear-requires c κs = search needs
 
 loop-holds : tie.Need-loop-holds Inv-loop μ-loop
 loop-holds c =
+    let pre = c .before .before .before .before .before .before .before .pre in
     let g = blocks (c .before .before .before .before .before .before .before .args .bytes .now) in
-    (sections-begin (c .before .before .before .before .before .before .before .pre .0) (length (c .before .before .before .before .before .before .before .args .section .now)) (bridge g) (childEnd g) (c .before .before .before .before .before .before .before .pre .1) (λ j. c .slice-known2 .given j .fits) (c .before .before .clear .ensures), refl)
+    (sections-begin (pre .0) (length (c .before .before .before .before .before .before .before .args .section .now)) (bridge g) (childEnd g) (pre .1) (λ j. c .slice-known2 .given j .fits) (c .before .before .clear .ensures), refl)
 
 mark-bridge-requires : tie.Need-mark-bridge-requires Inv-loop μ-loop
 mark-bridge-requires c κs = (c .before .before .before .before .before .before .before .before .before .before .pre .0, c .before .loop-test .taken, c .before .before .loop .inv .0)

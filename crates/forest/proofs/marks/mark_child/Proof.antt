@@ -4,11 +4,6 @@ use native.Mathlib.Omega.{arith}
 use borrow.Author.Needs.{needs}
 use Rattle.forest.proofs.marks.mark_child.Statement.{statement}
 use Rattle.forest.proofs.marks.mark_child.Tie as tie
-use Rattle.forest.proofs.marks.mark_child.Reads as reads
-use Rattle.forest.proofs.marks.mark_child.Lts as lts
-use Rattle.bits.proofs.fields.write_bit.Reads as write-bit-reads
-use Rattle.forest.proofs.marks.down_bit.Reads as down-bit-reads
-use Rattle.record.proofs.cells.get.Reads as get-reads
 
 mul-get : tie.Need-mul-get
 mul-get c = search needs

@@ -9,13 +9,9 @@ use lib.ListN.{length}
 use borrow.Author.Needs.{needs}
 use native.Mathlib.Omega.{arith}
 use Prim.Native.Nat.{_-_}
-use mathlib.Core.Path.{_≡_, refl, sym, _∙_}
+use mathlib.Core.Path.{_≡_, refl, _∙_}
 use Rattle.forest.proofs.marks.mark_children.Statement.{statement}
 use Rattle.forest.proofs.marks.mark_children.Tie as tie
-use Rattle.forest.proofs.marks.mark_children.Reads as reads
-use Rattle.forest.proofs.marks.mark_children.Lts as lts
-use Rattle.forest.proofs.clear.clear.Reads as clear-reads
-use Rattle.forest.proofs.marks.mark_child.Reads as mark-child-reads
 
 abbrev Inv-loop : tie.InvT-loop
 Inv-loop bytes n m work section₀ c₀ section c = (section ≡ marked (blocks bytes) (childMarks (blocks bytes) c)) × (length section ≡ length section₀)
@@ -28,8 +24,9 @@ clear-requires c κs = search needs
 
 loop-holds : tie.Need-loop-holds Inv-loop μ-loop
 loop-holds c =
+    let pre = c .before .before .before .before .before .before .before .pre in
     let g = blocks (c .before .before .before .before .before .before .before .args .bytes .now) in
-    (sections-begin (c .before .before .before .before .before .before .before .pre .0) (length (c .before .before .before .before .before .before .before .args .section .now)) (childMark (forest g)) (target g) (c .before .before .before .before .before .before .before .pre .1) (λ j. c .slice-known2 .given j .fits) (c .before .before .clear .ensures), refl)
+    (sections-begin (pre .0) (length (c .before .before .before .before .before .before .before .args .section .now)) (childMark (forest g)) (target g) (pre .1) (λ j. c .slice-known2 .given j .fits) (c .before .before .clear .ensures), refl)
 
 mark-child-requires : tie.Need-mark-child-requires Inv-loop μ-loop
 mark-child-requires c κs = (c .before .before .before .before .before .before .before .before .before .before .pre .0, c .before .loop-test .taken, c .before .before .loop .inv .0)

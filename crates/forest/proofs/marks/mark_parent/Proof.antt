@@ -4,11 +4,6 @@ use native.Mathlib.Omega.{arith}
 use borrow.Author.Needs.{needs}
 use Rattle.forest.proofs.marks.mark_parent.Statement.{statement}
 use Rattle.forest.proofs.marks.mark_parent.Tie as tie
-use Rattle.forest.proofs.marks.mark_parent.Reads as reads
-use Rattle.forest.proofs.marks.mark_parent.Lts as lts
-use Rattle.bits.proofs.fields.write_bit.Reads as write-bit-reads
-use Rattle.forest.proofs.marks.up_bit.Reads as up-bit-reads
-use Rattle.record.proofs.cells.get.Reads as get-reads
 
 mul-get : tie.Need-mul-get
 mul-get c = search needs

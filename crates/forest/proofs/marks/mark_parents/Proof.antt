@@ -8,13 +8,9 @@ use lib.ListN.{length}
 use borrow.Author.Needs.{needs}
 use native.Mathlib.Omega.{arith}
 use Prim.Native.Nat.{_-_}
-use mathlib.Core.Path.{_≡_, refl, sym, _∙_}
+use mathlib.Core.Path.{_≡_, refl, _∙_}
 use Rattle.forest.proofs.marks.mark_parents.Statement.{statement}
 use Rattle.forest.proofs.marks.mark_parents.Tie as tie
-use Rattle.forest.proofs.marks.mark_parents.Reads as reads
-use Rattle.forest.proofs.marks.mark_parents.Lts as lts
-use Rattle.forest.proofs.clear.clear.Reads as clear-reads
-use Rattle.forest.proofs.marks.mark_parent.Reads as mark-parent-reads
 
 abbrev Inv-loop : tie.InvT-loop
 Inv-loop bytes n m work section₀ c₀ section c = (section ≡ marked (blocks bytes) (parentMarks (blocks bytes) c)) × (length section ≡ length section₀)
@@ -27,8 +23,9 @@ clear-requires c κs = search needs
 
 loop-holds : tie.Need-loop-holds Inv-loop μ-loop
 loop-holds c =
+    let pre = c .before .before .before .before .before .before .before .pre in
     let g = blocks (c .before .before .before .before .before .before .before .args .bytes .now) in
-    (sections-begin (c .before .before .before .before .before .before .before .pre .0) (length (c .before .before .before .before .before .before .before .args .section .now)) (parentMark g g (forest g)) (λ u j. u) (c .before .before .before .before .before .before .before .pre .1) (λ j. c .slice-known2 .given j .fits) (c .before .before .clear .ensures), refl)
+    (sections-begin (pre .0) (length (c .before .before .before .before .before .before .before .args .section .now)) (parentMark g g (forest g)) (λ u j. u) (pre .1) (λ j. c .slice-known2 .given j .fits) (c .before .before .clear .ensures), refl)
 
 mark-parent-requires : tie.Need-mark-parent-requires Inv-loop μ-loop
 mark-parent-requires c κs = (c .before .before .before .before .before .before .before .before .before .before .pre .0, c .before .loop-test .taken, c .before .before .loop .inv .0)

@@ -9,11 +9,6 @@ use Prim.Native.Nat.{_-_}
 use mathlib.Core.Path.{sym, ap, _∙_}
 use Rattle.forest.proofs.numbers.write_numbers.Statement.{statement}
 use Rattle.forest.proofs.numbers.write_numbers.Tie as tie
-use Rattle.forest.proofs.numbers.write_numbers.Reads as reads
-use Rattle.forest.proofs.numbers.write_numbers.Lts as lts
-use Rattle.bits.proofs.fields.write12.Reads as write12-reads
-use Rattle.forest.proofs.clear.clear.Reads as clear-reads
-use Rattle.record.proofs.cells.get.Reads as get-reads
 
 abbrev Inv-loop : tie.InvT-loop
 Inv-loop bytes n m work section₀ v₀ section v = Written (numbers (blocks bytes) (forest (blocks bytes))) section v
@@ -25,7 +20,9 @@ clear-requires : tie.Need-clear-requires Inv-loop μ-loop
 clear-requires c κs = search needs
 
 loop-holds : tie.Need-loop-holds Inv-loop μ-loop
-loop-holds c = number-begin (c .before .before .before .before .before .before .before .pre .0) (c .before .before .before .before .before .before .before .pre .1) (c .before .before .clear .ensures) (λ j. c .slice-known2 .given j .fits)
+loop-holds c =
+    let pre = c .before .before .before .before .before .before .before .pre in
+    number-begin (pre .0) (pre .1) (c .before .before .clear .ensures) (λ j. c .slice-known2 .given j .fits)
 
 mul-write12 : tie.Need-mul-write12 Inv-loop μ-loop
 mul-write12 c = let o = c .before .before .before .before .before .before .before .before .before .before .pre .0 .searched .holds .sound .n-fits in omega arith
@@ -61,14 +58,16 @@ loop-less c = omega arith
 loop-again : tie.Need-loop-again Inv-loop μ-loop
 loop-again c =
     let pre = c .before .before .before .before .before .before .before .before .before .before .before .before .before .before .pre in
+    let write12 = c .before .before .write12 in
     let l = number-many (pre .0) in
     let e = number-cell (pre .0) (c .before .before .before .before .before .loop-test .taken) (c .before .before .before .get .ensures .0) .0 in
-    written-more (c .before .before .before .before .before .before .loop .inv) (omega arith) (omega arith) (c .before .before .write12 .ensures .0) (c .before .before .write12 .ensures .1) (λ j. c .slice-known3 .given j .fits)
+    written-more (c .before .before .before .before .before .before .loop .inv) (omega arith) (omega arith) (write12 .ensures .0) (write12 .ensures .1) (λ j. c .slice-known3 .given j .fits)
 
 same-length : tie.Need-same-length Inv-loop μ-loop
 same-length c =
-    let l = number-many (c .before .before .before .before .before .before .before .before .before .pre .0) in
-    c .before .loop .inv .size ∙ ap numberBytes l ∙ sym (c .before .before .before .before .before .before .before .before .before .pre .1)
+    let pre = c .before .before .before .before .before .before .before .before .before .pre in
+    let l = number-many (pre .0) in
+    c .before .loop .inv .size ∙ ap numberBytes l ∙ sym (pre .1)
 
 returns : tie.Need-returns Inv-loop μ-loop
 returns c = let l = number-many (c .before .before .before .before .before .before .before .before .before .pre .0) in written-end (c .before .loop .inv) (omega arith)
