@@ -13,6 +13,9 @@ mod marks; // marks.rt: the sections of marks
 mod numbers; // numbers.rt: the section of the visit numbers
 mod index; // index.rt: the sections in order
 
+// A visit number, from 1: the paper's depth-first index.
+pub struct Dfi(pub usize);
+
 // Build: writes the index of an accepted record. What the work slice and the buffer hold before does not matter; a refused call leaves the
 // buffer as it was.
 pub fn build(bytes: &[u8], work: &mut [u16], index: &mut [u8]) -> Verdict

@@ -1,5 +1,5 @@
 -- `numbers::write_numbers` meets its contract: the numbers are written from the front into zeros.
-use Rattle.forest.proofs.Laws.Numbers.{Written, written-more, written-end, number-many, number-begin, number-cell}
+use Rattle.forest.proofs.Laws.Numbers.{Written, written-more, written-end, number-many, number-begin}
 use Rattle.forest.specs.Index.{numbers, numberBytes}
 use Rattle.record.specs.Record.{blocks}
 use Rattle.graph.specs.Search.{forest}
@@ -24,30 +24,18 @@ loop-holds c =
     let pre = c .before .before .before .before .before .before .before .pre in
     number-begin (pre .0) (pre .1) (c .before .before .clear .ensures) (λ j. c .slice-known2 .given j .fits)
 
-mul-write12 : tie.Need-mul-write12 Inv-loop μ-loop
-mul-write12 c = let o = c .before .before .before .before .before .before .before .before .before .before .pre .0 .searched .holds .sound .n-fits in omega arith
+visit-requires : tie.Need-visit-requires Inv-loop μ-loop
+visit-requires c κs = (c .before .before .before .before .before .before .before .before .before .before .pre .0, c .before .loop-test .taken)
 
-mul-get : tie.Need-mul-get Inv-loop μ-loop
-mul-get c = let o = c .before .before .before .before .before .before .before .before .before .before .pre .0 .searched .holds .sound .n-fits in omega arith
-
-add-get : tie.Need-add-get Inv-loop μ-loop
-add-get c = let o = c .before .before .before .before .before .before .before .before .before .before .pre .0 .searched .holds .sound .n-fits in omega arith
-
-get-requires : tie.Need-get-requires Inv-loop μ-loop
-get-requires c κs = let q = c .before .before .before .before .before .before .before .before .before .before .pre .0 .searched .holds .size in omega arith
-
-sub-write12 : tie.Need-sub-write12 Inv-loop μ-loop
-sub-write12 c = let e = number-cell (c .before .before .before .before .before .before .before .before .before .before .before .pre .0) (c .before .before .loop-test .taken) (c .get .ensures .0) .0 in omega arith
-
-write12-requires : tie.Need-write12-requires Inv-loop μ-loop
+write-number-requires : tie.Need-write-number-requires Inv-loop μ-loop
 unfolding numberBytes
-write12-requires c κs =
-    let pre = c .before .before .before .before .before .before .before .before .before .before .before .pre in
+write-number-requires c κs =
     let s = c .before .before .before .loop .inv .size in
+    let pre = c .before .before .before .before .before .before .before .before .before .before .before .pre in
     let l = number-many (pre .0) in
-    let (e, b) = number-cell (pre .0) (c .before .before .loop-test .taken) (c .get .ensures .0) in
+    let (e, b) = c .visit .ensures in
     let o = pre .0 .searched .holds .sound .n-fits in
-    (omega arith, omega arith)
+    (omega arith, omega arith, omega arith, omega arith)
 
 add-v : tie.Need-add-v Inv-loop μ-loop
 add-v c = let o = c .before .before .before .before .before .before .before .before .before .before .before .before .before .before .pre .0 .searched .holds .sound .n-fits in omega arith
@@ -57,11 +45,10 @@ loop-less c = omega arith
 
 loop-again : tie.Need-loop-again Inv-loop μ-loop
 loop-again c =
-    let pre = c .before .before .before .before .before .before .before .before .before .before .before .before .before .before .pre in
-    let write12 = c .before .before .write12 in
-    let l = number-many (pre .0) in
-    let e = number-cell (pre .0) (c .before .before .before .before .before .loop-test .taken) (c .before .before .before .get .ensures .0) .0 in
-    written-more (c .before .before .before .before .before .before .loop .inv) (omega arith) (omega arith) (write12 .ensures .0) (write12 .ensures .1) (λ j. c .slice-known3 .given j .fits)
+    let e = c .before .before .before .visit .ensures .0 in
+    let write-number = c .before .before .write-number in
+    let l = number-many (c .before .before .before .before .before .before .before .before .before .before .before .before .before .before .pre .0) in
+    written-more (c .before .before .before .before .before .before .loop .inv) (omega arith) (omega arith) (write-number .ensures .0) (write-number .ensures .1) (λ j. c .slice-known3 .given j .fits)
 
 same-length : tie.Need-same-length Inv-loop μ-loop
 same-length c =
@@ -80,12 +67,8 @@ write-numbers-spec =
     μ-loop
     clear-requires
     loop-holds
-    mul-write12
-    mul-get
-    add-get
-    get-requires
-    sub-write12
-    write12-requires
+    visit-requires
+    write-number-requires
     add-v
     loop-less
     loop-again
