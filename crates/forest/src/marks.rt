@@ -53,12 +53,12 @@ fn mark_parent(bytes: &[u8], n: usize, m: usize, work: &[u16], section: &mut [u8
 }
 
 // Two bits are set.
-fn mark_both(section: &mut [u8], d: usize, u: usize)
-    requires { ⌜ (d < 8 * length (now section)) × (u < 8 * length (now section)) ⌝ }
-    ensures { λ _. ⌜ (bits (now (section .exit)) ≡ set (set (bits (now (section .entry))) d true) u true) × (length (now (section .exit)) ≡ length (now (section .entry))) ⌝ }
+fn mark_both(section: &mut [u8], a: usize, b: usize)
+    requires { ⌜ (a < 8 * length (now section)) × (b < 8 * length (now section)) ⌝ }
+    ensures { λ _. ⌜ (bits (now (section .exit)) ≡ set (set (bits (now (section .entry))) a true) b true) × (length (now (section .exit)) ≡ length (now (section .entry))) ⌝ }
 {
-    write_bit(section, d, true);
-    write_bit(section, u, true);
+    write_bit(section, a, true);
+    write_bit(section, b, true);
 }
 
 // B's marks of vertex c, at both ends: its lowpoint is its own visit number.

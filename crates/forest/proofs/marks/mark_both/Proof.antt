@@ -20,7 +20,7 @@ returns : tie.Need-returns
 returns c =
     let write-bit2 = c .before .before .write-bit2 in
     let write-bit = c .before .before .before .before .before .before .write-bit in
-    (write-bit2 .ensures .0 ∙ ap (λ (s : List Bool). set s (c .before .before .before .before .before .before .before .before .before .args .u) true) (write-bit .ensures .0), write-bit2 .ensures .1 ∙ write-bit .ensures .1)
+    (write-bit2 .ensures .0 ∙ ap (λ (s : List Bool). set s (c .before .before .before .before .before .before .before .before .before .args .b) true) (write-bit .ensures .0), write-bit2 .ensures .1 ∙ write-bit .ensures .1)
 
 pub mark-both-spec : {M : Type 1} → statement M
 mark-both-spec = tie.close (tie.spec write-bit-requires write-bit-requires-2 same-length returns)
