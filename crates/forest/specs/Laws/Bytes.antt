@@ -1,13 +1,13 @@
 -- The bytes of the index: how many they are, and the sections and numbers that are read from them.
-use mathlib.Core.Path.{_≡_, refl, sym, ap, _∙_}
+use mathlib.Core.Path.{_≡_, refl, sym, ap, ap₂, _∙_}
 use mathlib.Core.Bool.{Bool, false}
 use mathlib.Core.List.{List, [], _∷_, _++_, append-assoc, append-nil, flatten}
 use Prim.Native.Nat.{ℕ, zero, suc, _+_, _-_, _*_, _/_, _≤_, _<_}
 use native.Mathlib.Nat.{mod-eq-of-lt}
 use native.Mathlib.Omega.{arith}
 use borrow.Author.Tests.{le-leb}
-use lib.ListN.{length, take, drop, getD, replicate, length-append}
-use lib.Seq.{take-at, drop-at}
+use lib.ListN.{length, take, drop, getD, replicate, length-append, length-replicate, getD-replicate, List·getD-append}
+use lib.Seq.{take-at, drop-at, getD-append-add}
 use Rattle.bits.specs.Bits.{toBits, bits, string, field, pack}
 use Rattle.bits.specs.Laws.Bytes.{AreBytes, length-bits, bits-append}
 use Rattle.bits.specs.Laws.Digits.{length-toBits}
@@ -43,6 +43,20 @@ string-between a b s start places e f =
     held (a ++ (pack s ++ b)) start places (le-leb _ _ l)
     ∙ ap (take places) (ap (drop start) (bits-between a b s) ∙ drop-at (bits a) (s ++ (fill s ++ bits b)) start (length-bits a ∙ e))
     ∙ take-at s (fill s ++ bits b) places f
+
+-- the bits after them, up to the end of the byte, are zeros
+pub filled : (a b : List ℕ) (s : List Bool) (i : ℕ) → 8 * length a + length s ≤ i → i < 8 * (length a + length (pack s)) → getD (bits (a ++ (pack s ++ b))) i false ≡ false
+filled a b s i h k =
+    let l : length (bits a) ≡ 8 * length a = length-bits a in
+    let p : length (pack s) ≡ (length s + 7) / 8 = length-pack s in
+    let j : ℕ = i - (8 * length a + length s) in
+    let e : i ≡ length (bits a) + (length s + j) = omega arith in
+    let f : length (fill s) ≡ 8 * ((length s + 7) / 8) - length s = length-replicate {A = Bool} (8 * ((length s + 7) / 8) - length s) false in
+    ap₂ (λ (t : List Bool) (x : ℕ). getD t x false) (bits-between a b s) e
+    ∙ getD-append-add (bits a) (s ++ (fill s ++ bits b)) (length s + j) false
+    ∙ getD-append-add s (fill s ++ bits b) j false
+    ∙ List·getD-append (fill s) (bits b) false j (omega arith)
+    ∙ getD-replicate (8 * ((length s + 7) / 8) - length s) j false false (omega arith)
 
 -- a number among others in fields of 12 bits
 field-among : (xs : List ℕ) (s t : List Bool) (start v : ℕ) → length s ≡ start → v < length xs → getD xs v 0 < 4096
@@ -148,6 +162,33 @@ module _ (g : Blocks) (F : Forest) (m : ℕ) (even : length (flatten g) ≡ 2 * 
   split : indexBy g F ≡ marks ++ (pack (fieldBits (numbers g F)) ++ [])
   unfolding indexBy marks
   split = simp (append-assoc, append-nil)
+
+  -- the fill bits of each section are zeros
+  pub fill-E : (i : ℕ) → length g + 2 * m ≤ i → i < 8 * markBytes (length g) m → getD (bits (indexBy g F)) i false ≡ false
+  unfolding indexBy
+  fill-E i h k = filled [] _ (sectionE g F) i (let l = length-E in omega arith) (let l = bytes-E in omega arith)
+
+  pub fill-P : (i : ℕ) → 8 * markBytes (length g) m + (length g + 2 * m) ≤ i → i < 8 * (2 * markBytes (length g) m) → getD (bits (indexBy g F)) i false ≡ false
+  unfolding indexBy
+  fill-P i h k =
+      let a = bytes-E in
+      filled (pack (sectionE g F)) _ (sectionP g F) i (let l = length-P in omega arith) (let l = bytes-P in omega arith)
+
+  pub fill-B : (i : ℕ) → 8 * (2 * markBytes (length g) m) + (length g + 2 * m) ≤ i → i < 8 * (3 * markBytes (length g) m) → getD (bits (indexBy g F)) i false ≡ false
+  unfolding indexBy
+  fill-B i h k =
+      let a : List ℕ = pack (sectionE g F) ++ pack (sectionP g F) in
+      let l : length a ≡ 2 * markBytes (length g) m = length-append (pack (sectionE g F)) (pack (sectionP g F)) ∙ omega (arith, bytes-E, bytes-P) in
+      ap (λ (t : List ℕ). getD (bits t) i false) (sym (append-assoc (pack (sectionE g F)) (pack (sectionP g F)) _))
+      ∙ filled a _ (sectionB g) i (let b = length-B in omega arith) (let b = bytes-B in omega arith)
+
+  pub fill-numbers : (i : ℕ) → 8 * (3 * markBytes (length g) m) + 12 * length g ≤ i → i < 8 * indexLength (length g) m → getD (bits (indexBy g F)) i false ≡ false
+  unfolding indexLength
+  fill-numbers i h k =
+      let l = length-marked in
+      let b : length (fieldBits (numbers g F)) ≡ 12 * length g = length-fieldBits (numbers g F) ∙ ap (λ (x : ℕ). 12 * x) (length-numbers g F) in
+      ap (λ (t : List ℕ). getD (bits t) i false) split
+      ∙ filled marks [] (fieldBits (numbers g F)) i (omega arith) (let d = bytes-numbers in omega arith)
 
   -- a number, read back
   pub number-stored : (v : ℕ) → v < length g → number F v < 4096
