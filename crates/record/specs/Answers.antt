@@ -31,6 +31,14 @@ outcome (suc k) a = refused (suc k)
 abbrev pub tried : {A : Type 0} → List Rule → A → Answer A
 tried rules a = outcome (firstBroken rules) a
 
+-- the refusal of the first broken rule; if none is broken, a further answer
+unfoldable pub otherwise : {A : Type 0} → ℕ → Answer A → Answer A
+otherwise zero a = a
+otherwise (suc k) a = refused (suc k)
+
+abbrev pub triedThen : {A : Type 0} → List Rule → Answer A → Answer A
+triedThen rules a = otherwise (firstBroken rules) a
+
 -- the result buffer afterwards: written where no rule is broken, else as it was
 unfoldable pub bufferAfter : List Rule → List ℕ → List ℕ → List ℕ
 bufferAfter rules written former = elim (eqb (firstBroken rules) 0) [ true ↦ written | false ↦ former ]

@@ -1,0 +1,34 @@
+-- Document 01's number for each named case of the queries' answers.
+use mathlib.Core.Bool.{Bool, true, false}
+use Prim.Native.Nat.{ℕ}
+use Rattle.record.specs.Answers.{Answer, refused, answered, number}
+use Rattle.queries.specs.declared.Above.{Above}
+use Rattle.queries.specs.declared.Above.the-variants as Above
+use Rattle.queries.specs.declared.Found.{Found}
+use Rattle.queries.specs.declared.Found.the-variants as Found
+use Rattle.queries.specs.declared.Related.{Related}
+use Rattle.queries.specs.declared.Related.the-variants as Related
+use Rattle.queries.specs.declared.Numbered.{Numbered}
+use Rattle.queries.specs.declared.Numbered.the-variants as Numbered
+
+-- a parent, 0 for none
+abbrev pub above : Above → Answer ℕ
+above Above.Root = answered 0
+above (Above.Parent v) = answered (v .0)
+above (Above.Refused r) = refused (number r)
+
+-- a terminal
+abbrev pub terminal : Found → Answer ℕ
+terminal (Found.Terminal v) = answered (v .0)
+terminal (Found.Refused r) = refused (number r)
+
+-- yes or no
+abbrev pub related : Related → Answer Bool
+related Related.Yes = answered true
+related Related.No = answered false
+related (Related.Refused r) = refused (number r)
+
+-- a visit number
+abbrev pub numbered : Numbered → Answer ℕ
+numbered (Numbered.Number d) = answered (d .0)
+numbered (Numbered.Refused r) = refused (number r)

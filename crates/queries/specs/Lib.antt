@@ -1,0 +1,5 @@
+-- The queries: the definitions that the contracts cite, and the laws about them.
+pub mod View
+pub mod Queries
+pub mod Operations
+pub mod Answers

@@ -1,0 +1,40 @@
+-- What an index shows beside a record, built or not: the marks of each block, and the stored numbers. The queries speak of this alone, so
+-- another layout of the index is another function from bytes to the same view.
+use mathlib.Core.Bool.{Bool}
+use mathlib.Core.List.{List}
+use Prim.Native.Nat.{ℕ, suc, _+_, _*_}
+use lib.ListN.{length, take, drop}
+use Rattle.bits.specs.Bits.{bits, string, select, field}
+use Rattle.graph.specs.Graph.{Blocks, block}
+use Rattle.record.specs.Record.{terminals, wires, unary, blocks}
+use Rattle.forest.specs.Index.{markBytes}
+
+-- vertices count from 0
+pub record View : Type 0 where
+  pub graph : Blocks  -- the record's blocks
+  pub marksE : ℕ → List Bool  -- for each vertex the marks of its block, in order
+  pub marksP : ℕ → List Bool
+  pub marksB : ℕ → List Bool
+  pub stored : ℕ → ℕ  -- for each vertex the stored number
+
+-- the part of a section that belongs to u's block: it follows the place of the vertex's one in D
+unfoldable pub blockMarks : List ℕ → List Bool → ℕ → List Bool
+blockMarks bytes s u = take (length (block (blocks bytes) u)) (drop (select (unary bytes) (suc u)) s)
+
+-- the k-th section of marks, from 0
+unfoldable pub sectionOf : List ℕ → List ℕ → ℕ → List Bool
+sectionOf bytes index k = string index (8 * (k * markBytes (terminals bytes) (wires bytes))) (terminals bytes + 2 * wires bytes)
+
+-- the number stored for u
+unfoldable pub numberOf : List ℕ → List ℕ → ℕ → ℕ
+numberOf bytes index u = field 12 (bits index) (8 * (3 * markBytes (terminals bytes) (wires bytes)) + 12 * u)
+
+-- document 01's layout
+abbrev pub viewOf : List ℕ → List ℕ → View
+viewOf bytes index = record {
+  graph = blocks bytes;
+  marksE = blockMarks bytes (sectionOf bytes index 0);
+  marksP = blockMarks bytes (sectionOf bytes index 1);
+  marksB = blockMarks bytes (sectionOf bytes index 2);
+  stored = numberOf bytes index;
+}

@@ -1,0 +1,27 @@
+// The queries on a record and its index (document 01, "Operations and their answers"). No operation of this file has a precondition.
+use forest::Dfi;
+use record::Refusal;
+use record::Vertex;
+
+// What stands above a terminal.
+pub enum Above {
+    Root,
+    Parent(Vertex),
+    Refused(Refusal),
+}
+
+pub enum Found {
+    Terminal(Vertex),
+    Refused(Refusal),
+}
+
+pub enum Related {
+    Yes,
+    No,
+    Refused(Refusal),
+}
+
+pub enum Numbered {
+    Number(Dfi),
+    Refused(Refusal),
+}
