@@ -1,0 +1,325 @@
+// Has `forest` build the indexes of fixed records and prints the answers, a line for each call. The file stdout has what they must be.
+ghost use Prim.Native.Nat.{_+_, _*_, _≤_};
+use print::digest;
+use print::number;
+use print::show;
+use print::text;
+use print::title;
+use print::verdict;
+use shapes::Shape;
+
+mod print; // print.rt: words, numbers, bytes, digests and verdicts
+mod shapes; // shapes.rt: the largest records
+
+// Build, with the buffer after it.
+fn build(name: &[u8], before: &[u8], bytes: &[u8], work: &mut [u16], index: &mut [u8]) {
+    title(name, before, work.len(), index.len());
+    verdict(forest::build(bytes, work, index));
+    show(index);
+}
+
+// The bytes of a section of marks.
+fn mark_bytes(n: usize, m: usize) -> usize
+    requires { ⌜ (n ≤ 4096) × (m ≤ 16384) ⌝ }
+    ensures { λ r. ⌜ (8 * r ≤ n + 2 * m + 7) × (r ≤ 4608) ⌝ }
+{
+    (n + 2 * m + 7) / 8
+}
+
+// The bytes of an index.
+fn index_length(n: usize, m: usize) -> usize
+    requires { ⌜ (n ≤ 4096) × (m ≤ 16384) ⌝ }
+    ensures { λ r. ⌜ (8 * r ≤ 15 * n + 6 * m + 28) × (r ≤ 19968) ⌝ }
+{
+    3 * mark_bytes(n, m) + (12 * n + 7) / 8
+}
+
+// Build with a work slice and a buffer of these lengths, each full of one number.
+fn lent(name: &[u8], before: &[u8], bytes: &[u8], cell: u16, byte: u8, work: usize, length: usize)
+    requires { ⌜ (work ≤ 99) × (length ≤ 36) ⌝ }
+{
+    let mut cells = [cell; 99];
+    let mut buffer = [byte; 36];
+    build(
+        name,
+        before,
+        bytes,
+        &mut cells[..work],
+        &mut buffer[..length],
+    );
+}
+
+// A record of n terminals and m wires that is accepted. What the work slice and the buffer hold before does not matter, nor does more work.
+fn run(name: &[u8], bytes: &[u8], n: usize, m: usize)
+    requires { ⌜ (n ≤ 12) × (m ≤ 14) ⌝ }
+{
+    let cells = 8 * n;
+    let length = index_length(n, m);
+    lent(name, b"zeros", bytes, 0, 0, cells, length);
+    lent(name, b"ones", bytes, 0xFFFF, 0xFF, cells, length);
+    lent(name, b"ones", bytes, 0xFFFF, 0xFF, cells + 3, length);
+}
+
+// Document 01's records.
+fn stated() {
+    run(
+        b"sample",
+        b"\x00\x30\x00\x59\x22\xA0\x02\x00\x10\x00\x00\x20\x01\x00\x30\x00\x00\x20\x05\x00\x40",
+        6,
+        5,
+    );
+    run(b"empty", b"\x00\x00\x00\x00", 0, 0);
+    run(b"single", b"\x00\x08\x00\x08", 1, 0);
+    run(b"wire", b"\x00\x10\x00\x1A\x00\x10\x00", 2, 1);
+}
+
+// Forests: a path whose labels are not in order, a star with the hub last, two trees.
+fn forests() {
+    run(
+        b"path",
+        b"\x00\x30\x00\x59\x2A\x40\x04\x00\x20\x05\x00\x40\x00\x00\x50\x01\x00\x00\x03\x00\x10",
+        6,
+        5,
+    );
+    run(
+        b"hub",
+        b"\x00\x30\x00\x5A\xAA\x00\x05\x00\x50\x05\x00\x50\x05\x00\x30\x00\x00\x40\x02\x00\x10",
+        6,
+        5,
+    );
+    run(
+        b"trees",
+        b"\x00\x48\x00\x79\x24\x55\x40\x0A\x00\x40\x0C\x00\x60\x0E\x00\x00\x10\x00\x20\x08\x00\x60\x00\x00\x20\x04\x00\x60",
+        9,
+        7,
+    );
+}
+
+// Two triangles that share a terminal, two joined by a bridge, a ladder, and four terminals that are all joined.
+fn blocks() {
+    run(
+        b"bowtie",
+        b"\x00\x28\x00\x69\x21\x20\x02\x00\x10\x01\x00\x18\x01\x80\x00\x00\x80\x20\x00\x80\x10\x01\x00\x00",
+        5,
+        6,
+    );
+    run(
+        b"joined",
+        b"\x00\x30\x00\x79\x22\x24\x00\x50\x03\x00\x40\x02\x00\x40\x03\x00\x10\x02\x00\x00\x05\x00\x10\x02\x00\x30\x00",
+        6,
+        7,
+    );
+    run(
+        b"ladder",
+        b"\x00\x40\x00\xA9\x22\x22\x24\x00\x20\x01\x00\x30\x00\x00\x40\x00\x00\x30\x02\x00\x50\x01\x00\x50\x06\x00\x20\x07\x00\x30\x04\x00\x70\x04\x00\x60\x05",
+        8,
+        10,
+    );
+    run(
+        b"clique",
+        b"\x00\x20\x00\x68\x88\x80\x02\x00\x30\x01\x00\x30\x00\x00\x20\x01\x00\x00\x03\x00\x00\x02\x00\x10",
+        4,
+        6,
+    );
+}
+
+// Three ways between two terminals, a cycle with a chord and a tail, bridges and cycles in turn, components with isolated terminals between them.
+fn mixtures() {
+    run(
+        b"theta",
+        b"\x00\x30\x00\x79\x12\x44\x00\x40\x01\x00\x30\x00\x00\x20\x01\x00\x40\x05\x00\x10\x02\x00\x50\x00\x00\x40\x03",
+        6,
+        7,
+    );
+    run(
+        b"chord",
+        b"\x00\x38\x00\x89\x11\x12\x40\x06\x00\x40\x0A\x00\x80\x06\x00\x60\x0A\x00\x00\x02\x00\x00\x04\x00\xC0\x02\x00\x40\x02\x00\x80",
+        7,
+        8,
+    );
+    run(
+        b"mixed",
+        b"\x00\x60\x00\xE9\x21\x08\xA4\x94\x40\x06\x00\x90\x02\x00\x40\x03\x00\x10\x04\x00\xA0\x0A\x00\x50\x08\x00\x20\x01\x00\xB0\x02\x00\x30\x07\x00\x00\x08\x00\x60\x03\x00\x70\x00\x00\x30\x0B\x00\x20\x0A\x00\x40",
+        12,
+        14,
+    );
+    run(
+        b"apart",
+        b"\x00\x50\x00\x5C\xB4\x69\x00\x80\x05\x00\x40\x02\x00\x70\x01\x00\x80\x05\x00\x50\x01",
+        10,
+        5,
+    );
+}
+
+// Build with a buffer of marks, which a refused call leaves.
+fn on_marks(name: &[u8], bytes: &[u8], work: usize, length: usize)
+    requires { ⌜ (work ≤ 64) × (length ≤ 16) ⌝ }
+{
+    let mut cells = [0u16; 64];
+    let mut buffer = *b"\xA1\xA2\xA3\xA4\xA5\xA6\xA7\xA8\xA9\xAA\xAB\xAC\xAD\xAE\xAF\xB0";
+    build(
+        name,
+        b"marks",
+        bytes,
+        &mut cells[..work],
+        &mut buffer[..length],
+    );
+}
+
+fn sample(work: usize, length: usize)
+    requires { ⌜ (work ≤ 64) × (length ≤ 16) ⌝ }
+{
+    on_marks(
+        b"sample",
+        b"\x00\x30\x00\x59\x22\xA0\x02\x00\x10\x00\x00\x20\x01\x00\x30\x00\x00\x20\x05\x00\x40",
+        work,
+        length,
+    );
+}
+
+// The sample with a spare bit set.
+fn spare(work: usize, length: usize)
+    requires { ⌜ (work ≤ 64) × (length ≤ 16) ⌝ }
+{
+    on_marks(
+        b"spare",
+        b"\x00\x30\x00\x59\x22\xA0\x02\x00\x10\x00\x00\x20\x01\x00\x30\x00\x00\x20\x05\x00\x41",
+        work,
+        length,
+    );
+}
+
+// A wire that is listed at one end only.
+fn one_sided(work: usize, length: usize)
+    requires { ⌜ (work ≤ 64) × (length ≤ 16) ⌝ }
+{
+    on_marks(
+        b"one_sided",
+        b"\x00\x18\x00\x29\x40\x02\x00\x40\x00\x00\x20",
+        work,
+        length,
+    );
+}
+
+// 1 to 8.
+fn unaccepted() {
+    on_marks(b"none", b"", 0, 0);
+    on_marks(b"wide", b"\x80\x08\x00\x00", 64, 16);
+    on_marks(
+        b"short",
+        b"\x00\x30\x00\x59\x22\xA0\x02\x00\x10\x00\x00\x20\x01\x00\x30\x00\x00\x20\x05\x00",
+        48,
+        15,
+    );
+    on_marks(
+        b"few_ones",
+        b"\x00\x30\x00\x59\x22\x80\x02\x00\x10\x00\x00\x20\x01\x00\x30\x00\x00\x20\x05\x00\x40",
+        48,
+        15,
+    );
+    spare(48, 15);
+    on_marks(
+        b"own",
+        b"\x00\x30\x00\x59\x22\xA0\x02\x00\x10\x00\x00\x20\x01\x00\x30\x00\x00\x20\x05\x00\x50",
+        48,
+        15,
+    );
+    on_marks(
+        b"doubled",
+        b"\x00\x10\x00\x29\x00\x04\x00\x40\x00\x00\x00",
+        16,
+        6,
+    );
+    one_sided(24, 8);
+}
+
+// 9: the work slice is too short. 10: the buffer has another length than the index.
+fn wrong_room() {
+    sample(47, 15);
+    sample(0, 15);
+    on_marks(b"single", b"\x00\x08\x00\x08", 7, 5);
+    sample(48, 14);
+    sample(48, 16);
+    sample(48, 0);
+    on_marks(b"empty", b"\x00\x00\x00\x00", 0, 1);
+}
+
+// 9 before 10, and Check's before both; then a call that is accepted.
+fn several() {
+    sample(47, 14);
+    spare(47, 15);
+    spare(48, 16);
+    one_sided(23, 9);
+    sample(48, 15);
+}
+
+// The ones of a section that starts at this bit of the index.
+fn section_ones(index: &[u8], start: usize, places: usize) {
+    text(b" ");
+    number(bits::rank(index, start, places, places));
+}
+
+// The ones of E, P and B.
+fn ones(index: &[u8], m: usize)
+    requires { ⌜ m ≤ 16384 ⌝ }
+{
+    let places = 4096 + 2 * m;
+    let start = 8 * mark_bytes(4096, m);
+    section_ones(index, 0, places);
+    section_ones(index, start, places);
+    section_ones(index, 2 * start, places);
+    text(b",");
+}
+
+// Packs a record and has its index built. Each is shown by a digest, and the sections of marks by their ones too.
+fn measure(name: &[u8], s: Shape, bytes: &mut [u8], work: &mut [u16], index: &mut [u8]) {
+    shapes::pack(bytes, s);
+    text(name);
+    text(b" record ");
+    number(bytes.len());
+    text(b":");
+    digest(bytes);
+    title(name, b"ones", work.len(), index.len());
+    verdict(forest::build(bytes, work, index));
+    ones(index, shapes::wires(s));
+    digest(index);
+}
+
+// The bytes of a record of 4,096 terminals.
+fn record_length(m: usize) -> usize
+    requires { ⌜ m ≤ 16384 ⌝ }
+    ensures { λ r. ⌜ r ≤ 53764 ⌝ }
+{
+    (28 + (4096 + 2 * m) + 12 * (2 * m) + 7) / 8
+}
+
+// A record of the largest sizes.
+fn large(name: &[u8], s: Shape) {
+    let mut bytes = [0u8; 53764];
+    let mut work = [0xFFFFu16; 32768];
+    let mut index = [0xFFu8; 19968];
+    let m = shapes::wires(s);
+    let held = record_length(m);
+    let length = index_length(4096, m);
+    measure(name, s, &mut bytes[..held], &mut work, &mut index[..length]);
+}
+
+fn largest() {
+    large(b"path", Shape::Path);
+    large(b"star", Shape::Star);
+    large(b"ring", Shape::Ring);
+    large(b"circulant", Shape::Circulant);
+    large(b"isolated", Shape::Isolated);
+    large(b"pairs", Shape::Pairs);
+}
+
+fn main() {
+    stated();
+    forests();
+    blocks();
+    mixtures();
+    unaccepted();
+    wrong_room();
+    several();
+    largest();
+}
