@@ -10,7 +10,7 @@ ghost use Rattle.forest.specs.Lows.{Lifting};
 ghost use Rattle.forest.specs.Fronts.{Begins, upToE, upToP, upToB};
 
 // The bytes of a section of marks.
-fn mark_bytes(n: usize, m: usize) -> usize
+pub fn mark_bytes(n: usize, m: usize) -> usize
     requires { ⌜ (n ≤ 4096) × (m ≤ 16384) ⌝ }
     ensures { λ r. ⌜ (r ≡ markBytes n m) × (r ≤ 4608) ⌝ }
 {

@@ -11,7 +11,7 @@ mod search; // search.rt: the depth-first search
 mod lows; // lows.rt: lowpoints
 mod marks; // marks.rt: the sections of marks
 mod numbers; // numbers.rt: the section of the visit numbers
-mod index; // index.rt: the sections in order
+pub mod index; // index.rt: the sections in order
 
 // A visit number, from 1: the paper's depth-first index.
 pub struct Dfi(pub usize);

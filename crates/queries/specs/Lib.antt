@@ -3,3 +3,4 @@ pub mod View
 pub mod Queries
 pub mod Operations
 pub mod Answers
+pub mod Steps

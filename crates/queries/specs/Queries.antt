@@ -1,12 +1,12 @@
 -- What the queries answer on a view (document 01, "Operations and their answers"), once nothing of order Q is broken. Vertices count from 0
 -- here, and answers are document 01's numbers.
 use mathlib.Core.Bool.{Bool, true, false}
-use mathlib.Core.List.{List, [], _∷_, map}
+use mathlib.Core.List.{List, map}
 use mathlib.Core.Logic.{_⊎_, inl, inr}
 use Prim.Native.Nat.{ℕ, zero, suc, _-_}
 use lib.Dec.{eqb, ltb}
 use lib.ListN.{length, getD}
-use Rattle.bits.specs.Bits.{count, onesAt, select}
+use Rattle.bits.specs.Bits.{count, select}
 use Rattle.graph.specs.Graph.{Blocks, target}
 use Rattle.graph.specs.Search.{countUp}
 use Rattle.graph.specs.Laws.Heads.Walks.{walk}
@@ -20,14 +20,14 @@ pub data Step : Type 0 where
   top : Step  -- no mark: a root
   rise : ℕ → ℕ → Step  -- the marked position, and the parent that stands there
 
--- by the places of the ones
-unfoldable pub stepBy : Blocks → ℕ → List ℕ → Step
-stepBy g u [] = top
-stepBy g u (p ∷ []) = elim (ltb (target g u (p - 1)) (length g)) [ true ↦ rise (p - 1) (target g u (p - 1)) | false ↦ stuck ]
-stepBy g u (p ∷ q ∷ l) = stuck
+-- by the number of marks, and the position of the first
+unfoldable pub stepBy : Blocks → ℕ → ℕ → ℕ → Step
+stepBy g u zero j = top
+stepBy g u (suc zero) j = elim (ltb (target g u j) (length g)) [ true ↦ rise j (target g u j) | false ↦ stuck ]
+stepBy g u (suc (suc k)) j = stuck
 
 unfoldable pub stepUp : Blocks → (ℕ → List Bool) → ℕ → Step
-stepUp g marks u = stepBy g u (onesAt 1 (marks u))
+stepUp g marks u = stepBy g u (count (marks u)) (select (marks u) 1 - 1)
 
 -- ---- Parent
 

@@ -22,19 +22,22 @@ unfoldable pub blockMarks : List ℕ → List Bool → ℕ → List Bool
 blockMarks bytes s u = take (length (block (blocks bytes) u)) (drop (select (unary bytes) (suc u)) s)
 
 -- the k-th section of marks, from 0
-unfoldable pub sectionOf : List ℕ → List ℕ → ℕ → List Bool
-sectionOf bytes index k = string index (8 * (k * markBytes (terminals bytes) (wires bytes))) (terminals bytes + 2 * wires bytes)
+unfoldable pub sectionOf : ℕ → ℕ → List ℕ → ℕ → List Bool
+sectionOf n m index k = string index (8 * (k * markBytes n m)) (n + 2 * m)
 
 -- the number stored for u
-unfoldable pub numberOf : List ℕ → List ℕ → ℕ → ℕ
-numberOf bytes index u = field 12 (bits index) (8 * (3 * markBytes (terminals bytes) (wires bytes)) + 12 * u)
+unfoldable pub numberOf : ℕ → ℕ → List ℕ → ℕ → ℕ
+numberOf n m index u = field 12 (bits index) (8 * (3 * markBytes n m) + 12 * u)
 
--- document 01's layout
-abbrev pub viewOf : List ℕ → List ℕ → View
-viewOf bytes index = record {
+-- document 01's layout, for a record of n terminals and m wires
+abbrev pub viewBy : ℕ → ℕ → List ℕ → List ℕ → View
+viewBy n m bytes index = record {
   graph = blocks bytes;
-  marksE = blockMarks bytes (sectionOf bytes index 0);
-  marksP = blockMarks bytes (sectionOf bytes index 1);
-  marksB = blockMarks bytes (sectionOf bytes index 2);
-  stored = numberOf bytes index;
+  marksE = blockMarks bytes (sectionOf n m index 0);
+  marksP = blockMarks bytes (sectionOf n m index 1);
+  marksB = blockMarks bytes (sectionOf n m index 2);
+  stored = numberOf n m index;
 }
+
+abbrev pub viewOf : List ℕ → List ℕ → View
+viewOf bytes index = viewBy (terminals bytes) (wires bytes) bytes index

@@ -25,3 +25,8 @@ pub enum Numbered {
     Number(Dfi),
     Refused(Refusal),
 }
+
+mod order; // order.rt: order Q
+mod marks; // marks.rt: a mark of each kind, a stored number
+mod blocks; // blocks.rt: the marks of one block
+mod climbs; // climbs.rt: steps up the forest

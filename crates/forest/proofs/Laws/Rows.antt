@@ -3,15 +3,11 @@ use mathlib.Core.Path.{_≡_, sym, ap, ap₂, _∙_}
 use mathlib.Core.List.{List}
 use Prim.Native.Nat.{ℕ, _+_, _-_, _*_, _≤_, _<_}
 use native.Mathlib.Omega.{arith}
-use lib.ListN.{length, getD, drop}
-use lib.Seq.{getD-take, getD-drop}
-use Rattle.bits.specs.Bits.{count}
+use lib.ListN.{length, getD}
 use Rattle.graph.specs.Graph.{block, target}
 use Rattle.record.specs.Record.{unary, fields, blocks}
 use Rattle.record.specs.Starts.{startsOf}
-use Rattle.record.specs.Laws.Layout.{degree-starts}
-use Rattle.record.specs.Laws.Parts.{starts-rise, starts-fit, part-block}
-use Rattle.record.proofs.Laws.Reading.Sounded.{sound-shaped, sound-ones, sound-places}
+use Rattle.record.proofs.Laws.Reading.Spans.{span-rises, span-ends, span-size, span-neighbour}
 use Rattle.forest.specs.Steps.{Holding}
 
 module _ {bytes work : List ℕ} {n m : ℕ} (o : Holding bytes work n m) {c : ℕ} (h : c < n) where
@@ -21,30 +17,18 @@ module _ {bytes work : List ℕ} {n m : ℕ} (o : Holding bytes work n m) {c : �
   end-is : getD work (c + 1) 0 ≡ getD (startsOf (unary bytes)) (c + 1) 0
   end-is = o .starts-are (c + 1) (omega arith)
 
-  counted : c < count (unary bytes)
-  counted = let k = sound-ones (o .sound) in omega arith
-
   pub row-rises : getD work c 0 ≤ getD work (c + 1) 0
-  row-rises = rw (start-is, end-is) (starts-rise 0 (unary bytes) c counted)
+  row-rises = rw (start-is, end-is) (span-rises (o .sound) h)
 
   pub row-ends : getD work (c + 1) 0 ≤ 2 * m
-  row-ends =
-      let k = sound-ones (o .sound) in
-      let l = sound-places (o .sound) in
-      let f = starts-fit 0 (unary bytes) (c + 1) (omega arith) in
-      let e = end-is in
-      omega arith
+  row-ends = rw end-is (span-ends (o .sound) h)
 
   pub row-size : length (block (blocks bytes) c) ≡ getD work (c + 1) 0 - getD work c 0
-  row-size = let e = o .sound .is-n in degree-starts (sound-shaped (o .sound)) c (omega arith) ∙ sym (ap₂ _-_ end-is start-is)
+  row-size = span-size (o .sound) h ∙ sym (ap₂ _-_ end-is start-is)
 
   -- the neighbour at position j
   pub row-neighbour : (j : ℕ) → j < getD work (c + 1) 0 - getD work c 0 → target (blocks bytes) c j ≡ getD (fields bytes) (getD work c 0 + j) 0
-  unfolding blocks
   row-neighbour j k =
       let a = start-is in
       let b = end-is in
-      ap (λ (x : List ℕ). getD x j 0) (part-block (unary bytes) (sound-shaped (o .sound) .begins) (fields bytes) c counted)
-      ∙ getD-take (getD (startsOf (unary bytes)) (c + 1) 0 - getD (startsOf (unary bytes)) c 0) (drop (getD (startsOf (unary bytes)) c 0) (fields bytes)) j 0 (omega arith)
-      ∙ getD-drop (getD (startsOf (unary bytes)) c 0) (fields bytes) j 0
-      ∙ ap (λ (x : ℕ). getD (fields bytes) (x + j) 0) (sym start-is)
+      span-neighbour (o .sound) h j (omega arith) ∙ ap (λ (x : ℕ). getD (fields bytes) (x + j) 0) (sym start-is)

@@ -4,4 +4,5 @@ pub mod Sounded
 pub mod InOrder
 pub mod Unpacked
 pub mod Filled
+pub mod Spans
 pub mod OneBlock

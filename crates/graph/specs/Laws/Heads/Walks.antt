@@ -34,14 +34,18 @@ record Follows {A : Type 0} (F : Forest) (next : ℕ → A ⊎ ℕ) (value : ℕ
   at-child : (u j v : ℕ) → List·Memᴰ (via u j v) F → (next v ≡ inl (value v)) ⊎ ((next v ≡ inr u) × (value v ≡ value u))
 
 module _ {A : Type 0} (next : ℕ → A ⊎ ℕ) (late : A) where
-  walk-stop : (k : ℕ) {v : ℕ} {a : A} → next v ≡ inl a → walk next late k v ≡ a
+  pub walk-stop : (k : ℕ) {v : ℕ} {a : A} → next v ≡ inl a → walk next late k v ≡ a
   unfolding walk
   walk-stop zero e = rw (e, walk)
   walk-stop (suc k) e = rw (e, walk)
 
-  walk-up : (k : ℕ) {u v : ℕ} → next v ≡ inr u → walk next late (suc k) v ≡ walk next late k u
+  pub walk-up : (k : ℕ) {u v : ℕ} → next v ≡ inr u → walk next late (suc k) v ≡ walk next late k u
   unfolding walk
   walk-up k e = rw (e, walk)
+
+  pub walk-late : {u v : ℕ} → next v ≡ inr u → walk next late 0 v ≡ late
+  unfolding walk
+  walk-late e = rw (e, walk)
 
   -- a walk finds the value in as many steps as the visit number
   walk-value : {Ok : ℕ → ℕ → ℕ → Type 0} {F : Forest} {value : ℕ → A} → Built Ok F → Follows F next value

@@ -26,25 +26,28 @@ module _ {bytes : List ℕ} {n m : ℕ} (s : Sound bytes n m) where
   unfolding degreeRules
   after-order v = append-kept (order-numbered bytes) ((11, noTerminal bytes v) ∷ []) (s .kept)
 
-  outside : (v : ℕ) → noTerminal bytes v ≡ true → firstBroken (degreeRules bytes v) ≡ 11
-  outside v e = after-order v ∙ first-broken 11 [] e
+  -- the test
+  pub zero-none : (v : ℕ) → v ≡ 0 → noTerminal bytes v ≡ true
+  unfolding noTerminal
+  zero-none v e = rw (eq-eqb v 0 e)
+
+  pub past-none : (v : ℕ) → n < v → noTerminal bytes v ≡ true
+  unfolding noTerminal
+  past-none v h = let f = s .is-n in rw (ne-eqb v 0 (λ z. omega arith), lt-ltb (terminals bytes) v (omega arith))
+
+  pub inside-some : (v : ℕ) → (v ≡ 0 → ⊥) → v ≤ n → noTerminal bytes v ≡ false
+  unfolding noTerminal
+  inside-some v z h = let f = s .is-n in rw (ne-eqb v 0 z, le-ltb (terminals bytes) v (omega arith))
 
   pub zero-outside : {v : ℕ} → v ≡ 0 → firstBroken (degreeRules bytes v) ≡ 11
-  unfolding noTerminal
-  zero-outside {v} e = outside v (rw (eq-eqb v 0 e))
+  zero-outside {v} e = after-order v ∙ first-broken 11 [] (zero-none v e)
 
   pub past-outside : {v : ℕ} → n < v → firstBroken (degreeRules bytes v) ≡ 11
-  unfolding noTerminal
-  past-outside {v} h =
-      let f = s .is-n in
-      outside v (rw (ne-eqb v 0 (λ z. omega arith), lt-ltb (terminals bytes) v (omega arith)))
+  past-outside {v} h = after-order v ∙ first-broken 11 [] (past-none v h)
 
   pub inside : {v : ℕ} → (v ≡ 0 → ⊥) → v ≤ n → firstBroken (degreeRules bytes v) ≡ 0
-  unfolding noTerminal firstBroken
-  inside {v} z h =
-      let f = s .is-n in
-      let e : noTerminal bytes v ≡ false = rw (ne-eqb v 0 z, le-ltb (terminals bytes) v (omega arith)) in
-      after-order v ∙ first-kept 11 [] e
+  unfolding firstBroken
+  inside {v} z h = after-order v ∙ first-kept 11 [] (inside-some v z h)
 
   -- ---- the block
 

@@ -1,0 +1,6 @@
+-- Laws about what the code computes.
+pub mod Ordered
+pub mod Ones
+pub mod Marks
+pub mod Stepping
+pub mod Climbing

@@ -1,0 +1,68 @@
+-- `climbs::ancestor_turn` meets its contract.
+use Rattle.queries.proofs.Laws.Climbing.{starts-long, ancestor-yes, ancestor-step}
+use Rattle.queries.specs.Steps.{stepOf}
+use Rattle.queries.specs.Queries.{ancestorBy}
+use Rattle.queries.specs.View.{viewBy}
+use lib.ListN.{getD}
+use native.Mathlib.Omega.{arith}
+use Prim.Native.Nat.{ℕ, _+_}
+use mathlib.Core.List.{List}
+use mathlib.Core.Path.{sym, ap, _∙_}
+use borrow.Author.Needs.{needs}
+use Rattle.queries.proofs.climbs.ancestor_turn.Statement.{statement}
+use Rattle.queries.proofs.climbs.ancestor_turn.Tie as tie
+use Rattle.queries.proofs.climbs.ancestor_turn.Reads as reads
+use Rattle.queries.proofs.climbs.ancestor_turn.Lts as lts
+use Rattle.queries.proofs.climbs.step_up.Reads as step-up-reads
+use Rattle.record.proofs.cells.get.Reads as get-reads
+
+returns : tie.Need-returns
+returns c = ancestor-yes (viewBy (c .before .before .before .before .args .n) (c .before .before .before .before .args .m) (c .before .before .before .before .args .bytes .now) (c .before .before .before .before .args .index .now)) (c .before .before .before .before .args .x) (c .before .before .before .before .args .u) (c .if1 .taken)
+
+get-requires : tie.Need-get-requires
+get-requires c κs = let l = starts-long (c .before .before .before .before .pre .0 .sound) (c .before .before .before .before .pre .1) in let h = c .before .before .before .before .pre .2 in omega arith
+
+add-get : tie.Need-add-get
+add-get c = search needs
+
+get-requires-2 : tie.Need-get-requires-2
+get-requires-2 c κs = let l = starts-long (c .before .before .before .before .before .pre .0 .sound) (c .before .before .before .before .before .pre .1) in let h = c .before .before .before .before .before .pre .2 in omega arith
+
+step-up-requires : tie.Need-step-up-requires
+step-up-requires c κs =
+    let pre = c .before .before .before .before .before .before .pre in
+    (pre .0, pre .2, c .before .get .ensures .0 ∙ ap (λ (l : List ℕ). getD l (c .before .before .before .before .before .before .args .u) 0) (pre .1), c .get2 .ensures .0 ∙ ap (λ (l : List ℕ). getD l (c .before .before .before .before .before .before .args .u + 1) 0) (pre .1))
+
+enum-told : tie.Need-enum-told
+enum-told c = search needs
+
+enum-told-2 : tie.Need-enum-told-2
+enum-told-2 c = search needs
+
+enum-known-r : tie.Need-enum-known-r
+enum-known-r c = search needs
+
+returns-2 : tie.Need-returns-2
+returns-2 c = ap ancestorBy (sym (ap stepOf (c .enum-told .given .1)) ∙ c .before .before .step-up .ensures) ∙ ancestor-step (viewBy (c .before .before .before .before .before .before .before .before .before .args .n) (c .before .before .before .before .before .before .before .before .before .args .m) (c .before .before .before .before .before .before .before .before .before .args .bytes .now) (c .before .before .before .before .before .before .before .before .before .args .index .now)) (c .before .before .before .before .before .before .before .before .before .args .x) (c .before .before .before .before .before .before .before .before .before .args .u) (c .before .before .before .before .before .if1 .left)
+
+returns-3 : tie.Need-returns-3
+returns-3 c = ap ancestorBy (sym (ap stepOf (c .enum-told2 .given .1)) ∙ c .before .before .step-up .ensures) ∙ ancestor-step (viewBy (c .before .before .before .before .before .before .before .before .before .args .n) (c .before .before .before .before .before .before .before .before .before .args .m) (c .before .before .before .before .before .before .before .before .before .args .bytes .now) (c .before .before .before .before .before .before .before .before .before .args .index .now)) (c .before .before .before .before .before .before .before .before .before .args .x) (c .before .before .before .before .before .before .before .before .before .args .u) (c .before .before .before .before .before .if1 .left)
+
+returns-4 : tie.Need-returns-4
+returns-4 c = ap ancestorBy (sym (ap stepOf (c .before .r .given .1)) ∙ c .before .before .before .step-up .ensures) ∙ ancestor-step (viewBy (c .before .before .before .before .before .before .before .before .before .before .args .n) (c .before .before .before .before .before .before .before .before .before .before .args .m) (c .before .before .before .before .before .before .before .before .before .before .args .bytes .now) (c .before .before .before .before .before .before .before .before .before .before .args .index .now)) (c .before .before .before .before .before .before .before .before .before .before .args .x) (c .before .before .before .before .before .before .before .before .before .before .args .u) (c .before .before .before .before .before .before .if1 .left)
+
+pub ancestor-turn-spec : {M : Type 1} → statement M
+ancestor-turn-spec =
+    tie.close
+    (tie.spec
+    returns
+    get-requires
+    add-get
+    get-requires-2
+    step-up-requires
+    enum-told
+    enum-told-2
+    enum-known-r
+    returns-2
+    returns-3
+    returns-4)

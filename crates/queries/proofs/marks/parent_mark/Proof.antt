@@ -1,0 +1,28 @@
+-- `marks::parent_mark` meets its contract.
+use Rattle.queries.proofs.Laws.Marks.{section-at, marks-fit}
+use native.Mathlib.Omega.{arith}
+use mathlib.Core.Path.{_∙_}
+use borrow.Author.Needs.{needs}
+use Rattle.queries.proofs.marks.parent_mark.Statement.{statement}
+use Rattle.queries.proofs.marks.parent_mark.Tie as tie
+use Rattle.queries.proofs.marks.parent_mark.Reads as reads
+use Rattle.queries.proofs.marks.parent_mark.Lts as lts
+use Rattle.forest.proofs.index.mark_bytes.Reads as mark-bytes-reads
+use Rattle.queries.proofs.marks.mark.Reads as mark-reads
+
+mark-bytes-requires : tie.Need-mark-bytes-requires
+mark-bytes-requires c κs = search needs
+
+mark-requires : tie.Need-mark-requires
+mark-requires c κs =
+    let pre = c .before .before .pre in
+    let f = pre .0 in
+    let (a, b) = marks-fit f in let (e, l) = c .mark-bytes .ensures in (f .n-fits, f .m-fits, omega arith, omega arith, pre .1)
+
+returns : tie.Need-returns
+returns c =
+    let e = c .before .mark-bytes .ensures .0 in
+    c .mark .ensures ∙ section-at (c .before .before .before .args .index .now) (c .before .before .before .args .n) (c .before .before .before .args .m) 1 (c .before .mark-bytes .result) (c .before .before .before .args .bit) (omega arith)
+
+pub parent-mark-spec : {M : Type 1} → statement M
+parent-mark-spec = tie.close (tie.spec mark-bytes-requires mark-requires returns)

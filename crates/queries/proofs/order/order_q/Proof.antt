@@ -1,0 +1,61 @@
+-- `order::order_q` meets its contract.
+use Rattle.queries.proofs.Laws.Ordered.{order-refused, index-misfit, number-zero, number-past, order-passed}
+use Rattle.record.proofs.Laws.Reading.Sounded.{told-sound}
+use Rattle.record.specs.Answers.{shape}
+use mathlib.Core.Path.{sym, ap, _∙_}
+use borrow.Author.Needs.{needs}
+use Rattle.queries.proofs.order.order_q.Statement.{statement}
+use Rattle.queries.proofs.order.order_q.Tie as tie
+use Rattle.queries.proofs.order.order_q.Reads as reads
+use Rattle.queries.proofs.order.order_q.Lts as lts
+use Rattle.forest.proofs.index.index_length.Reads as index-length-reads
+use Rattle.record.proofs.header.order_r.Reads as order-r-reads
+
+order-r-requires : tie.Need-order-r-requires
+order-r-requires c κs = search needs
+
+enum-known-r : tie.Need-enum-known-r
+enum-known-r c = search needs
+
+enum-known-s : tie.Need-enum-known-s
+enum-known-s c = search needs
+
+index-length-requires : tie.Need-index-length-requires
+index-length-requires c κs = let s = told-sound (c .before .before .before .before .before .before .args .bytes .now) (sym (ap shape (c .before .s .given .1)) ∙ c .before .before .before .order-r .ensures) in (s .n-fits, s .m-fits)
+
+returns : tie.Need-returns
+returns c =
+    let s = told-sound (c .before .before .before .before .before .before .before .before .args .bytes .now) (sym (ap shape (c .before .before .before .s .given .1)) ∙ c .before .before .before .before .before .order-r .ensures) in
+    index-misfit (c .before .before .before .before .before .before .before .before .args .bytes .now) (c .before .before .before .before .before .before .before .before .args .index .now) (c .before .before .before .before .before .before .before .before .args .v) s (λ z. c .if1 .taken (z ∙ sym (c .before .index-length .ensures)))
+
+returns-2 : tie.Need-returns-2
+returns-2 c =
+    let s = told-sound (c .before .before .before .before .before .before .before .before .before .args .bytes .now) (sym (ap shape (c .before .before .before .before .s .given .1)) ∙ c .before .before .before .before .before .before .order-r .ensures) in
+    number-zero (c .before .before .before .before .before .before .before .before .before .args .bytes .now) (c .before .before .before .before .before .before .before .before .before .args .index .now) (c .before .before .before .before .before .before .before .before .before .args .v) s (c .before .if1 .left ∙ c .before .before .index-length .ensures) (c .if2 .taken)
+
+returns-3 : tie.Need-returns-3
+returns-3 c =
+    let s = told-sound (c .before .before .before .before .before .before .before .before .before .before .args .bytes .now) (sym (ap shape (c .before .before .before .before .before .s .given .1)) ∙ c .before .before .before .before .before .before .before .order-r .ensures) in
+    number-past (c .before .before .before .before .before .before .before .before .before .before .args .bytes .now) (c .before .before .before .before .before .before .before .before .before .before .args .index .now) (c .before .before .before .before .before .before .before .before .before .before .args .v) s (c .before .before .if1 .left ∙ c .before .before .before .index-length .ensures) (c .if3 .taken)
+
+returns-4 : tie.Need-returns-4
+returns-4 c = order-refused (c .before .before .before .before .before .before .args .bytes .now) (c .before .before .before .before .before .before .args .index .now) (c .before .before .before .before .before .before .args .v) (sym (ap shape (c .before .r .given .1)) ∙ c .before .before .before .order-r .ensures)
+
+returns-5 : tie.Need-returns-5
+returns-5 c =
+    let s = told-sound (c .before .before .before .before .before .before .before .before .before .before .args .bytes .now) (sym (ap shape (c .before .before .before .before .before .s .given .1)) ∙ c .before .before .before .before .before .before .before .order-r .ensures) in
+    order-passed (c .before .before .before .before .before .before .before .before .before .before .args .bytes .now) (c .before .before .before .before .before .before .before .before .before .before .args .index .now) (c .before .before .before .before .before .before .before .before .before .before .args .v) s (c .before .before .if1 .left ∙ c .before .before .before .index-length .ensures) (c .before .if2 .left) (c .if3 .left)
+
+pub order-q-spec : {M : Type 1} → statement M
+order-q-spec =
+    tie.close
+    (tie.spec
+    order-r-requires
+    enum-known-r
+    enum-known-s
+    index-length-requires
+    returns
+    returns-2
+    returns-3
+    returns-4
+    returns-5)

@@ -1,0 +1,47 @@
+-- What contracts inside this crate say: of a record and an index that passed order Q, and of one step of a climb.
+use mathlib.Core.Path.{_≡_}
+use mathlib.Core.Bool.{Bool, true, false}
+use mathlib.Core.List.{List}
+use mathlib.Core.Logic.{_⊎_, inl, inr}
+use Prim.Native.Nat.{ℕ, suc, _≤_}
+use lib.ListN.{length}
+use Rattle.record.specs.Answers.{Answer, refused, answered}
+use Rattle.record.specs.Steps.{Sound}
+use Rattle.forest.specs.Index.{indexLength}
+use Rattle.queries.specs.Queries as Queries
+use Rattle.queries.specs.declared.climbs.Step.{Step}
+use Rattle.queries.specs.declared.climbs.Step.the-variants as Step
+use Rattle.queries.specs.declared.climbs.Move.{Move}
+use Rattle.queries.specs.declared.climbs.Move.the-variants as Move
+use Rattle.queries.specs.declared.climbs.Turn.{Turn}
+use Rattle.queries.specs.declared.climbs.Turn.the-variants as Turn
+
+-- the index has the length that n and m give
+pub record Framed (index : List ℕ) (n m : ℕ) : Type 0 where
+  pub n-fits : n ≤ 4096
+  pub m-fits : m ≤ 16384
+  pub sized : length index ≡ indexLength n m
+
+-- the record passed order R, and n and m are its header's
+pub record Beside (bytes index : List ℕ) (n m : ℕ) : Type 0 where
+  pub sound : Sound bytes n m
+  pub framed : Framed index n m
+
+-- a step, as the definitions name it
+abbrev pub stepOf : Step → Queries.Step
+stepOf Step.Stuck = Queries.stuck
+stepOf Step.Top = Queries.top
+stepOf (Step.Rise r) = Queries.rise (r .at) (r .to)
+
+-- one step of Head from u
+abbrev pub moveOf : ℕ → Move → Answer ℕ ⊎ ℕ
+moveOf u Move.Refuse = inl (refused 12)
+moveOf u Move.Here = inl (answered (suc u))
+moveOf u (Move.Up p) = inr p
+
+-- one step of Ancestor
+abbrev pub turnOf : Turn → Answer Bool ⊎ ℕ
+turnOf Turn.Refuse = inl (refused 12)
+turnOf Turn.Yes = inl (answered true)
+turnOf Turn.No = inl (answered false)
+turnOf (Turn.Up p) = inr p

@@ -1,0 +1,49 @@
+// One mark of each kind, and a stored number: the only functions that know where the index has them.
+ghost use mathlib.Core.Path.{_≡_};
+ghost use mathlib.Core.Bool.{false};
+ghost use Prim.Native.Nat.{_+_, _*_, _≤_, _<_};
+ghost use lib.ListN.{length, getD};
+ghost use Rattle.bits.specs.Bits.{string};
+ghost use Rattle.queries.specs.View.{sectionOf, numberOf};
+ghost use Rattle.queries.specs.Steps.{Framed};
+use forest::index::mark_bytes;
+
+// Bit `bit` of the section that starts at byte `at`.
+fn mark(index: &[u8], n: usize, m: usize, at: usize, bit: usize) -> bool
+    requires { ⌜ (n ≤ 4096) × (m ≤ 16384) × (at ≤ 65536) × (8 * at + (n + 2 * m) ≤ 8 * length (now index)) × (bit < n + 2 * m) ⌝ }
+    ensures { λ r. ⌜ r ≡ getD (string (now (index .entry)) (8 * at) (n + 2 * m)) bit false ⌝ }
+{
+    bits::fields::read_bit(index, 8 * at + bit)
+}
+
+// A mark of E.
+pub fn child_mark(index: &[u8], n: usize, m: usize, bit: usize) -> bool
+    requires { ⌜ (Framed (now index) n m) × (bit < n + 2 * m) ⌝ }
+    ensures { λ r. ⌜ r ≡ getD (sectionOf n m (now (index .entry)) 0) bit false ⌝ }
+{
+    mark(index, n, m, 0, bit)
+}
+
+// A mark of P.
+pub fn parent_mark(index: &[u8], n: usize, m: usize, bit: usize) -> bool
+    requires { ⌜ (Framed (now index) n m) × (bit < n + 2 * m) ⌝ }
+    ensures { λ r. ⌜ r ≡ getD (sectionOf n m (now (index .entry)) 1) bit false ⌝ }
+{
+    mark(index, n, m, mark_bytes(n, m), bit)
+}
+
+// A mark of B.
+pub fn bridge_mark(index: &[u8], n: usize, m: usize, bit: usize) -> bool
+    requires { ⌜ (Framed (now index) n m) × (bit < n + 2 * m) ⌝ }
+    ensures { λ r. ⌜ r ≡ getD (sectionOf n m (now (index .entry)) 2) bit false ⌝ }
+{
+    mark(index, n, m, 2 * mark_bytes(n, m), bit)
+}
+
+// The number stored for vertex u.
+pub fn stored(index: &[u8], n: usize, m: usize, u: usize) -> usize
+    requires { ⌜ (Framed (now index) n m) × (u < n) ⌝ }
+    ensures { λ r. ⌜ (r ≡ numberOf n m (now (index .entry)) u) × (r < 4096) ⌝ }
+{
+    bits::fields::read12(index, 8 * (3 * mark_bytes(n, m)) + 12 * u)
+}
