@@ -54,28 +54,9 @@ pub fn digest(bytes: &[u8]) {
     text(b"\n");
 }
 
-// Document 01's number of a refusal.
-fn number_of(r: Refusal) -> usize {
-    match r {
-        Refusal::TooShort => 1,
-        Refusal::OverLimit => 2,
-        Refusal::WrongLength => 3,
-        Refusal::BadUnary => 4,
-        Refusal::SpareSet => 5,
-        Refusal::StrayNeighbour => 6,
-        Refusal::DoubledNeighbour => 7,
-        Refusal::OneSidedWire => 8,
-        Refusal::ShortWork => 9,
-        Refusal::WrongBuffer => 10,
-        Refusal::NoTerminal => 11,
-        Refusal::BadIndex => 12,
-        Refusal::NoChild => 13,
-    }
-}
-
 fn refused(r: Refusal) {
     text(b"refused ");
-    number(number_of(r));
+    number(record::number_of(r));
 }
 
 // The verdict, and a comma.

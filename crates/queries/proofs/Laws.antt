@@ -1,6 +1,8 @@
 -- Laws about what the code computes.
 pub mod Ordered
+pub mod Asking
 pub mod Ones
 pub mod Marks
 pub mod Stepping
 pub mod Climbing
+pub mod Singles

@@ -1,8 +1,7 @@
 // Steps up the forest, one at a time and until the climb ends.
 ghost use mathlib.Core.Path.{_≡_};
-ghost use mathlib.Core.List.{List};
 ghost use Prim.Native.Nat.{_+_, _-_, _<_};
-ghost use lib.ListN.{length, getD};
+ghost use lib.ListN.{getD};
 ghost use Rattle.record.specs.Record.{unary, blocks};
 ghost use Rattle.record.specs.Starts.{startsOf};
 ghost use Rattle.queries.specs.View.{viewBy, sectionOf, blockMarks};
@@ -88,7 +87,7 @@ fn head_move(bytes: &[u8], index: &[u8], n: usize, m: usize, starts: &[u16], u: 
 }
 
 // Head's climb from vertex v.
-fn climb_head(bytes: &[u8], index: &[u8], n: usize, m: usize, starts: &[u16], v: usize) -> Found
+pub fn climb_head(bytes: &[u8], index: &[u8], n: usize, m: usize, starts: &[u16], v: usize) -> Found
     requires { ⌜ (Beside (now bytes) (now index) n m) × (now starts ≡ startsOf (unary (now bytes))) × (v < n) ⌝ }
     ensures { λ r. ⌜ terminal r ≡ headOf (viewBy n m (now (bytes .entry)) (now (index .entry))) v ⌝ }
 {
@@ -141,7 +140,7 @@ fn ancestor_turn(
 }
 
 // Ancestor's climb from vertex v.
-fn climb_ancestor(
+pub fn climb_ancestor(
     bytes: &[u8],
     index: &[u8],
     n: usize,

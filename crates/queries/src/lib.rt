@@ -1,7 +1,22 @@
-// The queries on a record and its index (document 01, "Operations and their answers"). No operation of this file has a precondition.
+// The queries on a record and its index (document 01, "Operations and their answers"). No operation of this file has a precondition: each
+// answers for every record and index, built or not, and every number.
+ghost use mathlib.Core.Path.{_≡_};
+ghost use Rattle.record.specs.Answers.{counted};
+ghost use Rattle.queries.specs.Answers.{above, terminal, related, numbered};
+ghost use Rattle.queries.specs.Operations.{parent as parentOf, head as headOf, ancestor as ancestorOf, children as childrenOf, child as childOf, visit as visitOf, visited as visitedOf};
 use forest::Dfi;
+use record::Counted;
 use record::Refusal;
+use record::Shape;
 use record::Vertex;
+
+mod order; // order.rt: order Q
+mod marks; // marks.rt: a mark of each kind, a stored number
+mod blocks; // blocks.rt: the marks of one block
+mod climbs; // climbs.rt: steps up the forest
+mod ascents; // ascents.rt: climbs, with the starts of the blocks
+mod single; // single.rt: one vertex
+mod visits; // visits.rt: the stored numbers
 
 // What stands above a terminal.
 pub enum Above {
@@ -26,7 +41,114 @@ pub enum Numbered {
     Refused(Refusal),
 }
 
-mod order; // order.rt: order Q
-mod marks; // marks.rt: a mark of each kind, a stored number
-mod blocks; // blocks.rt: the marks of one block
-mod climbs; // climbs.rt: steps up the forest
+// Parent: the parent of terminal v, or that it is a root.
+pub fn parent(bytes: &[u8], index: &[u8], v: Vertex) -> Above
+    ensures { λ r. ⌜ above r ≡ parentOf (now (bytes .entry)) (now (index .entry)) (v .0) ⌝ }
+{
+    let t = v.0;
+    match order::order_q(bytes, index, t) {
+        Shape::Refused(r) => Above::Refused(r),
+        Shape::Passed(s) => {
+            let n = s.n;
+            let m = s.m;
+            single::parent_in(bytes, index, n, m, t - 1)
+        }
+    }
+}
+
+// Head: where the climb from terminal v stops.
+pub fn head(bytes: &[u8], index: &[u8], v: Vertex) -> Found
+    ensures { λ r. ⌜ terminal r ≡ headOf (now (bytes .entry)) (now (index .entry)) (v .0) ⌝ }
+{
+    let t = v.0;
+    match order::order_q(bytes, index, t) {
+        Shape::Refused(r) => Found::Refused(r),
+        Shape::Passed(s) => {
+            let n = s.n;
+            let m = s.m;
+            ascents::head_in(bytes, index, n, m, t - 1)
+        }
+    }
+}
+
+// Ancestor: whether terminal u is v or stands above it.
+pub fn ancestor(bytes: &[u8], index: &[u8], u: Vertex, v: Vertex) -> Related
+    ensures { λ r. ⌜ related r ≡ ancestorOf (now (bytes .entry)) (now (index .entry)) (u .0) (v .0) ⌝ }
+{
+    let x = u.0;
+    let t = v.0;
+    match order::order_q(bytes, index, x) {
+        Shape::Refused(r) => Related::Refused(r),
+        Shape::Passed(s) => {
+            let n = s.n;
+            let m = s.m;
+            if t == 0 {
+                return Related::Refused(Refusal::NoTerminal);
+            }
+            if n < t {
+                return Related::Refused(Refusal::NoTerminal);
+            }
+            ascents::ancestor_in(bytes, index, n, m, x - 1, t - 1)
+        }
+    }
+}
+
+// Children: how many children terminal v has.
+pub fn children(bytes: &[u8], index: &[u8], v: Vertex) -> Counted
+    ensures { λ r. ⌜ counted r ≡ childrenOf (now (bytes .entry)) (now (index .entry)) (v .0) ⌝ }
+{
+    let t = v.0;
+    match order::order_q(bytes, index, t) {
+        Shape::Refused(r) => Counted::Refused(r),
+        Shape::Passed(s) => {
+            let n = s.n;
+            let m = s.m;
+            Counted::Count(single::children_in(bytes, index, n, m, t - 1))
+        }
+    }
+}
+
+// Child: the j-th child of terminal v.
+pub fn child(bytes: &[u8], index: &[u8], v: Vertex, j: usize) -> Found
+    ensures { λ r. ⌜ terminal r ≡ childOf (now (bytes .entry)) (now (index .entry)) (v .0) j ⌝ }
+{
+    let t = v.0;
+    match order::order_q(bytes, index, t) {
+        Shape::Refused(r) => Found::Refused(r),
+        Shape::Passed(s) => {
+            let n = s.n;
+            let m = s.m;
+            single::child_in(bytes, index, n, m, t - 1, j)
+        }
+    }
+}
+
+// Visit: the visit number of terminal v.
+pub fn visit(bytes: &[u8], index: &[u8], v: Vertex) -> Numbered
+    ensures { λ r. ⌜ numbered r ≡ visitOf (now (bytes .entry)) (now (index .entry)) (v .0) ⌝ }
+{
+    let t = v.0;
+    match order::order_q(bytes, index, t) {
+        Shape::Refused(r) => Numbered::Refused(r),
+        Shape::Passed(s) => {
+            let n = s.n;
+            let m = s.m;
+            visits::visit_in(bytes, index, n, m, t - 1)
+        }
+    }
+}
+
+// Visited: the lowest terminal whose visit number is i.
+pub fn visited(bytes: &[u8], index: &[u8], i: Dfi) -> Found
+    ensures { λ r. ⌜ terminal r ≡ visitedOf (now (bytes .entry)) (now (index .entry)) (i .0) ⌝ }
+{
+    let t = i.0;
+    match order::order_q(bytes, index, t) {
+        Shape::Refused(r) => Found::Refused(r),
+        Shape::Passed(s) => {
+            let n = s.n;
+            let m = s.m;
+            visits::visited_in(bytes, index, n, m, t - 1)
+        }
+    }
+}

@@ -2,7 +2,7 @@
 // functions of the public modules, which are for the crates above, have.
 ghost use mathlib.Core.Path.{_≡_};
 ghost use Rattle.record.specs.Rules.{checkRules};
-ghost use Rattle.record.specs.Answers.{verdict, counted, figure, shape, tried, sizesOf};
+ghost use Rattle.record.specs.Answers.{number, verdict, counted, figure, shape, tried, sizesOf};
 ghost use Rattle.record.specs.Operations.{check as checkOf, degree as degreeOf, unpack as unpackOf, unpacked, neighbours as neighboursOf, neighboursBefore, further, loopFigure};
 
 pub mod cells; // cells.rt: cells of 16 bits
@@ -61,6 +61,27 @@ pub struct Sizes {
 pub enum Shape {
     Passed(Sizes),
     Refused(Refusal),
+}
+
+// Document 01's number of a refusal.
+pub fn number_of(r: Refusal) -> usize
+    ensures { λ k. ⌜ k ≡ number r ⌝ }
+{
+    match r {
+        Refusal::TooShort => 1,
+        Refusal::OverLimit => 2,
+        Refusal::WrongLength => 3,
+        Refusal::BadUnary => 4,
+        Refusal::SpareSet => 5,
+        Refusal::StrayNeighbour => 6,
+        Refusal::DoubledNeighbour => 7,
+        Refusal::OneSidedWire => 8,
+        Refusal::ShortWork => 9,
+        Refusal::WrongBuffer => 10,
+        Refusal::NoTerminal => 11,
+        Refusal::BadIndex => 12,
+        Refusal::NoChild => 13,
+    }
 }
 
 // Check, with the sizes of an accepted record handed on.

@@ -18,7 +18,7 @@ use Rattle.forest.specs.Index.{marksFrom, section, numbers}
 pub length-each : {A : Type 0} (f : ℕ → A) (i n : ℕ) → length (map f (countUp i n)) ≡ n
 length-each f i n = length-map (countUp i n) f ∙ count-length i n
 
-each-at : {A : Type 0} (f : ℕ → A) (d : A) (i n k : ℕ) → k < n → getD (map f (countUp i n)) k d ≡ f (i + k)
+pub each-at : {A : Type 0} (f : ℕ → A) (d : A) (i n k : ℕ) → k < n → getD (map f (countUp i n)) k d ≡ f (i + k)
 unfolding countUp
 each-at f d i zero k h = absurd (omega arith)
 each-at f d i (suc n) zero h = ap f (omega arith)

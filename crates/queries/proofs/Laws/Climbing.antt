@@ -7,8 +7,8 @@ use Prim.Native.Nat.{ℕ, zero, suc, _+_, _-_, _*_, _≤_, _<_}
 use native.Mathlib.Decide.{ℕ-discrete}
 use native.Mathlib.Omega.{arith}
 use borrow.Author.Tests.{eq-eqb, ne-eqb, ltb-true}
-use lib.Dec.{eqb, ltb}
-use lib.ListN.{length, getD, take, drop}
+use lib.Dec.{ltb}
+use lib.ListN.{length, getD}
 use Rattle.bits.specs.Bits.{count, select}
 use Rattle.bits.specs.Laws.Select.{select-bounds}
 use Rattle.graph.specs.Graph.{Blocks, target}
@@ -16,11 +16,11 @@ use Rattle.graph.specs.Laws.Places.Basics.{Told, pass, fail, told}
 use Rattle.graph.specs.Laws.Heads.Walks.{walk, walk-stop, walk-up, walk-late}
 use Rattle.record.specs.Record.{unary, blocks}
 use Rattle.record.specs.Starts.{startsOf}
-use Rattle.record.specs.Answers.{Answer, refused, answered}
+use Rattle.record.specs.Answers.{refused, answered}
 use Rattle.record.specs.Steps.{Sound}
 use Rattle.record.specs.Laws.Layout.{length-blocks, starts-count}
 use Rattle.record.proofs.Laws.Reading.Sounded.{sound-shaped}
-use Rattle.queries.specs.View.{View, viewBy, blockMarks, sectionOf}
+use Rattle.queries.specs.View.{View, viewBy, blockMarks}
 use Rattle.queries.specs.Queries.{Step, stuck, top, rise, stepBy, stepUp, headBy, headNext, headOf, ancestorBy, ancestorNext, ancestorOf}
 use Rattle.queries.proofs.Laws.Ones.{part-length, part-bit}
 use Rattle.queries.proofs.Laws.Stepping.{block-bounds, block-marks}
@@ -94,6 +94,14 @@ module _ {bytes : List ℕ} {n m u a b : ℕ} (o : Sound bytes n m) (h : u < n) 
       let (q, r) = block-bounds o h ea eb in
       let d : length x ≡ b - a = ap length (block-marks o h ea eb s) ∙ part-length s (a + u + 1) (b - a) (omega arith) in
       let (y, z) = select-bounds x 1 (omega arith) (omega arith) in
+      omega arith
+
+  pub rise-to : p < n
+  unfolding stepUp
+  rise-to =
+      let i : Inside (blocks bytes) (rise j p) = subst (Inside (blocks bytes)) (sym e) (step-inside (blocks bytes) u (count (blockMarks bytes s u)) (select (blockMarks bytes s u) 1 - 1)) in
+      let k = length-blocks (sound-shaped o) in
+      let z = o .is-n in
       omega arith
 
   -- the bit of another section at that position

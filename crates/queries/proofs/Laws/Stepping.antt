@@ -1,12 +1,11 @@
 -- One step up, from the first marks of a block.
 use mathlib.Core.Path.{_≡_, refl, sym, ap, ap₂, _∙_}
-use mathlib.Core.Bool.{Bool, true, false}
+use mathlib.Core.Bool.{Bool}
 use mathlib.Core.List.{List, [], _∷_}
 use Prim.Native.Nat.{ℕ, zero, suc, _+_, _-_, _*_, _≤_, _<_}
 use native.Mathlib.Decide.{decLt, ℕ-discrete}
 use native.Mathlib.Omega.{arith}
 use borrow.Author.Tests.{lt-ltb, le-ltb}
-use lib.Dec.{ltb}
 use lib.ListN.{length, take, drop, getD, length-drop}
 use lib.Seq.{take-nil, take-all, take-length, drop-drop}
 use Rattle.bits.specs.Bits.{count, rank, select}
@@ -19,9 +18,8 @@ use Rattle.record.specs.Steps.{Sound}
 use Rattle.record.specs.Laws.Layout.{length-blocks}
 use Rattle.record.proofs.Laws.Reading.Sounded.{sound-shaped}
 use Rattle.record.proofs.Laws.Reading.Spans.{span-rises, span-ends, span-size, span-one, span-neighbour}
-use Rattle.queries.specs.View.{blockMarks, sectionOf}
-use Rattle.queries.specs.Queries.{Step, stuck, top, rise, stepBy, stepUp}
-use Rattle.queries.specs.Steps.{Framed}
+use Rattle.queries.specs.View.{blockMarks}
+use Rattle.queries.specs.Queries.{stuck, top, rise, stepBy, stepUp}
 use Rattle.queries.proofs.Laws.Ones.{part-length}
 
 -- ---- the first one of a list of bits, and those after it

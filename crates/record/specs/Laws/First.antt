@@ -32,10 +32,10 @@ pub data Numbered : List Rule → Type 0 where
   rule : {k : ℕ} {b : Bool} {rules : List Rule} → Numbered rules → Numbered ((suc k, b) ∷ rules)
 
 -- where none is broken, the first is not, nor one of the rest
-kept : (k : ℕ) (b : Bool) (rules : List Rule) → firstBroken ((suc k, b) ∷ rules) ≡ 0 → (b ≡ false) × (firstBroken rules ≡ 0)
+pub rule-kept : (k : ℕ) (b : Bool) (rules : List Rule) → firstBroken ((suc k, b) ∷ rules) ≡ 0 → (b ≡ false) × (firstBroken rules ≡ 0)
 unfolding firstBroken
-kept k true rules e = absurd (omega arith)
-kept k false rules e = (refl, e)
+rule-kept k true rules e = absurd (omega arith)
+rule-kept k false rules e = (refl, e)
 
 -- ---- one list of rules and then another
 
@@ -43,7 +43,7 @@ kept k false rules e = (refl, e)
 pub append-kept : {a : List Rule} → Numbered a → (c : List Rule) → firstBroken a ≡ 0 → firstBroken (a ++ c) ≡ firstBroken c
 append-kept none c e = refl
 append-kept (rule {k} {b} {rules} r) c e =
-    let (f, g) = kept k b rules e in
+    let (f, g) = rule-kept k b rules e in
     first-kept (suc k) (rules ++ c) f ∙ append-kept r c g
 
 -- it is broken
@@ -58,7 +58,7 @@ pub both-kept : {a : List Rule} → Numbered a → (c : List Rule) → firstBrok
 unfolding firstBroken
 both-kept none c e = (refl, e)
 both-kept (rule {k} {b} {rules} r) c e =
-    let (f, g) = kept k b (rules ++ c) e in
+    let (f, g) = rule-kept k b (rules ++ c) e in
     let (h, i) = both-kept r c g in
     (first-kept (suc k) rules f ∙ h, i)
 
@@ -86,10 +86,10 @@ module _ (bytes : List ℕ) where
   pub shaped : firstBroken (orderR bytes) ≡ 0 → Shaped bytes
   unfolding orderR
   shaped e =
-      let (a, e₁) = kept 0 _ _ e in
-      let (b, e₂) = kept 1 _ _ e₁ in
-      let (c, e₃) = kept 2 _ _ e₂ in
-      let (d, e₄) = kept 3 _ _ e₃ in
+      let (a, e₁) = rule-kept 0 _ _ e in
+      let (b, e₂) = rule-kept 1 _ _ e₁ in
+      let (c, e₃) = rule-kept 2 _ _ e₂ in
+      let (d, e₄) = rule-kept 3 _ _ e₃ in
       let (n, m) = neither (ltb 4096 (terminals bytes)) (ltb 16384 (wires bytes)) b in
       let (o, z) = neither (not (eqb (count (unary bytes)) (terminals bytes))) (beginsWithZero (unary bytes)) d in
       record {
@@ -119,8 +119,8 @@ pub checked : {bytes : List ℕ} → Accepted bytes → Checked bytes
 unfolding checkRules
 checked {bytes} accepted =
     let (e, r) = both-kept (order-numbered bytes) _ (accepted .unbroken) in
-    let (e₅, r₅) = kept 4 _ _ r in
-    let (e₆, r₆) = kept 5 _ _ r₅ in
-    let (e₇, r₇) = kept 6 _ _ r₆ in
-    let (e₈, r₈) = kept 7 _ _ r₇ in
+    let (e₅, r₅) = rule-kept 4 _ _ r in
+    let (e₆, r₆) = rule-kept 5 _ _ r₅ in
+    let (e₇, r₇) = rule-kept 6 _ _ r₆ in
+    let (e₈, r₈) = rule-kept 7 _ _ r₇ in
     record { shape = shaped bytes e; spare = e₅; no-stray = e₆; no-double = e₇; two-sided = e₈ }

@@ -3,12 +3,10 @@ use Rattle.bits.specs.Bits.{bit}
 use native.Mathlib.Omega.{arith}
 use Prim.Native.Nat.{_+_}
 use mathlib.Core.Bool.{Bool}
-use mathlib.Core.Path.{sym, ap, _∙_}
+use mathlib.Core.Path.{sym, ap}
 use borrow.Author.Needs.{needs}
 use Rattle.queries.proofs.blocks.tally.Statement.{statement}
 use Rattle.queries.proofs.blocks.tally.Tie as tie
-use Rattle.queries.proofs.blocks.tally.Reads as reads
-use Rattle.queries.proofs.blocks.tally.Lts as lts
 
 add-result : tie.Need-add-result
 add-result c = search needs

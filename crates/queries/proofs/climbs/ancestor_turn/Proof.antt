@@ -11,27 +11,28 @@ use mathlib.Core.Path.{sym, ap, _∙_}
 use borrow.Author.Needs.{needs}
 use Rattle.queries.proofs.climbs.ancestor_turn.Statement.{statement}
 use Rattle.queries.proofs.climbs.ancestor_turn.Tie as tie
-use Rattle.queries.proofs.climbs.ancestor_turn.Reads as reads
-use Rattle.queries.proofs.climbs.ancestor_turn.Lts as lts
-use Rattle.queries.proofs.climbs.step_up.Reads as step-up-reads
-use Rattle.record.proofs.cells.get.Reads as get-reads
 
 returns : tie.Need-returns
 returns c = ancestor-yes (viewBy (c .before .before .before .before .args .n) (c .before .before .before .before .args .m) (c .before .before .before .before .args .bytes .now) (c .before .before .before .before .args .index .now)) (c .before .before .before .before .args .x) (c .before .before .before .before .args .u) (c .if1 .taken)
 
 get-requires : tie.Need-get-requires
-get-requires c κs = let l = starts-long (c .before .before .before .before .pre .0 .sound) (c .before .before .before .before .pre .1) in let h = c .before .before .before .before .pre .2 in omega arith
+get-requires c κs =
+    let pre = c .before .before .before .before .pre in
+    let l = starts-long (pre .0 .sound) (pre .1) in let h = pre .2 in omega arith
 
 add-get : tie.Need-add-get
 add-get c = search needs
 
 get-requires-2 : tie.Need-get-requires-2
-get-requires-2 c κs = let l = starts-long (c .before .before .before .before .before .pre .0 .sound) (c .before .before .before .before .before .pre .1) in let h = c .before .before .before .before .before .pre .2 in omega arith
+get-requires-2 c κs =
+    let pre = c .before .before .before .before .before .pre in
+    let l = starts-long (pre .0 .sound) (pre .1) in let h = pre .2 in omega arith
 
 step-up-requires : tie.Need-step-up-requires
 step-up-requires c κs =
     let pre = c .before .before .before .before .before .before .pre in
-    (pre .0, pre .2, c .before .get .ensures .0 ∙ ap (λ (l : List ℕ). getD l (c .before .before .before .before .before .before .args .u) 0) (pre .1), c .get2 .ensures .0 ∙ ap (λ (l : List ℕ). getD l (c .before .before .before .before .before .before .args .u + 1) 0) (pre .1))
+    let u = c .before .before .before .before .before .before .args .u in
+    (pre .0, pre .2, c .before .get .ensures .0 ∙ ap (λ (l : List ℕ). getD l (u) 0) (pre .1), c .get2 .ensures .0 ∙ ap (λ (l : List ℕ). getD l (u + 1) 0) (pre .1))
 
 enum-told : tie.Need-enum-told
 enum-told c = search needs

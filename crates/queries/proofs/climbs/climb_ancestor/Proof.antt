@@ -7,13 +7,10 @@ use Rattle.record.specs.Answers.{refused}
 use Rattle.graph.specs.Laws.Heads.Walks.{walk}
 use borrow.Author.Needs.{needs}
 use native.Mathlib.Omega.{arith}
-use Prim.Native.Nat.{_-_, _<_}
+use Prim.Native.Nat.{_<_}
 use mathlib.Core.Path.{_≡_, sym, ap, _∙_}
 use Rattle.queries.proofs.climbs.climb_ancestor.Statement.{statement}
 use Rattle.queries.proofs.climbs.climb_ancestor.Tie as tie
-use Rattle.queries.proofs.climbs.climb_ancestor.Reads as reads
-use Rattle.queries.proofs.climbs.climb_ancestor.Lts as lts
-use Rattle.queries.proofs.climbs.ancestor_turn.Reads as ancestor-turn-reads
 
 abbrev Inv-loop : tie.InvT-loop
 Inv-loop bytes index n m starts x v u₀ left₀ u left = (u < n) × (left < n) × (walk (ancestorNext (viewBy n m bytes index) x) (refused 12) left u ≡ ancestorOf (viewBy n m bytes index) x v)
@@ -25,28 +22,38 @@ sub-left : tie.Need-sub-left Inv-loop μ-loop
 sub-left c = let h = c .before .before .before .pre .2 in omega arith
 
 loop-holds : tie.Need-loop-holds Inv-loop μ-loop
-loop-holds c = let h = c .before .before .before .pre .2 in (h, omega arith, ancestor-begin (c .before .before .before .pre .0 .sound) (c .before .before .before .args .index .now) (c .before .before .before .args .v) (c .before .before .before .args .x))
+loop-holds c =
+    let pre = c .before .before .before .pre in
+    let h = pre .2 in (h, omega arith, ancestor-begin (pre .0 .sound) (c .before .before .before .args .index .now) (c .before .before .before .args .v) (c .before .before .before .args .x))
 
 ancestor-turn-requires : tie.Need-ancestor-turn-requires Inv-loop μ-loop
-ancestor-turn-requires c κs = (c .before .before .before .before .before .pre .0, c .before .before .before .before .before .pre .1, c .before .loop .inv .0)
+ancestor-turn-requires c κs =
+    let pre = c .before .before .before .before .before .pre in
+    (pre .0, pre .1, c .before .loop .inv .0)
 
 enum-told : tie.Need-enum-told Inv-loop μ-loop
 enum-told c = search needs
 
 returns : tie.Need-returns Inv-loop μ-loop
-returns c = climb-stop (ancestorNext (viewBy (c .before .before .before .before .before .before .before .before .args .n) (c .before .before .before .before .before .before .before .before .args .m) (c .before .before .before .before .before .before .before .before .args .bytes .now) (c .before .before .before .before .before .before .before .before .args .index .now)) (c .before .before .before .before .before .before .before .before .args .x)) (refused 12) (c .before .before .before .before .loop .left) (c .before .before .before .before .loop .u) (sym (ap turnOf (c .enum-told .given .1)) ∙ c .before .before .ancestor-turn .ensures) (c .before .before .before .before .loop .inv .2)
+returns c =
+    let loop = c .before .before .before .before .loop in
+    climb-stop (ancestorNext (viewBy (c .before .before .before .before .before .before .before .before .args .n) (c .before .before .before .before .before .before .before .before .args .m) (c .before .before .before .before .before .before .before .before .args .bytes .now) (c .before .before .before .before .before .before .before .before .args .index .now)) (c .before .before .before .before .before .before .before .before .args .x)) (refused 12) (loop .left) (loop .u) (sym (ap turnOf (c .enum-told .given .1)) ∙ c .before .before .ancestor-turn .ensures) (loop .inv .2)
 
 enum-told-2 : tie.Need-enum-told-2 Inv-loop μ-loop
 enum-told-2 c = search needs
 
 returns-2 : tie.Need-returns-2 Inv-loop μ-loop
-returns-2 c = climb-stop (ancestorNext (viewBy (c .before .before .before .before .before .before .before .before .args .n) (c .before .before .before .before .before .before .before .before .args .m) (c .before .before .before .before .before .before .before .before .args .bytes .now) (c .before .before .before .before .before .before .before .before .args .index .now)) (c .before .before .before .before .before .before .before .before .args .x)) (refused 12) (c .before .before .before .before .loop .left) (c .before .before .before .before .loop .u) (sym (ap turnOf (c .enum-told2 .given .1)) ∙ c .before .before .ancestor-turn .ensures) (c .before .before .before .before .loop .inv .2)
+returns-2 c =
+    let loop = c .before .before .before .before .loop in
+    climb-stop (ancestorNext (viewBy (c .before .before .before .before .before .before .before .before .args .n) (c .before .before .before .before .before .before .before .before .args .m) (c .before .before .before .before .before .before .before .before .args .bytes .now) (c .before .before .before .before .before .before .before .before .args .index .now)) (c .before .before .before .before .before .before .before .before .args .x)) (refused 12) (loop .left) (loop .u) (sym (ap turnOf (c .enum-told2 .given .1)) ∙ c .before .before .ancestor-turn .ensures) (loop .inv .2)
 
 enum-told-3 : tie.Need-enum-told-3 Inv-loop μ-loop
 enum-told-3 c = search needs
 
 returns-3 : tie.Need-returns-3 Inv-loop μ-loop
-returns-3 c = climb-stop (ancestorNext (viewBy (c .before .before .before .before .before .before .before .before .args .n) (c .before .before .before .before .before .before .before .before .args .m) (c .before .before .before .before .before .before .before .before .args .bytes .now) (c .before .before .before .before .before .before .before .before .args .index .now)) (c .before .before .before .before .before .before .before .before .args .x)) (refused 12) (c .before .before .before .before .loop .left) (c .before .before .before .before .loop .u) (sym (ap turnOf (c .enum-told3 .given .1)) ∙ c .before .before .ancestor-turn .ensures) (c .before .before .before .before .loop .inv .2)
+returns-3 c =
+    let loop = c .before .before .before .before .loop in
+    climb-stop (ancestorNext (viewBy (c .before .before .before .before .before .before .before .before .args .n) (c .before .before .before .before .before .before .before .before .args .m) (c .before .before .before .before .before .before .before .before .args .bytes .now) (c .before .before .before .before .before .before .before .before .args .index .now)) (c .before .before .before .before .before .before .before .before .args .x)) (refused 12) (loop .left) (loop .u) (sym (ap turnOf (c .enum-told3 .given .1)) ∙ c .before .before .ancestor-turn .ensures) (loop .inv .2)
 
 enum-known-p : tie.Need-enum-known-p Inv-loop μ-loop
 enum-known-p c = search needs
@@ -59,15 +66,19 @@ loop-less c = omega arith
 
 loop-again : tie.Need-loop-again Inv-loop μ-loop
 loop-again c =
+    let i = c .before .before .before .before .before .loop .inv .1 in
+    let x = c .before .before .before .before .before .before .before .before .before .args .x in
+    let loop = c .before .before .before .before .before .loop in
     let w = viewBy (c .before .before .before .before .before .before .before .before .before .args .n) (c .before .before .before .before .before .before .before .before .before .args .m) (c .before .before .before .before .before .before .before .before .before .args .bytes .now) (c .before .before .before .before .before .before .before .before .before .args .index .now) in
     let e = sym (ap turnOf (c .before .p .given .1)) ∙ c .before .before .before .ancestor-turn .ensures in
-    let i = c .before .before .before .before .before .loop .inv .1 in
-    let l = ancestor-inside w (c .before .before .before .before .before .before .before .before .before .args .x) (c .before .before .before .before .before .loop .u) e in
+    let l = ancestor-inside w (x) (loop .u) e in
     let k = as-many (c .before .before .before .before .before .before .before .before .before .pre .0 .sound) in
-    (omega arith, omega arith, climb-on (ancestorNext w (c .before .before .before .before .before .before .before .before .before .args .x)) (refused 12) (c .before .before .before .before .before .loop .left) (c .before .before .before .before .before .loop .u) (c .before .before .before .before .loop-test .taken) e (c .before .before .before .before .before .loop .inv .2))
+    (omega arith, omega arith, climb-on (ancestorNext w (x)) (refused 12) (loop .left) (loop .u) (c .before .before .before .before .loop-test .taken) e (loop .inv .2))
 
 ancestor-turn-requires-2 : tie.Need-ancestor-turn-requires-2 Inv-loop μ-loop
-ancestor-turn-requires-2 c κs = (c .before .before .before .before .before .pre .0, c .before .before .before .before .before .pre .1, c .before .loop .inv .0)
+ancestor-turn-requires-2 c κs =
+    let pre = c .before .before .before .before .before .pre in
+    (pre .0, pre .1, c .before .loop .inv .0)
 
 enum-told-4 : tie.Need-enum-told-4 Inv-loop μ-loop
 enum-told-4 c = search needs
@@ -82,16 +93,24 @@ enum-told-7 : tie.Need-enum-told-7 Inv-loop μ-loop
 enum-told-7 c = search needs
 
 returns-4 : tie.Need-returns-4 Inv-loop μ-loop
-returns-4 c = climb-stop (ancestorNext (viewBy (c .before .before .before .before .before .before .before .before .args .n) (c .before .before .before .before .before .before .before .before .args .m) (c .before .before .before .before .before .before .before .before .args .bytes .now) (c .before .before .before .before .before .before .before .before .args .index .now)) (c .before .before .before .before .before .before .before .before .args .x)) (refused 12) (c .before .before .before .before .loop .left) (c .before .before .before .before .loop .u) (sym (ap turnOf (c .enum-told4 .given .1)) ∙ c .before .before .ancestor-turn2 .ensures) (c .before .before .before .before .loop .inv .2)
+returns-4 c =
+    let loop = c .before .before .before .before .loop in
+    climb-stop (ancestorNext (viewBy (c .before .before .before .before .before .before .before .before .args .n) (c .before .before .before .before .before .before .before .before .args .m) (c .before .before .before .before .before .before .before .before .args .bytes .now) (c .before .before .before .before .before .before .before .before .args .index .now)) (c .before .before .before .before .before .before .before .before .args .x)) (refused 12) (loop .left) (loop .u) (sym (ap turnOf (c .enum-told4 .given .1)) ∙ c .before .before .ancestor-turn2 .ensures) (loop .inv .2)
 
 returns-5 : tie.Need-returns-5 Inv-loop μ-loop
-returns-5 c = climb-stop (ancestorNext (viewBy (c .before .before .before .before .before .before .before .before .args .n) (c .before .before .before .before .before .before .before .before .args .m) (c .before .before .before .before .before .before .before .before .args .bytes .now) (c .before .before .before .before .before .before .before .before .args .index .now)) (c .before .before .before .before .before .before .before .before .args .x)) (refused 12) (c .before .before .before .before .loop .left) (c .before .before .before .before .loop .u) (sym (ap turnOf (c .enum-told5 .given .1)) ∙ c .before .before .ancestor-turn2 .ensures) (c .before .before .before .before .loop .inv .2)
+returns-5 c =
+    let loop = c .before .before .before .before .loop in
+    climb-stop (ancestorNext (viewBy (c .before .before .before .before .before .before .before .before .args .n) (c .before .before .before .before .before .before .before .before .args .m) (c .before .before .before .before .before .before .before .before .args .bytes .now) (c .before .before .before .before .before .before .before .before .args .index .now)) (c .before .before .before .before .before .before .before .before .args .x)) (refused 12) (loop .left) (loop .u) (sym (ap turnOf (c .enum-told5 .given .1)) ∙ c .before .before .ancestor-turn2 .ensures) (loop .inv .2)
 
 returns-6 : tie.Need-returns-6 Inv-loop μ-loop
-returns-6 c = climb-stop (ancestorNext (viewBy (c .before .before .before .before .before .before .before .before .args .n) (c .before .before .before .before .before .before .before .before .args .m) (c .before .before .before .before .before .before .before .before .args .bytes .now) (c .before .before .before .before .before .before .before .before .args .index .now)) (c .before .before .before .before .before .before .before .before .args .x)) (refused 12) (c .before .before .before .before .loop .left) (c .before .before .before .before .loop .u) (sym (ap turnOf (c .enum-told6 .given .1)) ∙ c .before .before .ancestor-turn2 .ensures) (c .before .before .before .before .loop .inv .2)
+returns-6 c =
+    let loop = c .before .before .before .before .loop in
+    climb-stop (ancestorNext (viewBy (c .before .before .before .before .before .before .before .before .args .n) (c .before .before .before .before .before .before .before .before .args .m) (c .before .before .before .before .before .before .before .before .args .bytes .now) (c .before .before .before .before .before .before .before .before .args .index .now)) (c .before .before .before .before .before .before .before .before .args .x)) (refused 12) (loop .left) (loop .u) (sym (ap turnOf (c .enum-told6 .given .1)) ∙ c .before .before .ancestor-turn2 .ensures) (loop .inv .2)
 
 returns-7 : tie.Need-returns-7 Inv-loop μ-loop
-returns-7 c = climb-late (ancestorNext (viewBy (c .before .before .before .before .before .before .before .before .args .n) (c .before .before .before .before .before .before .before .before .args .m) (c .before .before .before .before .before .before .before .before .args .bytes .now) (c .before .before .before .before .before .before .before .before .args .index .now)) (c .before .before .before .before .before .before .before .before .args .x)) (refused 12) (c .before .before .before .before .loop .left) (c .before .before .before .before .loop .u) (c .before .before .before .loop-test .left) (sym (ap turnOf (c .enum-told7 .given .1)) ∙ c .before .before .ancestor-turn2 .ensures) (c .before .before .before .before .loop .inv .2)
+returns-7 c =
+    let loop = c .before .before .before .before .loop in
+    climb-late (ancestorNext (viewBy (c .before .before .before .before .before .before .before .before .args .n) (c .before .before .before .before .before .before .before .before .args .m) (c .before .before .before .before .before .before .before .before .args .bytes .now) (c .before .before .before .before .before .before .before .before .args .index .now)) (c .before .before .before .before .before .before .before .before .args .x)) (refused 12) (loop .left) (loop .u) (c .before .before .before .loop-test .left) (sym (ap turnOf (c .enum-told7 .given .1)) ∙ c .before .before .ancestor-turn2 .ensures) (loop .inv .2)
 
 pub climb-ancestor-spec : {M : Type 1} → statement M
 climb-ancestor-spec =

@@ -7,10 +7,6 @@ use native.Mathlib.Omega.{arith}
 use borrow.Author.Needs.{needs}
 use Rattle.queries.proofs.climbs.step_up.Statement.{statement}
 use Rattle.queries.proofs.climbs.step_up.Tie as tie
-use Rattle.queries.proofs.climbs.step_up.Reads as reads
-use Rattle.queries.proofs.climbs.step_up.Lts as lts
-use Rattle.queries.proofs.blocks.first_parent.Reads as first-parent-reads
-use Rattle.record.proofs.fields.field.Reads as field-reads
 
 add-from : tie.Need-add-from
 add-from c =
@@ -40,21 +36,24 @@ returns c =
 add-first-parent : tie.Need-add-first-parent
 add-first-parent c =
     let pre = c .before .before .before .before .pre in
+    let a = c .before .before .before .before .args .a in
     let (r, e) = block-bounds (pre .0 .sound) (pre .1) (pre .2) (pre .3) in let l = length-P (pre .0 .framed) in let z = pre .1 in
-    let f = first-fits (sectionOf (c .before .before .before .before .args .n) (c .before .before .before .before .args .m) (c .before .before .before .before .args .index .now) 1) (c .before .before .before .before .args .a + c .before .before .before .before .args .u + 1) (c .before .before .before .before .args .b - c .before .before .before .before .args .a) (omega arith) (c .before .first-parent .ensures) in
+    let f = first-fits (sectionOf (c .before .before .before .before .args .n) (c .before .before .before .before .args .m) (c .before .before .before .before .args .index .now) 1) (a + c .before .before .before .before .args .u + 1) (c .before .before .before .before .args .b - a) (omega arith) (c .before .first-parent .ensures) in
     let x = pre .0 .framed .n-fits in let y = pre .0 .framed .m-fits in omega arith
 
 sub-first-parent : tie.Need-sub-first-parent
 sub-first-parent c =
     let pre = c .before .before .before .before .pre in
+    let a = c .before .before .before .before .args .a in
     let (r, e) = block-bounds (pre .0 .sound) (pre .1) (pre .2) (pre .3) in let l = length-P (pre .0 .framed) in let z = pre .1 in
-    first-fits (sectionOf (c .before .before .before .before .args .n) (c .before .before .before .before .args .m) (c .before .before .before .before .args .index .now) 1) (c .before .before .before .before .args .a + c .before .before .before .before .args .u + 1) (c .before .before .before .before .args .b - c .before .before .before .before .args .a) (omega arith) (c .before .first-parent .ensures)
+    first-fits (sectionOf (c .before .before .before .before .args .n) (c .before .before .before .before .args .m) (c .before .before .before .before .args .index .now) 1) (a + c .before .before .before .before .args .u + 1) (c .before .before .before .before .args .b - a) (omega arith) (c .before .first-parent .ensures)
 
 first-parent-requires-2 : tie.Need-first-parent-requires-2
 first-parent-requires-2 c κs =
     let pre = c .before .before .before .before .pre in
+    let a = c .before .before .before .before .args .a in
     let (r, e) = block-bounds (pre .0 .sound) (pre .1) (pre .2) (pre .3) in let l = length-P (pre .0 .framed) in let z = pre .1 in
-    let f = first-fits (sectionOf (c .before .before .before .before .args .n) (c .before .before .before .before .args .m) (c .before .before .before .before .args .index .now) 1) (c .before .before .before .before .args .a + c .before .before .before .before .args .u + 1) (c .before .before .before .before .args .b - c .before .before .before .before .args .a) (omega arith) (c .before .first-parent .ensures) in
+    let f = first-fits (sectionOf (c .before .before .before .before .args .n) (c .before .before .before .before .args .m) (c .before .before .before .before .args .index .now) 1) (a + c .before .before .before .before .args .u + 1) (c .before .before .before .before .args .b - a) (omega arith) (c .before .first-parent .ensures) in
     (pre .0 .framed, omega arith)
 
 returns-2 : tie.Need-returns-2
@@ -68,15 +67,17 @@ sub-field c = search needs
 add-field : tie.Need-add-field
 add-field c =
     let pre = c .before .before .before .before .before .before .pre in
+    let a = c .before .before .before .before .before .before .args .a in
     let (r, e) = block-bounds (pre .0 .sound) (pre .1) (pre .2) (pre .3) in let l = length-P (pre .0 .framed) in let z = pre .1 in
-    let f = first-fits (sectionOf (c .before .before .before .before .before .before .args .n) (c .before .before .before .before .before .before .args .m) (c .before .before .before .before .before .before .args .index .now) 1) (c .before .before .before .before .before .before .args .a + c .before .before .before .before .before .before .args .u + 1) (c .before .before .before .before .before .before .args .b - c .before .before .before .before .before .before .args .a) (omega arith) (c .before .before .before .first-parent .ensures) in
+    let f = first-fits (sectionOf (c .before .before .before .before .before .before .args .n) (c .before .before .before .before .before .before .args .m) (c .before .before .before .before .before .before .args .index .now) 1) (a + c .before .before .before .before .before .before .args .u + 1) (c .before .before .before .before .before .before .args .b - a) (omega arith) (c .before .before .before .first-parent .ensures) in
     let y = pre .0 .framed .m-fits in omega arith
 
 field-requires : tie.Need-field-requires
 field-requires c κs =
     let pre = c .before .before .before .before .before .before .pre in
+    let a = c .before .before .before .before .before .before .args .a in
     let (r, e) = block-bounds (pre .0 .sound) (pre .1) (pre .2) (pre .3) in let l = length-P (pre .0 .framed) in let z = pre .1 in
-    let f = first-fits (sectionOf (c .before .before .before .before .before .before .args .n) (c .before .before .before .before .before .before .args .m) (c .before .before .before .before .before .before .args .index .now) 1) (c .before .before .before .before .before .before .args .a + c .before .before .before .before .before .before .args .u + 1) (c .before .before .before .before .before .before .args .b - c .before .before .before .before .before .before .args .a) (omega arith) (c .before .before .before .first-parent .ensures) in
+    let f = first-fits (sectionOf (c .before .before .before .before .before .before .args .n) (c .before .before .before .before .before .before .args .m) (c .before .before .before .before .before .before .args .index .now) 1) (a + c .before .before .before .before .before .before .args .u + 1) (c .before .before .before .before .before .before .args .b - a) (omega arith) (c .before .before .before .first-parent .ensures) in
     let w = c .before .before .if1 .left in (pre .0 .sound, below-end r e f w)
 
 sub-t16 : tie.Need-sub-t16
@@ -85,16 +86,26 @@ sub-t16 c = search needs
 returns-3 : tie.Need-returns-3
 returns-3 c =
     let pre = c .before .before .before .before .before .before .before .before .pre in
+    let n = c .before .before .before .before .before .before .before .before .args .n in
+    let m = c .before .before .before .before .before .before .before .before .args .m in
+    let index = c .before .before .before .before .before .before .before .before .args .index .now in
+    let a = c .before .before .before .before .before .before .before .before .args .a in
+    let first-parent = c .before .before .before .before .before .first-parent in
     let (r, e) = block-bounds (pre .0 .sound) (pre .1) (pre .2) (pre .3) in let l = length-P (pre .0 .framed) in let z = pre .1 in
-    let f = first-fits (sectionOf (c .before .before .before .before .before .before .before .before .args .n) (c .before .before .before .before .before .before .before .before .args .m) (c .before .before .before .before .before .before .before .before .args .index .now) 1) (c .before .before .before .before .before .before .before .before .args .a + c .before .before .before .before .before .before .before .before .args .u + 1) (c .before .before .before .before .before .before .before .before .args .b - c .before .before .before .before .before .before .before .before .args .a) (omega arith) (c .before .before .before .before .before .first-parent .ensures) in
-    step-risen (pre .0 .sound) (pre .1) (pre .2) (pre .3) (sectionOf (c .before .before .before .before .before .before .before .before .args .n) (c .before .before .before .before .before .before .before .before .args .m) (c .before .before .before .before .before .before .before .before .args .index .now) 1) (c .before .before .before .before .before .first-parent .ensures) (c .before .before .before .before .if1 .left) (c .before .before .before .first-parent2 .ensures) (c .before .before .if2 .left) f (c .before .field .ensures .0) (c .if3 .taken)
+    let f = first-fits (sectionOf (n) (m) (index) 1) (a + c .before .before .before .before .before .before .before .before .args .u + 1) (c .before .before .before .before .before .before .before .before .args .b - a) (omega arith) (first-parent .ensures) in
+    step-risen (pre .0 .sound) (pre .1) (pre .2) (pre .3) (sectionOf (n) (m) (index) 1) (first-parent .ensures) (c .before .before .before .before .if1 .left) (c .before .before .before .first-parent2 .ensures) (c .before .before .if2 .left) f (c .before .field .ensures .0) (c .if3 .taken)
 
 returns-4 : tie.Need-returns-4
 returns-4 c =
     let pre = c .before .before .before .before .before .before .before .before .pre in
+    let n = c .before .before .before .before .before .before .before .before .args .n in
+    let m = c .before .before .before .before .before .before .before .before .args .m in
+    let index = c .before .before .before .before .before .before .before .before .args .index .now in
+    let a = c .before .before .before .before .before .before .before .before .args .a in
+    let first-parent = c .before .before .before .before .before .first-parent in
     let (r, e) = block-bounds (pre .0 .sound) (pre .1) (pre .2) (pre .3) in let l = length-P (pre .0 .framed) in let z = pre .1 in
-    let f = first-fits (sectionOf (c .before .before .before .before .before .before .before .before .args .n) (c .before .before .before .before .before .before .before .before .args .m) (c .before .before .before .before .before .before .before .before .args .index .now) 1) (c .before .before .before .before .before .before .before .before .args .a + c .before .before .before .before .before .before .before .before .args .u + 1) (c .before .before .before .before .before .before .before .before .args .b - c .before .before .before .before .before .before .before .before .args .a) (omega arith) (c .before .before .before .before .before .first-parent .ensures) in
-    step-stray (pre .0 .sound) (pre .1) (pre .2) (pre .3) (sectionOf (c .before .before .before .before .before .before .before .before .args .n) (c .before .before .before .before .before .before .before .before .args .m) (c .before .before .before .before .before .before .before .before .args .index .now) 1) (c .before .before .before .before .before .first-parent .ensures) (c .before .before .before .before .if1 .left) (c .before .before .before .first-parent2 .ensures) (c .before .before .if2 .left) f (c .before .field .ensures .0) (c .if3 .left)
+    let f = first-fits (sectionOf (n) (m) (index) 1) (a + c .before .before .before .before .before .before .before .before .args .u + 1) (c .before .before .before .before .before .before .before .before .args .b - a) (omega arith) (first-parent .ensures) in
+    step-stray (pre .0 .sound) (pre .1) (pre .2) (pre .3) (sectionOf (n) (m) (index) 1) (first-parent .ensures) (c .before .before .before .before .if1 .left) (c .before .before .before .first-parent2 .ensures) (c .before .before .if2 .left) f (c .before .field .ensures .0) (c .if3 .left)
 
 pub step-up-spec : {M : Type 1} → statement M
 step-up-spec =

@@ -4,9 +4,6 @@ use native.Mathlib.Omega.{arith}
 use mathlib.Core.Path.{_∙_}
 use Rattle.queries.proofs.marks.child_mark.Statement.{statement}
 use Rattle.queries.proofs.marks.child_mark.Tie as tie
-use Rattle.queries.proofs.marks.child_mark.Reads as reads
-use Rattle.queries.proofs.marks.child_mark.Lts as lts
-use Rattle.queries.proofs.marks.mark.Reads as mark-reads
 
 mark-requires : tie.Need-mark-requires
 mark-requires c κs =

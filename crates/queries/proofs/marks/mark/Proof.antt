@@ -5,9 +5,6 @@ use mathlib.Core.Path.{sym, _∙_}
 use borrow.Author.Needs.{needs}
 use Rattle.queries.proofs.marks.mark.Statement.{statement}
 use Rattle.queries.proofs.marks.mark.Tie as tie
-use Rattle.queries.proofs.marks.mark.Reads as reads
-use Rattle.queries.proofs.marks.mark.Lts as lts
-use Rattle.bits.proofs.fields.read_bit.Reads as read-bit-reads
 
 mul-read-bit : tie.Need-mul-read-bit
 mul-read-bit c = search needs

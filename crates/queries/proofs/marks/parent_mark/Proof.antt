@@ -5,10 +5,6 @@ use mathlib.Core.Path.{_∙_}
 use borrow.Author.Needs.{needs}
 use Rattle.queries.proofs.marks.parent_mark.Statement.{statement}
 use Rattle.queries.proofs.marks.parent_mark.Tie as tie
-use Rattle.queries.proofs.marks.parent_mark.Reads as reads
-use Rattle.queries.proofs.marks.parent_mark.Lts as lts
-use Rattle.forest.proofs.index.mark_bytes.Reads as mark-bytes-reads
-use Rattle.queries.proofs.marks.mark.Reads as mark-reads
 
 mark-bytes-requires : tie.Need-mark-bytes-requires
 mark-bytes-requires c κs = search needs

@@ -8,10 +8,6 @@ use mathlib.Core.Path.{ap, _∙_}
 use borrow.Author.Needs.{needs}
 use Rattle.queries.proofs.marks.stored.Statement.{statement}
 use Rattle.queries.proofs.marks.stored.Tie as tie
-use Rattle.queries.proofs.marks.stored.Reads as reads
-use Rattle.queries.proofs.marks.stored.Lts as lts
-use Rattle.bits.proofs.fields.read12.Reads as read12-reads
-use Rattle.forest.proofs.index.mark_bytes.Reads as mark-bytes-reads
 
 mark-bytes-requires : tie.Need-mark-bytes-requires
 mark-bytes-requires c κs = search needs

@@ -1,5 +1,5 @@
 -- How an answer tells the first broken rule, or that none is broken; and the result buffer then.
-use mathlib.Core.Path.{_≡_, refl}
+use mathlib.Core.Path.{_≡_, refl, sym, ap}
 use mathlib.Core.List.{List, _++_}
 use Prim.Native.Nat.{ℕ, zero, suc}
 use native.Mathlib.Omega.{arith}
@@ -7,8 +7,8 @@ use borrow.Author.Tests.{eq-eqb, ne-eqb}
 use lib.Dec.{eqb}
 use mathlib.Core.Bool.{true, false}
 use Rattle.record.specs.Rules.{Rule, firstBroken}
-use Rattle.record.specs.Answers.{refused, answered, outcome, tried, bufferAfter}
-use Rattle.record.specs.Laws.First.{append-broken}
+use Rattle.record.specs.Answers.{Answer, refused, answered, outcome, tried, otherwise, triedThen, bufferAfter}
+use Rattle.record.specs.Laws.First.{Numbered, append-kept, append-broken}
 
 module _ {A : Type 0} where
   pub told : {j k : ℕ} (a : A) → j ≡ suc k → refused (suc k) ≡ outcome j a
@@ -45,6 +45,30 @@ module _ {A B : Type 0} (rules : List Rule) (a : A) (b : B) where
 
   pub untold-same : {x : A} → answered x ≡ tried rules a → answered b ≡ tried rules b
   untold-same e = untold b (untold-back (firstBroken rules) a e .0)
+
+-- ---- rules, and then a further answer
+
+module _ {A : Type 0} where
+  otherwise-told : {j k : ℕ} (a : Answer A) → j ≡ suc k → refused (suc k) ≡ otherwise j a
+  unfolding otherwise
+  otherwise-told a e = rw e
+
+  pub then-told : (rules : List Rule) (a : Answer A) {k : ℕ} → firstBroken rules ≡ suc k → refused (suc k) ≡ triedThen rules a
+  then-told rules a e = otherwise-told a e
+
+  pub then-untold : (rules : List Rule) (a : Answer A) → firstBroken rules ≡ 0 → a ≡ triedThen rules a
+  unfolding otherwise
+  then-untold rules a e = rw e
+
+  -- the refusal of the first rules, by an operation that tells another value
+  pub then-refused : {B : Type 0} (first more : List Rule) (b : B) (a : Answer A) {k : ℕ} → refused k ≡ tried first b → refused k ≡ triedThen (first ++ more) a
+  then-refused first more b a e =
+      let (i, f, g) = told-back (firstBroken first) b e in
+      rw g (then-told (first ++ more) a (append-broken first more i f))
+
+  -- the first rules are kept
+  pub then-passed : {first : List Rule} (more : List Rule) (a : Answer A) → Numbered first → firstBroken first ≡ 0 → triedThen more a ≡ triedThen (first ++ more) a
+  then-passed more a n e = ap (λ (j : ℕ). otherwise j a) (sym (append-kept n more e))
 
 -- ---- the result buffer afterwards
 

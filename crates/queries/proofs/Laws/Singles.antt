@@ -1,0 +1,168 @@
+-- Answers about one vertex: its parent, its children, its number.
+use mathlib.Core.Path.{_≡_, refl, sym, ap, ap₂, _∙_}
+use mathlib.Core.Bool.{Bool, true, false, _||_}
+use mathlib.Core.List.{List, [], _∷_, map}
+use Prim.Native.Nat.{ℕ, _+_, _-_, _*_, _≤_, _<_}
+use native.Mathlib.Numerals.{add-one}
+use native.Mathlib.Decide.{ℕ-discrete, decLt}
+use native.Mathlib.Omega.{arith}
+use borrow.Author.Tests.{eq-eqb, ne-eqb, lt-ltb, le-ltb}
+use lib.Dec.{eqb, ltb}
+use lib.ListN.{length, take, drop, getD}
+use Rattle.bits.specs.Bits.{bit, count, select}
+use Rattle.bits.specs.Laws.Select.{select-none, select-bounds, select-le}
+use Rattle.graph.specs.Graph.{target}
+use Rattle.graph.specs.Search.{countUp}
+use Rattle.record.specs.Record.{unary, fields, blocks}
+use Rattle.record.specs.Rules.{firstBroken}
+use Rattle.record.specs.Starts.{startsOf}
+use Rattle.record.specs.Answers.{refused, answered, triedThen}
+use Rattle.record.specs.Steps.{Sound}
+use Rattle.record.specs.Laws.First.{first-broken, first-kept}
+use Rattle.record.specs.Laws.Layout.{length-blocks}
+use Rattle.record.proofs.Laws.Reading.Sounded.{sound-shaped}
+use Rattle.record.proofs.Laws.Telling.Told.{then-told, then-untold}
+use Rattle.forest.specs.Laws.Sections.{length-each, each-at}
+use Rattle.queries.specs.View.{View, viewBy, blockMarks, sectionOf}
+use Rattle.queries.specs.Queries.{childCount, vertexOr, childOf, visitOf, found, visitedOf}
+use Rattle.queries.proofs.Laws.Ones.{part-length, count-next, found-here, found-none}
+use Rattle.queries.proofs.Laws.Stepping.{block-bounds, block-marks, block-neighbour}
+
+-- ---- a number that is a vertex's
+
+module _ (w : View) where
+  vertex-yes : {v : ℕ} → v < length (w .graph) → answered (v + 1) ≡ vertexOr w v
+  vertex-yes {v} h = rw (lt-ltb v (length (w .graph)) h, vertexOr) (ap answered (add-one v))
+
+  vertex-no : {v : ℕ} → length (w .graph) ≤ v → refused 12 ≡ vertexOr w v
+  vertex-no {v} h = rw (le-ltb v (length (w .graph)) h, vertexOr)
+
+  -- 13, and then the child
+  module _ (u j : ℕ) where
+    abbrev rule : Bool
+    rule = eqb j 0 || ltb (childCount w u) j
+
+    pub no-first : j ≡ 0 → refused 13 ≡ triedThen ((13, rule) ∷ []) (childOf w u j)
+    no-first e = then-told ((13, rule) ∷ []) (childOf w u j) (first-broken 13 [] (rw (eq-eqb j 0 e)))
+
+    module _ (nz : j ≡ 0 → ⊥) {p : ℕ} (ep : p ≡ select (w .marksE u) j) where
+      pub too-few : p ≡ 0 → refused 13 ≡ triedThen ((13, rule) ∷ []) (childOf w u j)
+      unfolding childCount
+      too-few z =
+          let l : count (w .marksE u) < j = few (decLt (count (w .marksE u)) j) in
+          then-told ((13, rule) ∷ []) (childOf w u j) (first-broken 13 [] (rw (ne-eqb j 0 nz, lt-ltb (count (w .marksE u)) j l)))
+        where
+          few : Dec (count (w .marksE u) < j) → count (w .marksE u) < j
+          few (yes l) = l
+          few (no l) = let (a, b) = select-bounds (w .marksE u) j (omega arith) (omega arith) in absurd (omega arith)
+
+      module _ (some : p ≡ 0 → ⊥) {t : ℕ} (et : target (w .graph) u (p - 1) ≡ t) where
+        enough : firstBroken ((13, rule) ∷ []) ≡ 0
+        unfolding childCount firstBroken
+        enough = let e : rule ≡ false = kept in first-kept 13 [] e
+          where
+            least : Dec (count (w .marksE u) < j) → j ≤ count (w .marksE u)
+            least (yes l) = absurd (some (ep ∙ select-none (w .marksE u) j l))
+            least (no l) = omega arith
+
+            kept : rule ≡ false
+            kept = rw (ne-eqb j 0 nz, le-ltb (count (w .marksE u)) j (least (decLt (count (w .marksE u)) j)))
+
+        is-t : target (w .graph) u (select (w .marksE u) j - 1) ≡ t
+        is-t = ap (λ (x : ℕ). target (w .graph) u (x - 1)) (sym ep) ∙ et
+
+        pub child-there : t < length (w .graph) → answered (t + 1) ≡ triedThen ((13, rule) ∷ []) (childOf w u j)
+        unfolding childOf
+        child-there l = vertex-yes l ∙ ap (vertexOr w) (sym is-t) ∙ then-untold ((13, rule) ∷ []) (childOf w u j) enough
+
+        pub child-stray : length (w .graph) ≤ t → refused 12 ≡ triedThen ((13, rule) ∷ []) (childOf w u j)
+        unfolding childOf
+        child-stray l = vertex-no l ∙ ap (vertexOr w) (sym is-t) ∙ then-untold ((13, rule) ∷ []) (childOf w u j) enough
+
+  -- ---- Visit
+
+  pub visit-told : {u x : ℕ} → x ≡ w .stored u → x < length (w .graph) → answered (x + 1) ≡ visitOf w u
+  unfolding visitOf
+  visit-told e l = vertex-yes l ∙ ap (vertexOr w) e
+
+  pub visit-stray : {u x : ℕ} → x ≡ w .stored u → length (w .graph) ≤ x → refused 12 ≡ visitOf w u
+  unfolding visitOf
+  visit-stray e l = vertex-no l ∙ ap (vertexOr w) e
+
+  -- ---- Visited: the vertices before u have other numbers
+
+  module _ (k : ℕ) where
+    hits : List Bool
+    hits = map (λ u. eqb (w .stored u) k) (countUp 0 (length (w .graph)))
+
+    hits-long : length hits ≡ length (w .graph)
+    unfolding hits
+    hits-long = length-each (λ u. eqb (w .stored u) k) 0 (length (w .graph))
+
+    hit-at : (u : ℕ) → u < length (w .graph) → getD hits u false ≡ eqb (w .stored u) k
+    unfolding hits
+    hit-at u h = let z : 0 + u ≡ u = omega arith in each-at (λ u. eqb (w .stored u) k) false 0 (length (w .graph)) u h ∙ ap (λ (x : ℕ). eqb (w .stored x) k) z
+
+    pub Unmet : ℕ → Type 0
+    Unmet u = 0 ≡ count (take u hits)
+
+    pub unmet-begin : Unmet 0
+    unfolding count Unmet
+    unmet-begin = refl
+
+    module _ {u x : ℕ} (l : u < length (w .graph)) (e : x ≡ w .stored u) (o : Unmet u) where
+      next : count (take (u + 1) hits) ≡ 0 + bit (eqb (w .stored u) k)
+      unfolding Unmet
+      next =
+          let d = hits-long in
+          count-next hits u (omega arith) ∙ ap₂ (λ (i : ℕ) (b : Bool). i + bit b) (sym o) (hit-at u l)
+
+      pub unmet-more : (x ≡ k → ⊥) → Unmet (u + 1)
+      unfolding Unmet
+      unmet-more d = sym (next ∙ ap (λ (b : Bool). 0 + bit b) (ne-eqb (w .stored u) k (λ z. d (e ∙ z))) ∙ omega arith)
+
+      pub met : x ≡ k → answered (u + 1) ≡ visitedOf w k
+      unfolding visitedOf hits
+      met d =
+          let t : eqb (w .stored u) k ≡ true = eq-eqb (w .stored u) k (sym e ∙ d) in
+          let c : count (take (u + 1) hits) ≡ 1 = next ∙ ap (λ (b : Bool). 0 + bit b) t ∙ omega arith in
+          ap answered (add-one u) ∙ ap found (sym (add-one u) ∙ found-here hits u (hit-at u l ∙ t) c)
+
+    pub unmet-end : {u : ℕ} → length (w .graph) ≤ u → Unmet u → refused 12 ≡ visitedOf w k
+    unfolding Unmet visitedOf hits
+    unmet-end {u} h o = ap found (found-none hits {i = u} (let d = hits-long in omega arith) (let z = o in omega arith))
+
+-- ---- the block of u, whose fields are those from a up to b
+
+module _ {bytes : List ℕ} {n m u a b : ℕ} (index : List ℕ) (o : Sound bytes n m) (h : u < n) (ea : a ≡ getD (startsOf (unary bytes)) u 0) (eb : b ≡ getD (startsOf (unary bytes)) (u + 1) 0) where
+  pub children-counted : {r : ℕ} → r ≡ count (take (b - a) (drop (a + u + 1) (sectionOf n m index 0))) → r ≡ childCount (viewBy n m bytes index) u
+  unfolding childCount
+  children-counted e = e ∙ ap count (sym (block-marks o h ea eb (sectionOf n m index 0)))
+
+  pub child-place : (j : ℕ) {p : ℕ} → p ≡ select (take (b - a) (drop (a + u + 1) (sectionOf n m index 0))) j → p ≡ select (blockMarks bytes (sectionOf n m index 0) u) j
+  child-place j e = e ∙ ap (λ (t : List Bool). select t j) (sym (block-marks o h ea eb (sectionOf n m index 0)))
+
+  pub child-fits : (j : ℕ) {p : ℕ} → length (sectionOf n m index 0) ≡ n + 2 * m → p ≡ select (take (b - a) (drop (a + u + 1) (sectionOf n m index 0))) j → p ≤ b - a
+  child-fits j k e =
+      let (r, l) = block-bounds o h ea eb in
+      let x = part-length (sectionOf n m index 0) (a + u + 1) (b - a) (omega arith) in
+      let y = select-le (take (b - a) (drop (a + u + 1) (sectionOf n m index 0))) j in
+      omega arith
+
+  pub child-field : {p t : ℕ} → p ≤ b - a → (p ≡ 0 → ⊥) → t ≡ getD (fields bytes) (a + (p - 1)) 0 → target (blocks bytes) u (p - 1) ≡ t
+  child-field {p} l z e = block-neighbour o h ea eb (p - 1) (go (ℕ-discrete p 0)) ∙ sym e
+    where
+      go : Dec (p ≡ 0) → p - 1 < b - a
+      go (yes q) = absurd (z q)
+      go (no q) = omega arith
+
+  pub as-many : length (blocks bytes) ≡ n
+  as-many = length-blocks (sound-shaped o) ∙ sym (o .is-n)
+
+-- a number that is not 0
+pub positive : {j : ℕ} → (j ≡ 0 → ⊥) → 1 ≤ j
+positive {j} z = go (ℕ-discrete j 0)
+  where
+    go : Dec (j ≡ 0) → 1 ≤ j
+    go (yes e) = absurd (z e)
+    go (no d) = omega arith

@@ -1,0 +1,123 @@
+-- `single::child_in` meets its contract.
+use Rattle.queries.proofs.Laws.Singles.{no-first, too-few, child-there, child-stray, child-place, child-fits, child-field, as-many, positive}
+use Rattle.queries.proofs.Laws.Stepping.{block-bounds, below-end}
+use Rattle.queries.proofs.Laws.Marks.{length-E}
+use Rattle.queries.specs.View.{viewBy}
+use native.Mathlib.Omega.{arith}
+use borrow.Author.Needs.{needs}
+use Rattle.queries.proofs.single.child_in.Statement.{statement}
+use Rattle.queries.proofs.single.child_in.Tie as tie
+
+returns : tie.Need-returns
+returns c = no-first (viewBy (c .before .before .before .args .n) (c .before .before .before .args .m) (c .before .before .before .args .bytes .now) (c .before .before .before .args .index .now)) (c .before .before .before .args .u) (c .before .before .before .args .j) (c .if1 .taken)
+
+start-of-requires : tie.Need-start-of-requires
+start-of-requires c κs = search needs
+
+add-start-of : tie.Need-add-start-of
+add-start-of c = search needs
+
+start-of-requires-2 : tie.Need-start-of-requires-2
+start-of-requires-2 c κs = search needs
+
+add-nth-child : tie.Need-add-nth-child
+add-nth-child c =
+    let pre = c .before .before .before .before .before .pre in
+    let (r, e) = block-bounds (pre .0 .sound) (pre .1) (c .before .start-of .ensures) (c .start-of2 .ensures) in let x = pre .0 .framed .n-fits in let y = pre .0 .framed .m-fits in let z = pre .1 in omega arith
+
+add-nth-child-2 : tie.Need-add-nth-child-2
+add-nth-child-2 c =
+    let pre = c .before .before .before .before .before .pre in
+    let (r, e) = block-bounds (pre .0 .sound) (pre .1) (c .before .start-of .ensures) (c .start-of2 .ensures) in let x = pre .0 .framed .n-fits in let y = pre .0 .framed .m-fits in let z = pre .1 in omega arith
+
+sub-nth-child : tie.Need-sub-nth-child
+sub-nth-child c =
+    let pre = c .before .before .before .before .before .pre in
+    let (r, e) = block-bounds (pre .0 .sound) (pre .1) (c .before .start-of .ensures) (c .start-of2 .ensures) in r
+
+nth-child-requires : tie.Need-nth-child-requires
+nth-child-requires c κs =
+    let pre = c .before .before .before .before .before .pre in
+    let (r, e) = block-bounds (pre .0 .sound) (pre .1) (c .before .start-of .ensures) (c .start-of2 .ensures) in let z = pre .1 in (pre .0 .framed, omega arith, positive (c .before .before .if1 .left))
+
+returns-2 : tie.Need-returns-2
+returns-2 c =
+    let pre = c .before .before .before .before .before .before .before .pre in
+    let index = c .before .before .before .before .before .before .before .args .index .now in
+    let j = c .before .before .before .before .before .before .before .args .j in
+    let p = child-place (index) (pre .0 .sound) (pre .1) (c .before .before .before .start-of .ensures) (c .before .before .start-of2 .ensures) (j) (c .before .nth-child .ensures) in
+    too-few (viewBy (c .before .before .before .before .before .before .before .args .n) (c .before .before .before .before .before .before .before .args .m) (c .before .before .before .before .before .before .before .args .bytes .now) (index)) (c .before .before .before .before .before .before .before .args .u) (j) (c .before .before .before .before .if1 .left) p (c .if2 .taken)
+
+sub-field : tie.Need-sub-field
+sub-field c = search needs
+
+add-field : tie.Need-add-field
+add-field c =
+    let pre = c .before .before .before .before .before .before .before .pre in
+    let start-of = c .before .before .before .start-of in
+    let start-of2 = c .before .before .start-of2 in
+    let (r, e) = block-bounds (pre .0 .sound) (pre .1) (start-of .ensures) (start-of2 .ensures) in
+    let f = child-fits (c .before .before .before .before .before .before .before .args .index .now) (pre .0 .sound) (pre .1) (start-of .ensures) (start-of2 .ensures) (c .before .before .before .before .before .before .before .args .j) (length-E (pre .0 .framed)) (c .before .nth-child .ensures) in
+    let y = pre .0 .framed .m-fits in omega arith
+
+field-requires : tie.Need-field-requires
+field-requires c κs =
+    let pre = c .before .before .before .before .before .before .before .pre in
+    let start-of = c .before .before .before .start-of in
+    let start-of2 = c .before .before .start-of2 in
+    let (r, e) = block-bounds (pre .0 .sound) (pre .1) (start-of .ensures) (start-of2 .ensures) in
+    let f = child-fits (c .before .before .before .before .before .before .before .args .index .now) (pre .0 .sound) (pre .1) (start-of .ensures) (start-of2 .ensures) (c .before .before .before .before .before .before .before .args .j) (length-E (pre .0 .framed)) (c .before .nth-child .ensures) in
+    (pre .0 .sound, below-end r e f (c .if2 .left))
+
+add-t17 : tie.Need-add-t17
+add-t17 c = search needs
+
+returns-3 : tie.Need-returns-3
+returns-3 c =
+    let pre = c .before .before .before .before .before .before .before .before .before .pre in
+    let index = c .before .before .before .before .before .before .before .before .before .args .index .now in
+    let start-of = c .before .before .before .before .before .start-of in
+    let start-of2 = c .before .before .before .before .start-of2 in
+    let j = c .before .before .before .before .before .before .before .before .before .args .j in
+    let nth-child = c .before .before .before .nth-child in
+    let if2 = c .before .before .if2 in
+    let f = child-fits (index) (pre .0 .sound) (pre .1) (start-of .ensures) (start-of2 .ensures) (j) (length-E (pre .0 .framed)) (nth-child .ensures) in
+    let p = child-place (index) (pre .0 .sound) (pre .1) (start-of .ensures) (start-of2 .ensures) (j) (nth-child .ensures) in
+    let t = child-field (index) (pre .0 .sound) (pre .1) (start-of .ensures) (start-of2 .ensures) f (if2 .left) (c .before .field .ensures .0) in
+    let k = as-many (index) (pre .0 .sound) (pre .1) (start-of .ensures) (start-of2 .ensures) in
+    child-there (viewBy (c .before .before .before .before .before .before .before .before .before .args .n) (c .before .before .before .before .before .before .before .before .before .args .m) (c .before .before .before .before .before .before .before .before .before .args .bytes .now) (index)) (c .before .before .before .before .before .before .before .before .before .args .u) (j) (c .before .before .before .before .before .before .if1 .left) p (if2 .left) t (omega arith)
+
+returns-4 : tie.Need-returns-4
+returns-4 c =
+    let pre = c .before .before .before .before .before .before .before .before .before .pre in
+    let index = c .before .before .before .before .before .before .before .before .before .args .index .now in
+    let start-of = c .before .before .before .before .before .start-of in
+    let start-of2 = c .before .before .before .before .start-of2 in
+    let j = c .before .before .before .before .before .before .before .before .before .args .j in
+    let nth-child = c .before .before .before .nth-child in
+    let if2 = c .before .before .if2 in
+    let f = child-fits (index) (pre .0 .sound) (pre .1) (start-of .ensures) (start-of2 .ensures) (j) (length-E (pre .0 .framed)) (nth-child .ensures) in
+    let p = child-place (index) (pre .0 .sound) (pre .1) (start-of .ensures) (start-of2 .ensures) (j) (nth-child .ensures) in
+    let t = child-field (index) (pre .0 .sound) (pre .1) (start-of .ensures) (start-of2 .ensures) f (if2 .left) (c .before .field .ensures .0) in
+    let k = as-many (index) (pre .0 .sound) (pre .1) (start-of .ensures) (start-of2 .ensures) in
+    child-stray (viewBy (c .before .before .before .before .before .before .before .before .before .args .n) (c .before .before .before .before .before .before .before .before .before .args .m) (c .before .before .before .before .before .before .before .before .before .args .bytes .now) (index)) (c .before .before .before .before .before .before .before .before .before .args .u) (j) (c .before .before .before .before .before .before .if1 .left) p (if2 .left) t (omega arith)
+
+pub child-in-spec : {M : Type 1} → statement M
+child-in-spec =
+    tie.close
+    (tie.spec
+    returns
+    start-of-requires
+    add-start-of
+    start-of-requires-2
+    add-nth-child
+    add-nth-child-2
+    sub-nth-child
+    nth-child-requires
+    returns-2
+    sub-field
+    add-field
+    field-requires
+    add-t17
+    returns-3
+    returns-4)

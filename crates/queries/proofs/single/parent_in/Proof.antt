@@ -1,0 +1,73 @@
+-- `single::parent_in` meets its contract.
+use Rattle.queries.proofs.Laws.Climbing.{rise-to}
+use Rattle.queries.proofs.Laws.Marks.{length-P}
+use Rattle.queries.specs.Steps.{stepOf}
+use Rattle.queries.specs.Queries.{parentBy, parentOf}
+use Rattle.queries.specs.View.{sectionOf}
+use Rattle.record.specs.Answers.{answered}
+use native.Mathlib.Omega.{arith}
+use native.Mathlib.Numerals.{add-one}
+use mathlib.Core.Path.{sym, ap, _∙_}
+use borrow.Author.Needs.{needs}
+use Rattle.queries.proofs.single.parent_in.Statement.{statement}
+use Rattle.queries.proofs.single.parent_in.Tie as tie
+
+start-of-requires : tie.Need-start-of-requires
+start-of-requires c κs = search needs
+
+add-start-of : tie.Need-add-start-of
+add-start-of c = search needs
+
+start-of-requires-2 : tie.Need-start-of-requires-2
+start-of-requires-2 c κs = search needs
+
+step-up-requires : tie.Need-step-up-requires
+step-up-requires c κs = search needs
+
+enum-told : tie.Need-enum-told
+enum-told c = search needs
+
+enum-told-2 : tie.Need-enum-told-2
+enum-told-2 c = search needs
+
+enum-known-r : tie.Need-enum-known-r
+enum-known-r c = search needs
+
+add-t13 : tie.Need-add-t13
+add-t13 c =
+    let pre = c .before .before .before .before .before .before .before .before .before .pre in
+    let n = c .before .before .before .before .before .before .before .before .before .args .n in
+    let m = c .before .before .before .before .before .before .before .before .before .args .m in
+    let index = c .before .before .before .before .before .before .before .before .before .args .index .now in
+    let t = rise-to (pre .0 .sound) (pre .1) (c .before .before .before .before .before .before .start-of .ensures) (c .before .before .before .before .before .start-of2 .ensures) (sectionOf (n) (m) (index) 1) (sectionOf (n) (m) (index) 1) (length-P (pre .0 .framed)) (length-P (pre .0 .framed)) (sym (ap stepOf (c .before .before .r .given .1)) ∙ c .before .before .before .before .step-up .ensures) in
+    let f = pre .0 .framed .n-fits in omega arith
+
+returns : tie.Need-returns
+unfolding parentOf
+returns c = ap parentBy (sym (ap stepOf (c .enum-told .given .1)) ∙ c .before .before .step-up .ensures)
+
+returns-2 : tie.Need-returns-2
+unfolding parentOf
+returns-2 c = ap parentBy (sym (ap stepOf (c .enum-told2 .given .1)) ∙ c .before .before .step-up .ensures)
+
+returns-3 : tie.Need-returns-3
+unfolding parentOf
+returns-3 c =
+    let r = c .before .before .r in
+    ap answered (add-one (r .given .0 .0 .to)) ∙ ap parentBy (sym (ap stepOf (r .given .1)) ∙ c .before .before .before .before .step-up .ensures)
+
+pub parent-in-spec : {M : Type 1} → statement M
+parent-in-spec =
+    tie.close
+    (tie.spec
+    start-of-requires
+    add-start-of
+    start-of-requires-2
+    step-up-requires
+    enum-told
+    enum-told-2
+    enum-known-r
+    add-t13
+    returns
+    returns-2
+    returns-3)
