@@ -4,3 +4,5 @@ pub mod Queries
 pub mod Operations
 pub mod Answers
 pub mod Steps
+pub mod Laws
+pub mod Demands

@@ -19,24 +19,10 @@ use Rattle.graph.specs.Laws.Places.Basics.{same-outcome, or-cases, or-left, or-
 use Rattle.graph.specs.Laws.Places.Pairing.{source}
 use Rattle.forest.specs.Index.{section, markBytes}
 use Rattle.forest.specs.Marks.{upTo, marked}
-use Rattle.forest.specs.Laws.Sections.{blockStart, placeBit, length-section, section-same}
+use Rattle.forest.specs.Laws.Sections.{placeBit, start-more, start-most, length-section, section-same}
 use Rattle.forest.specs.Laws.Marking.{none, section-none, also, section-also}
 
 -- ---- where the bit of a place stands
-
-pub start-more : (g : Blocks) (u : ℕ) → u < length g → blockStart g (suc u) ≡ blockStart g u + length (block g u)
-unfolding flatten
-start-more [] u h = absurd (omega arith)
-start-more (b ∷ g) zero h = let e : length (b ++ []) ≡ length b + 0 = length-append b [] in omega arith
-start-more (b ∷ g) (suc u) h =
-    let r = start-more g u (omega arith) in
-    omega (arith, length-append b (flatten (take (suc u) g)), length-append b (flatten (take u g)))
-
-start-most : (g : Blocks) (u : ℕ) → blockStart g u ≤ length (flatten g)
-unfolding flatten
-start-most g zero = omega arith
-start-most [] (suc u) = omega arith
-start-most (b ∷ g) (suc u) = let r = start-most g u in omega (arith, length-append b (flatten (take u g)), length-append b (flatten g))
 
 module _ {g : Blocks} {u j v : ℕ} (p : Place g u j v) where
   bit-fits : placeBit g u j < length g + length (flatten g)

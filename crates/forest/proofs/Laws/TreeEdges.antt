@@ -21,20 +21,35 @@ use Rattle.graph.specs.Laws.Tree.Climbs.{slot, parent-child, child-entry}
 use Rattle.graph.specs.Laws.Joined.Spanning.{tree-place}
 use Rattle.graph.specs.Laws.Edges.Marks.{Back, child-mark, child-mark-entry, back-place, back-marked, marked-back, back-parent, back-once, first-back}
 use Rattle.record.specs.Record.{unary, blocks}
-use Rattle.record.specs.Laws.Layout.{length-fields}
+use Rattle.record.specs.Starts.{startsOf}
+use Rattle.record.specs.Steps.{Sound}
+use Rattle.record.specs.Laws.Layout.{length-fields, length-blocks}
 use Rattle.record.specs.Laws.Parts.{start-first}
 use Rattle.record.specs.Laws.RoundTrip.{flatten-blocks}
 use Rattle.record.proofs.Laws.Reading.Sounded.{sound-shaped}
+use Rattle.record.proofs.Laws.Reading.Spans.{span-rises, span-size}
 use Rattle.forest.specs.Steps.{Holding}
 use Rattle.forest.specs.Lows.{Passed, Lifting}
 use Rattle.forest.specs.Marks.{childEnd, DownBit, UpBit}
-use Rattle.forest.specs.Laws.Sections.{blockStart}
-use Rattle.forest.proofs.Laws.Rows.{row-rises, row-size}
+use Rattle.forest.specs.Laws.Sections.{blockStart, start-more}
 use Rattle.forest.proofs.Laws.Searched.{as-many}
 use Rattle.forest.proofs.Laws.Lowest.{graph-formed, spans, visit-cell, parent-cell}
-use Rattle.forest.proofs.Laws.Marked.{start-more, Same, Own}
+use Rattle.forest.proofs.Laws.Marked.{Same, Own}
 
 -- ---- the starts and the places
+
+-- a block starts after the places of those before it
+pub start-block : {bytes : List ℕ} {n m : ℕ} → Sound bytes n m → (u : ℕ) → u ≤ n → getD (startsOf (unary bytes)) u 0 ≡ blockStart (blocks bytes) u
+unfolding flatten
+start-block {bytes} o zero h = start-first (unary bytes) (sound-shaped o .begins)
+start-block {bytes} {n} o (suc u) h =
+    let l : length (blocks bytes) ≡ n = length-blocks (sound-shaped o) ∙ sym (o .is-n) in
+    let i = start-block o u (omega arith) in
+    let e : getD (startsOf (unary bytes)) (u + 1) 0 ≡ getD (startsOf (unary bytes)) (suc u) 0 = ap (λ (x : ℕ). getD (startsOf (unary bytes)) x 0) (add-one u) in
+    let s = start-more (blocks bytes) u (omega arith) in
+    let r = span-size o {u = u} (omega arith) in
+    let q = span-rises o {u = u} (omega arith) in
+    omega arith
 
 module _ {bytes work : List ℕ} {n m : ℕ} (o : Holding bytes work n m) where
   pub as-many-places : length (flatten (blocks bytes)) ≡ 2 * m
@@ -42,16 +57,7 @@ module _ {bytes work : List ℕ} {n m : ℕ} (o : Holding bytes work n m) where
 
   -- the work slice begins with the starts
   start-cell : (u : ℕ) → u ≤ n → getD work u 0 ≡ blockStart (blocks bytes) u
-  unfolding flatten
-  start-cell zero h = o .starts-are 0 h ∙ start-first (unary bytes) (sound-shaped (o .sound) .begins)
-  start-cell (suc u) h =
-      let l = as-many o in
-      let i = start-cell u (omega arith) in
-      let e : getD work (u + 1) 0 ≡ getD work (suc u) 0 = ap (λ (x : ℕ). getD work x 0) (add-one u) in
-      let s = start-more (blocks bytes) u (omega arith) in
-      let r = row-size o {c = u} (omega arith) in
-      let q = row-rises o {c = u} (omega arith) in
-      omega arith
+  start-cell u h = o .starts-are u h ∙ start-block (o .sound) u h
 
 -- ---- the child of the tree edge at a place
 

@@ -2,7 +2,7 @@
 use mathlib.Core.Path.{_≡_, refl, ap, ap₂, _∙_}
 use mathlib.Core.Bool.{Bool, false}
 use mathlib.Core.List.{List, [], _∷_, _++_, map, flatten}
-use Prim.Native.Nat.{ℕ, zero, suc, _+_, _<_}
+use Prim.Native.Nat.{ℕ, zero, suc, _+_, _≤_, _<_}
 use native.Mathlib.Omega.{arith}
 use lib.ListN.{length, take, getD, length-append, length-map, List·getD-append}
 use lib.Seq.{getD-append-add}
@@ -44,6 +44,21 @@ blockStart g u = length (flatten (take u g))
 -- the bit of the place (u, j)
 abbrev pub placeBit : Blocks → ℕ → ℕ → ℕ
 placeBit g u j = blockStart g u + u + 1 + j
+
+-- one block further
+pub start-more : (g : Blocks) (u : ℕ) → u < length g → blockStart g (suc u) ≡ blockStart g u + length (block g u)
+unfolding flatten
+start-more [] u h = absurd (omega arith)
+start-more (b ∷ g) zero h = let e : length (b ++ []) ≡ length b + 0 = length-append b [] in omega arith
+start-more (b ∷ g) (suc u) h =
+    let r = start-more g u (omega arith) in
+    omega (arith, length-append b (flatten (take (suc u) g)), length-append b (flatten (take u g)))
+
+pub start-most : (g : Blocks) (u : ℕ) → blockStart g u ≤ length (flatten g)
+unfolding flatten
+start-most g zero = omega arith
+start-most [] (suc u) = omega arith
+start-most (b ∷ g) (suc u) = let r = start-most g u in omega (arith, length-append b (flatten (take u g)), length-append b (flatten g))
 
 -- the marks laid out, where the first block is vertex u's
 abbrev pub laidFrom : PlaceTest → ℕ → Blocks → List Bool

@@ -14,7 +14,7 @@ use Rattle.record.specs.Rules.{Rule, firstBroken, orderR}
 use Rattle.record.specs.Answers.{Answer, refused, answered, tried, triedThen, sizesOf}
 use Rattle.record.specs.Operations.{otherLength, noTerminal}
 use Rattle.record.specs.declared.Sizes.{Sizes}
-use Rattle.record.specs.Laws.First.{Numbered, none, rule, rule-kept, first-broken, first-kept, both-kept, neither, order-numbered}
+use Rattle.record.specs.Laws.First.{rule-kept, first-broken, first-kept, both-kept, neither, order-numbered}
 use Rattle.record.proofs.Laws.Reading.Sounded.{sound-of}
 use Rattle.record.proofs.Laws.Reading.OneBlock.{zero-none, past-none, inside-some}
 use Rattle.record.proofs.Laws.Telling.Told.{untold-back, then-told, then-untold, then-refused, then-passed}
@@ -22,6 +22,7 @@ use Rattle.forest.specs.Index.{indexLength}
 use Rattle.queries.specs.View.{View, viewBy, viewOf}
 use Rattle.queries.specs.Operations.{orderQ}
 use Rattle.queries.specs.Steps.{Beside}
+use Rattle.queries.specs.Laws.Built.{order-numbered-q}
 
 -- order Q is kept for v, and n and m are the record's
 pub record Asked (bytes index : List ℕ) (v n m : ℕ) : Type 0 where
@@ -49,10 +50,6 @@ same l k e = eqb-true (length l) k (turned (eqb (length l) k) e)
     turned : (b : Bool) → not b ≡ false → b ≡ true
     turned true f = refl
     turned false f = absurd (clash refl f)
-
-pub order-numbered-q : (bytes index : List ℕ) (v : ℕ) → Numbered (orderQ bytes index v)
-unfolding orderQ orderR
-order-numbered-q bytes index v = rule (rule (rule (rule (rule (rule none)))))
 
 pub asked : (bytes index : List ℕ) (v : ℕ) {s : Sizes} → answered s ≡ tried (orderQ bytes index v) (sizesOf bytes) → Asked bytes index v (s .n) (s .m)
 unfolding orderQ

@@ -1,0 +1,4 @@
+-- Laws about the queries: what they answer on a view that shows a forest, and that the view of a built index does.
+pub mod Marks
+pub mod Shown
+pub mod Built
