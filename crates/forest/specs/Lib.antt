@@ -6,4 +6,3 @@ pub mod Lows
 pub mod Marks
 pub mod Fronts
 pub mod Laws
-mod Examples

@@ -6,3 +6,4 @@ pub mod Marks
 pub mod Stepping
 pub mod Climbing
 pub mod Singles
+pub mod Paired

@@ -4,10 +4,9 @@ use mathlib.Core.Path.{_≡_, refl, sym, ap, subst, _∙_}
 use mathlib.Core.Logic.{_↔_}
 use mathlib.Core.Bool.{Bool, true, false, not}
 use mathlib.Core.List.{List, [], _∷_, _++_}
-use Prim.Native.Nat.{ℕ, zero, suc, _-_, _≤_, _<_}
+use Prim.Native.Nat.{ℕ, suc, _-_, _≤_, _<_}
 use native.Mathlib.Omega.{arith}
 use borrow.Author.Tests.{eq-eqb, ne-eqb, le-ltb}
-use lib.Dec.{eqb}
 use lib.ListN.{length, getD}
 use Rattle.graph.specs.Graph.{Blocks, block, Place, position, twin, WellFormed}
 use Rattle.graph.specs.Search.{Forest, countUp, forest}
@@ -16,7 +15,6 @@ use Rattle.graph.specs.Forest.{number, vertexAt, parent as parentIn, head as he
 use Rattle.graph.specs.Theorems.{vertices-cover, wires-balance, child-marks, marks-at-pairs, vertex-of-number, number-of-vertex, ancestor-told, same-heads, bridge-told, bridge-both}
 use Rattle.graph.specs.Laws.Places.Basics.{clash}
 use Rattle.graph.specs.Laws.Places.Pairing.{source, twin-place}
-use Rattle.graph.specs.Laws.Tree.Ancestors.{ancestor as ancestorIn}
 use Rattle.graph.specs.Laws.Joined.Spanning.{Covers}
 use Rattle.record.specs.Record.{terminals, wires, blocks}
 use Rattle.record.specs.Rules.{Rule, firstBroken}
@@ -30,7 +28,7 @@ use Rattle.forest.specs.Index.{indexOf, indexLength}
 use Rattle.forest.specs.Operations.{buildRules, build, built}
 use Rattle.forest.specs.Laws.Bytes.{length-index}
 use Rattle.queries.specs.View.{viewOf}
-use Rattle.queries.specs.Queries.{parentOf, headOf, ancestorOf, childCount, childOf, visitOf, visitedOf}
+use Rattle.queries.specs.Queries.{childCount}
 use Rattle.queries.specs.Operations.{orderQ, parent, head, ancestorRules, ancestor, children, noChild, childRules, child, visit, visited}
 use Rattle.queries.specs.Laws.Shown.{Shows, each-is, parent-shown, head-shown, ancestor-shown, count-shown, child-shown, visit-shown, visited-shown}
 use Rattle.queries.specs.Laws.Built.{accepted-sound, order-numbered-q, as-many, as-many-places, built-shows}

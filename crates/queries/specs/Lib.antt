@@ -6,3 +6,4 @@ pub mod Answers
 pub mod Steps
 pub mod Laws
 pub mod Demands
+pub mod Examples

@@ -8,4 +8,3 @@ pub mod Answers
 pub mod Operations
 pub mod Laws
 pub mod Steps
-pub mod Examples

@@ -10,7 +10,7 @@ use lib.Dec.{eqb, ltb}
 use lib.ListN.{length}
 use Rattle.graph.specs.Laws.Places.Basics.{clash}
 use Rattle.record.specs.Record.{terminals, wires}
-use Rattle.record.specs.Rules.{Rule, firstBroken, orderR}
+use Rattle.record.specs.Rules.{Rule, firstBroken}
 use Rattle.record.specs.Answers.{Answer, refused, answered, tried, triedThen, sizesOf}
 use Rattle.record.specs.Operations.{otherLength, noTerminal}
 use Rattle.record.specs.declared.Sizes.{Sizes}

@@ -1,9 +1,9 @@
 -- What the queries answer on a view that shows the forest of its graph.
 use mathlib.Core.Path.{_≡_, refl, sym, ap, ap₂, _∙_}
-use mathlib.Core.Logic.{_⊎_, inl, inr}
+use mathlib.Core.Logic.{inl, inr}
 use mathlib.Core.Bool.{Bool, true, false}
 use mathlib.Core.List.{List, map}
-use Prim.Native.Nat.{ℕ, zero, suc, _+_, _-_, _≤_, _<_}
+use Prim.Native.Nat.{ℕ, zero, suc, _+_, _-_, _<_}
 use native.Mathlib.Numerals.{add-one}
 use native.Mathlib.Omega.{arith}
 use borrow.Author.Tests.{eq-eqb, ne-eqb, eqb-true, lt-ltb}
@@ -11,7 +11,7 @@ use lib.Dec.{eqb}
 use lib.ListN.{length, getD}
 use Rattle.bits.specs.Bits.{count, select}
 use Rattle.bits.specs.Laws.Select.{select-bounds}
-use Rattle.graph.specs.Graph.{block, target, Place, position, WellFormed}
+use Rattle.graph.specs.Graph.{block, target, position, WellFormed}
 use Rattle.graph.specs.Search.{Forest, all, search, countUp}
 use Rattle.graph.specs.Joined.{bridge}
 use Rattle.graph.specs.Forest.{number, vertexAt, parent, head, children, childMark, parentMark}

@@ -32,8 +32,8 @@ child-mark-requires c κs =
 
 tally-requires : tie.Need-tally-requires Inv-loop μ-loop
 tally-requires c κs =
-    let loop = c .before .before .loop in
     let pre = c .before .before .before .before .pre in
+    let loop = c .before .before .loop in
     let t = loop .inv in let b = count-take-le (loop .i) (take (c .before .before .before .before .args .k) (drop (c .before .before .before .before .args .from) (sectionOf (c .before .before .before .before .args .n) (c .before .before .before .before .args .m) (c .before .before .before .before .args .index .now) 0))) in let f = pre .0 in let a = f .n-fits in let d = f .m-fits in let l = pre .1 in omega arith
 
 add-result : tie.Need-add-result Inv-loop μ-loop

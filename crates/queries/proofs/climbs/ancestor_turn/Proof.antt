@@ -30,8 +30,8 @@ get-requires-2 c κs =
 
 step-up-requires : tie.Need-step-up-requires
 step-up-requires c κs =
-    let pre = c .before .before .before .before .before .before .pre in
     let u = c .before .before .before .before .before .before .args .u in
+    let pre = c .before .before .before .before .before .before .pre in
     (pre .0, pre .2, c .before .get .ensures .0 ∙ ap (λ (l : List ℕ). getD l (u) 0) (pre .1), c .get2 .ensures .0 ∙ ap (λ (l : List ℕ). getD l (u + 1) 0) (pre .1))
 
 enum-told : tie.Need-enum-told

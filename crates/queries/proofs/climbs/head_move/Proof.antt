@@ -51,35 +51,35 @@ add-bridge-mark-2 c = search needs
 add-bridge-mark-3 : tie.Need-add-bridge-mark-3
 add-bridge-mark-3 c =
     let pre = c .before .before .before .before .before .before .before .before .before .pre in
-    let ea = c .before .before .before .before .before .get .ensures .0 ∙ ap (λ (l : List ℕ). getD l (c .before .before .before .before .before .before .before .before .before .args .u) 0) (pre .1) in
-    let eb = c .before .before .before .before .get2 .ensures .0 ∙ ap (λ (l : List ℕ). getD l (c .before .before .before .before .before .before .before .before .before .args .u + 1) 0) (pre .1) in
     let n = c .before .before .before .before .before .before .before .before .before .args .n in
+    let ea = c .before .before .before .before .before .get .ensures .0 ∙ ap (λ (l : List ℕ). getD l (c .before .before .before .before .before .before .before .before .before .args .u) 0) (pre .1) in
     let m = c .before .before .before .before .before .before .before .before .before .args .m in
     let index = c .before .before .before .before .before .before .before .before .before .args .index .now in
+    let eb = c .before .before .before .before .get2 .ensures .0 ∙ ap (λ (l : List ℕ). getD l (c .before .before .before .before .before .before .before .before .before .args .u + 1) 0) (pre .1) in
     let r = rise-at (pre .0 .sound) (pre .2) ea eb (sectionOf (n) (m) (index) 1) (sectionOf (n) (m) (index) 2) (length-P (pre .0 .framed)) (length-B (pre .0 .framed)) (sym (ap stepOf (c .before .r .given .1)) ∙ c .before .before .before .step-up .ensures) in
     let (q, e) = block-bounds (pre .0 .sound) (pre .2) ea eb in let x = pre .0 .framed .n-fits in let y = pre .0 .framed .m-fits in let z = pre .2 in omega arith
 
 bridge-mark-requires : tie.Need-bridge-mark-requires
 bridge-mark-requires c κs =
     let pre = c .before .before .before .before .before .before .before .before .before .pre in
-    let ea = c .before .before .before .before .before .get .ensures .0 ∙ ap (λ (l : List ℕ). getD l (c .before .before .before .before .before .before .before .before .before .args .u) 0) (pre .1) in
-    let eb = c .before .before .before .before .get2 .ensures .0 ∙ ap (λ (l : List ℕ). getD l (c .before .before .before .before .before .before .before .before .before .args .u + 1) 0) (pre .1) in
     let n = c .before .before .before .before .before .before .before .before .before .args .n in
+    let ea = c .before .before .before .before .before .get .ensures .0 ∙ ap (λ (l : List ℕ). getD l (c .before .before .before .before .before .before .before .before .before .args .u) 0) (pre .1) in
     let m = c .before .before .before .before .before .before .before .before .before .args .m in
     let index = c .before .before .before .before .before .before .before .before .before .args .index .now in
+    let eb = c .before .before .before .before .get2 .ensures .0 ∙ ap (λ (l : List ℕ). getD l (c .before .before .before .before .before .before .before .before .before .args .u + 1) 0) (pre .1) in
     let r = rise-at (pre .0 .sound) (pre .2) ea eb (sectionOf (n) (m) (index) 1) (sectionOf (n) (m) (index) 2) (length-P (pre .0 .framed)) (length-B (pre .0 .framed)) (sym (ap stepOf (c .before .r .given .1)) ∙ c .before .before .before .step-up .ensures) in
     let (q, e) = block-bounds (pre .0 .sound) (pre .2) ea eb in let z = pre .2 in (pre .0 .framed, omega arith)
 
 returns : tie.Need-returns
 returns c =
-    let pre = c .before .before .before .before .before .before .before .before .before .before .before .pre in
-    let eb = c .before .before .before .before .before .before .get2 .ensures .0 ∙ ap (λ (l : List ℕ). getD l (c .before .before .before .before .before .before .before .before .before .before .before .args .u + 1) 0) (pre .1) in
-    let ea = c .before .before .before .before .before .before .before .get .ensures .0 ∙ ap (λ (l : List ℕ). getD l (c .before .before .before .before .before .before .before .before .before .before .before .args .u) 0) (pre .1) in
     let n = c .before .before .before .before .before .before .before .before .before .before .before .args .n in
-    let m = c .before .before .before .before .before .before .before .before .before .before .before .args .m in
-    let index = c .before .before .before .before .before .before .before .before .before .before .before .args .index .now in
-    let r = c .before .before .before .r in
+    let pre = c .before .before .before .before .before .before .before .before .before .before .before .pre in
     let u = c .before .before .before .before .before .before .before .before .before .before .before .args .u in
+    let r = c .before .before .before .r in
+    let eb = c .before .before .before .before .before .before .get2 .ensures .0 ∙ ap (λ (l : List ℕ). getD l (c .before .before .before .before .before .before .before .before .before .before .before .args .u + 1) 0) (pre .1) in
+    let index = c .before .before .before .before .before .before .before .before .before .before .before .args .index .now in
+    let ea = c .before .before .before .before .before .before .before .get .ensures .0 ∙ ap (λ (l : List ℕ). getD l (c .before .before .before .before .before .before .before .before .before .before .before .args .u) 0) (pre .1) in
+    let m = c .before .before .before .before .before .before .before .before .before .before .before .args .m in
     let w = viewBy (n) (m) (c .before .before .before .before .before .before .before .before .before .before .before .args .bytes .now) (index) in
     let e = sym (ap stepOf (r .given .1)) ∙ c .before .before .before .before .before .step-up .ensures in
     let b = rise-bit (pre .0 .sound) (pre .2) ea eb (sectionOf (n) (m) (index) 1) (sectionOf (n) (m) (index) 2) (length-P (pre .0 .framed)) (length-B (pre .0 .framed)) e in
@@ -93,14 +93,14 @@ returns-3 c = ap (headBy (viewBy (c .before .before .before .before .before .bef
 
 returns-4 : tie.Need-returns-4
 returns-4 c =
-    let pre = c .before .before .before .before .before .before .before .before .before .before .before .pre in
-    let eb = c .before .before .before .before .before .before .get2 .ensures .0 ∙ ap (λ (l : List ℕ). getD l (c .before .before .before .before .before .before .before .before .before .before .before .args .u + 1) 0) (pre .1) in
-    let ea = c .before .before .before .before .before .before .before .get .ensures .0 ∙ ap (λ (l : List ℕ). getD l (c .before .before .before .before .before .before .before .before .before .before .before .args .u) 0) (pre .1) in
     let n = c .before .before .before .before .before .before .before .before .before .before .before .args .n in
-    let m = c .before .before .before .before .before .before .before .before .before .before .before .args .m in
-    let index = c .before .before .before .before .before .before .before .before .before .before .before .args .index .now in
-    let r = c .before .before .before .r in
+    let pre = c .before .before .before .before .before .before .before .before .before .before .before .pre in
     let u = c .before .before .before .before .before .before .before .before .before .before .before .args .u in
+    let r = c .before .before .before .r in
+    let eb = c .before .before .before .before .before .before .get2 .ensures .0 ∙ ap (λ (l : List ℕ). getD l (c .before .before .before .before .before .before .before .before .before .before .before .args .u + 1) 0) (pre .1) in
+    let index = c .before .before .before .before .before .before .before .before .before .before .before .args .index .now in
+    let ea = c .before .before .before .before .before .before .before .get .ensures .0 ∙ ap (λ (l : List ℕ). getD l (c .before .before .before .before .before .before .before .before .before .before .before .args .u) 0) (pre .1) in
+    let m = c .before .before .before .before .before .before .before .before .before .before .before .args .m in
     let w = viewBy (n) (m) (c .before .before .before .before .before .before .before .before .before .before .before .args .bytes .now) (index) in
     let e = sym (ap stepOf (r .given .1)) ∙ c .before .before .before .before .before .step-up .ensures in
     let b = rise-bit (pre .0 .sound) (pre .2) ea eb (sectionOf (n) (m) (index) 1) (sectionOf (n) (m) (index) 2) (length-P (pre .0 .framed)) (length-B (pre .0 .framed)) e in

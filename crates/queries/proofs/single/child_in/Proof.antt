@@ -43,8 +43,8 @@ nth-child-requires c κs =
 returns-2 : tie.Need-returns-2
 returns-2 c =
     let pre = c .before .before .before .before .before .before .before .pre in
-    let index = c .before .before .before .before .before .before .before .args .index .now in
     let j = c .before .before .before .before .before .before .before .args .j in
+    let index = c .before .before .before .before .before .before .before .args .index .now in
     let p = child-place (index) (pre .0 .sound) (pre .1) (c .before .before .before .start-of .ensures) (c .before .before .start-of2 .ensures) (j) (c .before .nth-child .ensures) in
     too-few (viewBy (c .before .before .before .before .before .before .before .args .n) (c .before .before .before .before .before .before .before .args .m) (c .before .before .before .before .before .before .before .args .bytes .now) (index)) (c .before .before .before .before .before .before .before .args .u) (j) (c .before .before .before .before .if1 .left) p (c .if2 .taken)
 
@@ -54,8 +54,8 @@ sub-field c = search needs
 add-field : tie.Need-add-field
 add-field c =
     let pre = c .before .before .before .before .before .before .before .pre in
-    let start-of = c .before .before .before .start-of in
     let start-of2 = c .before .before .start-of2 in
+    let start-of = c .before .before .before .start-of in
     let (r, e) = block-bounds (pre .0 .sound) (pre .1) (start-of .ensures) (start-of2 .ensures) in
     let f = child-fits (c .before .before .before .before .before .before .before .args .index .now) (pre .0 .sound) (pre .1) (start-of .ensures) (start-of2 .ensures) (c .before .before .before .before .before .before .before .args .j) (length-E (pre .0 .framed)) (c .before .nth-child .ensures) in
     let y = pre .0 .framed .m-fits in omega arith
@@ -63,8 +63,8 @@ add-field c =
 field-requires : tie.Need-field-requires
 field-requires c κs =
     let pre = c .before .before .before .before .before .before .before .pre in
-    let start-of = c .before .before .before .start-of in
     let start-of2 = c .before .before .start-of2 in
+    let start-of = c .before .before .before .start-of in
     let (r, e) = block-bounds (pre .0 .sound) (pre .1) (start-of .ensures) (start-of2 .ensures) in
     let f = child-fits (c .before .before .before .before .before .before .before .args .index .now) (pre .0 .sound) (pre .1) (start-of .ensures) (start-of2 .ensures) (c .before .before .before .before .before .before .before .args .j) (length-E (pre .0 .framed)) (c .before .nth-child .ensures) in
     (pre .0 .sound, below-end r e f (c .if2 .left))
@@ -74,13 +74,13 @@ add-t17 c = search needs
 
 returns-3 : tie.Need-returns-3
 returns-3 c =
-    let pre = c .before .before .before .before .before .before .before .before .before .pre in
-    let index = c .before .before .before .before .before .before .before .before .before .args .index .now in
-    let start-of = c .before .before .before .before .before .start-of in
-    let start-of2 = c .before .before .before .before .start-of2 in
-    let j = c .before .before .before .before .before .before .before .before .before .args .j in
     let nth-child = c .before .before .before .nth-child in
+    let start-of2 = c .before .before .before .before .start-of2 in
+    let pre = c .before .before .before .before .before .before .before .before .before .pre in
+    let start-of = c .before .before .before .before .before .start-of in
     let if2 = c .before .before .if2 in
+    let index = c .before .before .before .before .before .before .before .before .before .args .index .now in
+    let j = c .before .before .before .before .before .before .before .before .before .args .j in
     let f = child-fits (index) (pre .0 .sound) (pre .1) (start-of .ensures) (start-of2 .ensures) (j) (length-E (pre .0 .framed)) (nth-child .ensures) in
     let p = child-place (index) (pre .0 .sound) (pre .1) (start-of .ensures) (start-of2 .ensures) (j) (nth-child .ensures) in
     let t = child-field (index) (pre .0 .sound) (pre .1) (start-of .ensures) (start-of2 .ensures) f (if2 .left) (c .before .field .ensures .0) in
@@ -89,13 +89,13 @@ returns-3 c =
 
 returns-4 : tie.Need-returns-4
 returns-4 c =
-    let pre = c .before .before .before .before .before .before .before .before .before .pre in
-    let index = c .before .before .before .before .before .before .before .before .before .args .index .now in
-    let start-of = c .before .before .before .before .before .start-of in
-    let start-of2 = c .before .before .before .before .start-of2 in
-    let j = c .before .before .before .before .before .before .before .before .before .args .j in
     let nth-child = c .before .before .before .nth-child in
+    let start-of2 = c .before .before .before .before .start-of2 in
+    let pre = c .before .before .before .before .before .before .before .before .before .pre in
+    let start-of = c .before .before .before .before .before .start-of in
     let if2 = c .before .before .if2 in
+    let index = c .before .before .before .before .before .before .before .before .before .args .index .now in
+    let j = c .before .before .before .before .before .before .before .before .before .args .j in
     let f = child-fits (index) (pre .0 .sound) (pre .1) (start-of .ensures) (start-of2 .ensures) (j) (length-E (pre .0 .framed)) (nth-child .ensures) in
     let p = child-place (index) (pre .0 .sound) (pre .1) (start-of .ensures) (start-of2 .ensures) (j) (nth-child .ensures) in
     let t = child-field (index) (pre .0 .sound) (pre .1) (start-of .ensures) (start-of2 .ensures) f (if2 .left) (c .before .field .ensures .0) in

@@ -1,0 +1,31 @@
+-- `pair::heads_of_two` meets its contract.
+use Rattle.queries.proofs.Laws.Paired.{paired}
+use mathlib.Core.Path.{sym, _∙_}
+use borrow.Author.Needs.{needs}
+use Rattle.queries.proofs.pair.heads_of_two.Statement.{statement}
+use Rattle.queries.proofs.pair.heads_of_two.Tie as tie
+
+build-requires : tie.Need-build-requires
+build-requires c κs = search needs
+
+head-requires : tie.Need-head-requires
+head-requires c κs = search needs
+
+head-requires-2 : tie.Need-head-requires-2
+head-requires-2 c κs = search needs
+
+same-length : tie.Need-same-length
+same-length c = search needs
+
+same-length-2 : tie.Need-same-length-2
+same-length-2 c = search needs
+
+returns : tie.Need-returns
+returns c =
+    let b = c .before .before .before .before .before .before .before .before .build .ensures in
+    (b .0, b .1, λ e t r. paired (c .before .before .before .before .before .before .before .before .before .before .before .before .before .before .args .bytes .now) (c .before .before .before .before .before .before .before .before .before .before .before .before .before .before .args .work .now) (c .before .before .before .before .before .before .before .before .before .before .before .before .before .before .args .index .now) (b .1) (c .before .before .head .ensures) (c .head2 .ensures) (sym (b .0) ∙ e) t r)
+
+pub heads-of-two-spec : {M : Type 1} → statement M
+heads-of-two-spec =
+    tie.close
+    (tie.spec build-requires head-requires head-requires-2 same-length same-length-2 returns)

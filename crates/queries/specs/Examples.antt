@@ -1,0 +1,86 @@
+-- Document 01's lines that are marked P, all of them, as one list of cases under one theorem, computed by the checker.
+use mathlib.Core.Path.{_≡_, refl}
+use mathlib.Core.List.{List, [], _∷_, _++_, map, flatten}
+use Prim.Native.Nat.{ℕ}
+use lib.ListN.{length, take}
+use Rattle.bits.specs.Bits.{toBits, bits, string, count, onesAt, select, value, field, packed, pack}
+use Rattle.graph.specs.Graph.{Blocks, mentions, position, pair}
+use Rattle.graph.specs.Search.{entered, arcs, run, search, countUp}
+use Rattle.graph.specs.Joined.{without, joined, bridge}
+use Rattle.graph.specs.Forest.{number, childMark, parentMark}
+use Rattle.graph.specs.Laws.Heads.Walks.{walk}
+use Rattle.record.specs.Record.{terminals, wires, usedBits, recordLength, unary, fieldsFrom, fields, zeros, parts, blocks, layOut, unaryOf, fieldBits, recordBits, recordOf}
+use Rattle.record.specs.Rules.{firstBroken, beginsWithZero, orderR, anyIn, anyFrom, spareSet, stray, doubled, oneSided, checkRules}
+use Rattle.record.specs.Answers.{Answer, refused, answered, outcome, otherwise}
+use Rattle.record.specs.Operations.{check, otherLength, noTerminal}
+use Rattle.forest.specs.Index.{marksFrom, section, sectionE, sectionP, sectionB, numbers, indexBy, indexOf, markBytes, numberBytes, indexLength}
+use Rattle.queries.specs.View.{blockMarks, sectionOf, numberOf}
+use Rattle.queries.specs.Queries.{stepBy, stepUp, headOf}
+use Rattle.queries.specs.Operations.{orderQ, head}
+
+-- a line: blocks and their record, a record and its blocks, a record and what Check says, a record and its index, or a record with its index
+-- and the heads of its terminals
+pub data Line : Type 0 where
+  files : Blocks → List ℕ → Line
+  reads : List ℕ → Blocks → Line
+  checks : List ℕ → Answer (Unit {0}) → Line
+  indexed : List ℕ → List ℕ → Line
+  headed : List ℕ → List ℕ → List (Answer ℕ) → Line
+
+abbrev pub computed : Line → Line
+computed (files g bytes) = files g (recordOf g)
+computed (reads bytes g) = reads bytes (blocks bytes)
+computed (checks bytes a) = checks bytes (check bytes)
+computed (indexed bytes index) = indexed bytes (indexOf (blocks bytes))
+computed (headed bytes index heads) = headed bytes index (map (head bytes index) (countUp 1 (length heads)))
+
+-- the sample loom, terminals less 1
+abbrev pub loom : Blocks
+loom = (2 ∷ 1 ∷ []) ∷ (0 ∷ 2 ∷ []) ∷ (1 ∷ 3 ∷ 0 ∷ []) ∷ (2 ∷ []) ∷ (5 ∷ []) ∷ (4 ∷ []) ∷ []
+
+abbrev pub sample : List ℕ
+sample =
+    0x00 ∷ 0x30 ∷ 0x00 ∷ 0x59 ∷ 0x22 ∷ 0xA0 ∷ 0x02 ∷ 0x00 ∷ 0x10 ∷ 0x00 ∷ 0x00 ∷ 0x20 ∷ 0x01 ∷ 0x00 ∷ 0x30 ∷ 0x00 ∷ 0x00 ∷ 0x20 ∷ 0x05 ∷ 0x00 ∷ 0x40 ∷ []
+
+abbrev pub empty : List ℕ
+empty = 0x00 ∷ 0x00 ∷ 0x00 ∷ 0x00 ∷ []
+
+abbrev pub single : List ℕ
+single = 0x00 ∷ 0x08 ∷ 0x00 ∷ 0x08 ∷ []
+
+abbrev pub wire : List ℕ
+wire = 0x00 ∷ 0x10 ∷ 0x00 ∷ 0x1A ∷ 0x00 ∷ 0x10 ∷ 0x00 ∷ []
+
+abbrev pub sampleIndex : List ℕ
+sampleIndex = 0x41 ∷ 0x84 ∷ 0x04 ∷ 0x51 ∷ 0x00 ∷ 0x95 ∷ 0x00 ∷ 0x00 ∷ 0x02 ∷ 0x00 ∷ 0x10 ∷ 0x03 ∷ 0x00 ∷ 0x40 ∷ 0x05 ∷ []
+
+-- for any three bytes a, b and c
+abbrev pub lines : ℕ → ℕ → ℕ → List Line
+lines a b c =
+    files loom sample
+    ∷ reads sample loom
+    ∷ checks sample (answered tt)
+    ∷ indexed sample sampleIndex
+    ∷ headed sample sampleIndex (map answered (1 ∷ 1 ∷ 1 ∷ 4 ∷ 5 ∷ 6 ∷ []))
+    ∷ files [] empty
+    ∷ reads empty []
+    ∷ checks empty (answered tt)
+    ∷ indexed empty []
+    ∷ files ([] ∷ []) single
+    ∷ reads single ([] ∷ [])
+    ∷ checks single (answered tt)
+    ∷ indexed single (0x00 ∷ 0x00 ∷ 0x00 ∷ 0x00 ∷ 0x00 ∷ [])
+    ∷ files ((1 ∷ []) ∷ (0 ∷ []) ∷ []) wire
+    ∷ reads wire ((1 ∷ []) ∷ (0 ∷ []) ∷ [])
+    ∷ checks wire (answered tt)
+    ∷ indexed wire (0x40 ∷ 0x10 ∷ 0x50 ∷ 0x00 ∷ 0x00 ∷ 0x01 ∷ [])
+    ∷ checks (take 20 sample ++ (0x41 ∷ [])) (refused 5)
+    ∷ checks (a ∷ b ∷ c ∷ []) (refused 1)
+    ∷ checks (0x80 ∷ 0x08 ∷ 0x00 ∷ 0x00 ∷ []) (refused 2)
+    ∷ checks (recordOf ((1 ∷ 1 ∷ []) ∷ (0 ∷ 0 ∷ []) ∷ [])) (refused 7)
+    ∷ checks (recordOf ((1 ∷ 2 ∷ []) ∷ (0 ∷ []) ∷ (1 ∷ []) ∷ [])) (refused 8)
+    ∷ []
+
+pub as-stated : (a b c : ℕ) → map computed (lines a b c) ≡ lines a b c
+unfolding toBits bits string count onesAt select value field packed pack mentions position pair entered arcs run search countUp without joined bridge number childMark parentMark walk terminals wires usedBits recordLength unary fieldsFrom fields zeros parts blocks layOut unaryOf fieldBits recordBits recordOf firstBroken beginsWithZero orderR anyIn anyFrom spareSet stray doubled oneSided checkRules outcome otherwise check otherLength noTerminal marksFrom section sectionE sectionP sectionB numbers indexBy markBytes numberBytes indexLength blockMarks sectionOf numberOf stepBy stepUp headOf orderQ head flatten
+as-stated a b c = refl
