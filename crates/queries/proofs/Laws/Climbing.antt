@@ -20,9 +20,11 @@ use Rattle.record.specs.Answers.{refused, answered}
 use Rattle.record.specs.Steps.{Sound}
 use Rattle.record.specs.Laws.Layout.{length-blocks, starts-count}
 use Rattle.record.proofs.Laws.Reading.Sounded.{sound-shaped}
-use Rattle.queries.specs.View.{View, viewBy, blockMarks}
+use Rattle.queries.specs.View.{View, viewBy, blockMarks, sectionOf}
 use Rattle.queries.specs.Queries.{Step, stuck, top, rise, stepBy, stepUp, headBy, headNext, headOf, ancestorBy, ancestorNext, ancestorOf}
+use Rattle.queries.specs.Steps.{Beside}
 use Rattle.queries.proofs.Laws.Ones.{part-length, part-bit}
+use Rattle.queries.proofs.Laws.Marks.{length-P, length-B}
 use Rattle.queries.proofs.Laws.Stepping.{block-bounds, block-marks}
 
 -- the two sides of a choice
@@ -86,7 +88,7 @@ risen g u (suc (suc c)) i h = let z = ap tag h in absurd (omega arith)
 
 module _ {bytes : List ℕ} {n m u a b : ℕ} (o : Sound bytes n m) (h : u < n) (ea : a ≡ getD (startsOf (unary bytes)) u 0) (eb : b ≡ getD (startsOf (unary bytes)) (u + 1) 0)
     (s t : List Bool) (l : length s ≡ n + 2 * m) (k : length t ≡ n + 2 * m) {j p : ℕ} (e : rise j p ≡ stepUp (blocks bytes) (blockMarks bytes s) u) where
-  pub rise-at : j < b - a
+  rise-at : j < b - a
   unfolding stepUp
   rise-at =
       let x : List Bool = blockMarks bytes s u in
@@ -105,7 +107,7 @@ module _ {bytes : List ℕ} {n m u a b : ℕ} (o : Sound bytes n m) (h : u < n) 
       omega arith
 
   -- the bit of another section at that position
-  pub rise-bit : getD t (a + u + 1 + j) false ≡ getD (blockMarks bytes t u) j false
+  rise-bit : getD t (a + u + 1 + j) false ≡ getD (blockMarks bytes t u) j false
   rise-bit =
       let (q, r) = block-bounds o h ea eb in
       sym (ap (λ (x : List Bool). getD x j false) (block-marks o h ea eb t) ∙ part-bit t (a + u + 1) (b - a) (omega arith) j rise-at)
@@ -113,10 +115,10 @@ module _ {bytes : List ℕ} {n m u a b : ℕ} (o : Sound bytes n m) (h : u < n) 
 -- ---- Head
 
 module _ (w : View) (u : ℕ) where
-  pub head-here : (j p : ℕ) → getD (w .marksB u) j false ≡ true → inl (answered (suc u)) ≡ headBy w u (rise j p)
+  head-here : (j p : ℕ) → getD (w .marksB u) j false ≡ true → inl (answered (suc u)) ≡ headBy w u (rise j p)
   head-here j p e = rw (e, headBy)
 
-  pub head-up : (j p : ℕ) → getD (w .marksB u) j false ≡ false → inr p ≡ headBy w u (rise j p)
+  head-up : (j p : ℕ) → getD (w .marksB u) j false ≡ false → inr p ≡ headBy w u (rise j p)
   head-up j p e = rw (e, headBy)
 
   by-head : (s : Step) → Inside (w .graph) s → {p : ℕ} → inr p ≡ headBy w u s → p < length (w .graph)
@@ -131,6 +133,32 @@ module _ (w : View) (u : ℕ) where
   pub head-inside : {p : ℕ} → inr p ≡ headNext w u → p < length (w .graph)
   unfolding stepUp
   head-inside e = by-head (stepUp (w .graph) (w .marksP) u) (step-inside (w .graph) u (count (w .marksP u)) (select (w .marksP u) 1 - 1)) e
+
+-- from the numbers that the code reads
+module _ {bytes index starts : List ℕ} {n m u a b : ℕ} (o : Beside bytes index n m) (es : starts ≡ startsOf (unary bytes)) (h : u < n)
+    (ga : a ≡ getD starts u 0) (gb : b ≡ getD starts (u + 1) 0) where
+  pub block-from : a ≡ getD (startsOf (unary bytes)) u 0
+  block-from = ga ∙ ap (λ (l : List ℕ). getD l u 0) es
+
+  pub block-to : b ≡ getD (startsOf (unary bytes)) (u + 1) 0
+  block-to = gb ∙ ap (λ (l : List ℕ). getD l (u + 1) 0) es
+
+  module _ {j p : ℕ} (e : rise j p ≡ stepUp (blocks bytes) (blockMarks bytes (sectionOf n m index 1)) u) where
+    pub rise-room : a + u + 1 + j < n + 2 * m
+    rise-room =
+        let (q, r) = block-bounds (o .sound) h block-from block-to in
+        let l = rise-at (o .sound) h block-from block-to (sectionOf n m index 1) (sectionOf n m index 2) (length-P (o .framed)) (length-B (o .framed)) e in
+        omega arith
+
+    module _ {on : Bool} (is : on ≡ getD (sectionOf n m index 2) (a + u + 1 + j) false) where
+      the-bit : on ≡ getD (blockMarks bytes (sectionOf n m index 2) u) j false
+      the-bit = is ∙ rise-bit (o .sound) h block-from block-to (sectionOf n m index 1) (sectionOf n m index 2) (length-P (o .framed)) (length-B (o .framed)) e
+
+      pub head-stops : on ≡ true → inl (answered (suc u)) ≡ headNext (viewBy n m bytes index) u
+      head-stops t = head-here (viewBy n m bytes index) u j p (sym the-bit ∙ t) ∙ ap (headBy (viewBy n m bytes index) u) e
+
+      pub head-rises : on ≡ false → inr p ≡ headNext (viewBy n m bytes index) u
+      head-rises t = head-up (viewBy n m bytes index) u j p (sym the-bit ∙ t) ∙ ap (headBy (viewBy n m bytes index) u) e
 
 -- ---- Ancestor
 

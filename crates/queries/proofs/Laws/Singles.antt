@@ -26,7 +26,9 @@ use Rattle.forest.specs.Laws.Sections.{length-each, each-at}
 use Rattle.queries.specs.View.{View, viewBy, blockMarks, sectionOf}
 use Rattle.queries.specs.Queries.{childCount, vertexOr, childOf, visitOf, found, visitedOf}
 use Rattle.queries.proofs.Laws.Ones.{part-length, count-next, found-here, found-none}
-use Rattle.queries.proofs.Laws.Stepping.{block-bounds, block-marks, block-neighbour}
+use Rattle.queries.specs.Steps.{Beside}
+use Rattle.queries.proofs.Laws.Marks.{length-E}
+use Rattle.queries.proofs.Laws.Stepping.{block-bounds, block-marks, block-neighbour, below-end}
 
 -- ---- a number that is a vertex's
 
@@ -46,7 +48,7 @@ module _ (w : View) where
     no-first e = then-told ((13, rule) ∷ []) (childOf w u j) (first-broken 13 [] (rw (eq-eqb j 0 e)))
 
     module _ (nz : j ≡ 0 → ⊥) {p : ℕ} (ep : p ≡ select (w .marksE u) j) where
-      pub too-few : p ≡ 0 → refused 13 ≡ triedThen ((13, rule) ∷ []) (childOf w u j)
+      too-few : p ≡ 0 → refused 13 ≡ triedThen ((13, rule) ∷ []) (childOf w u j)
       unfolding childCount
       too-few z =
           let l : count (w .marksE u) < j = few (decLt (count (w .marksE u)) j) in
@@ -71,11 +73,11 @@ module _ (w : View) where
         is-t : target (w .graph) u (select (w .marksE u) j - 1) ≡ t
         is-t = ap (λ (x : ℕ). target (w .graph) u (x - 1)) (sym ep) ∙ et
 
-        pub child-there : t < length (w .graph) → answered (t + 1) ≡ triedThen ((13, rule) ∷ []) (childOf w u j)
+        child-there : t < length (w .graph) → answered (t + 1) ≡ triedThen ((13, rule) ∷ []) (childOf w u j)
         unfolding childOf
         child-there l = vertex-yes l ∙ ap (vertexOr w) (sym is-t) ∙ then-untold ((13, rule) ∷ []) (childOf w u j) enough
 
-        pub child-stray : length (w .graph) ≤ t → refused 12 ≡ triedThen ((13, rule) ∷ []) (childOf w u j)
+        child-stray : length (w .graph) ≤ t → refused 12 ≡ triedThen ((13, rule) ∷ []) (childOf w u j)
         unfolding childOf
         child-stray l = vertex-no l ∙ ap (vertexOr w) (sym is-t) ∙ then-untold ((13, rule) ∷ []) (childOf w u j) enough
 
@@ -139,25 +141,46 @@ module _ {bytes : List ℕ} {n m u a b : ℕ} (index : List ℕ) (o : Sound byte
   unfolding childCount
   children-counted e = e ∙ ap count (sym (block-marks o h ea eb (sectionOf n m index 0)))
 
-  pub child-place : (j : ℕ) {p : ℕ} → p ≡ select (take (b - a) (drop (a + u + 1) (sectionOf n m index 0))) j → p ≡ select (blockMarks bytes (sectionOf n m index 0) u) j
-  child-place j e = e ∙ ap (λ (t : List Bool). select t j) (sym (block-marks o h ea eb (sectionOf n m index 0)))
+-- Child, from the numbers that the code reads: p is the place of E's j-th one in the block
+module _ {bytes index : List ℕ} {n m u a b j p : ℕ} (o : Beside bytes index n m) (h : u < n) (ea : a ≡ getD (startsOf (unary bytes)) u 0) (eb : b ≡ getD (startsOf (unary bytes)) (u + 1) 0)
+    (nz : j ≡ 0 → ⊥) (ep : p ≡ select (take (b - a) (drop (a + u + 1) (sectionOf n m index 0))) j) where
+  abbrev view : View
+  view = viewBy n m bytes index
 
-  pub child-fits : (j : ℕ) {p : ℕ} → length (sectionOf n m index 0) ≡ n + 2 * m → p ≡ select (take (b - a) (drop (a + u + 1) (sectionOf n m index 0))) j → p ≤ b - a
-  child-fits j k e =
-      let (r, l) = block-bounds o h ea eb in
+  place : p ≡ select (blockMarks bytes (sectionOf n m index 0) u) j
+  place = ep ∙ ap (λ (t : List Bool). select t j) (sym (block-marks (o .sound) h ea eb (sectionOf n m index 0)))
+
+  fits : p ≤ b - a
+  fits =
+      let k = length-E (o .framed) in
+      let (r, l) = block-bounds (o .sound) h ea eb in
       let x = part-length (sectionOf n m index 0) (a + u + 1) (b - a) (omega arith) in
       let y = select-le (take (b - a) (drop (a + u + 1) (sectionOf n m index 0))) j in
       omega arith
 
-  pub child-field : {p t : ℕ} → p ≤ b - a → (p ≡ 0 → ⊥) → t ≡ getD (fields bytes) (a + (p - 1)) 0 → target (blocks bytes) u (p - 1) ≡ t
-  child-field {p} l z e = block-neighbour o h ea eb (p - 1) (go (ℕ-discrete p 0)) ∙ sym e
-    where
-      go : Dec (p ≡ 0) → p - 1 < b - a
-      go (yes q) = absurd (z q)
-      go (no q) = omega arith
+  pub few-told : p ≡ 0 → refused 13 ≡ triedThen ((13, eqb j 0 || ltb (childCount view u) j) ∷ []) (childOf view u j)
+  few-told z = too-few view u j nz place z
 
-  pub as-many : length (blocks bytes) ≡ n
-  as-many = length-blocks (sound-shaped o) ∙ sym (o .is-n)
+  module _ (some : p ≡ 0 → ⊥) where
+    pub child-room : a + (p - 1) < 2 * m
+    child-room = let (r, l) = block-bounds (o .sound) h ea eb in below-end r l fits some
+
+    module _ {t : ℕ} (et : t ≡ getD (fields bytes) (a + (p - 1)) 0) where
+      leads : target (blocks bytes) u (p - 1) ≡ t
+      leads = block-neighbour (o .sound) h ea eb (p - 1) (go (ℕ-discrete p 0)) ∙ sym et
+        where
+          go : Dec (p ≡ 0) → p - 1 < b - a
+          go (yes q) = absurd (some q)
+          go (no q) = let f = fits in omega arith
+
+      many : length (blocks bytes) ≡ n
+      many = length-blocks (sound-shaped (o .sound)) ∙ sym (o .sound .is-n)
+
+      pub there-told : t < n → answered (t + 1) ≡ triedThen ((13, eqb j 0 || ltb (childCount view u) j) ∷ []) (childOf view u j)
+      there-told l = child-there view u j nz place some leads (let k = many in omega arith)
+
+      pub stray-told : n ≤ t → refused 12 ≡ triedThen ((13, eqb j 0 || ltb (childCount view u) j) ∷ []) (childOf view u j)
+      stray-told l = child-stray view u j nz place some leads (let k = many in omega arith)
 
 -- a number that is not 0
 pub positive : {j : ℕ} → (j ≡ 0 → ⊥) → 1 ≤ j

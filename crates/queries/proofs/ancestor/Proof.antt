@@ -26,20 +26,20 @@ enum-known-s c = search needs
 returns : tie.Need-returns
 unfolding ancestor ancestorRules
 returns c =
-    let v = c .before .before .before .before .before .before .before .args .v in
     let u = c .before .before .before .before .before .before .before .args .u in
-    let bytes = c .before .before .before .before .before .before .before .args .bytes .now in
+    let v = c .before .before .before .before .before .before .before .args .v in
     let index = c .before .before .before .before .before .before .before .args .index .now in
+    let bytes = c .before .before .before .before .before .before .before .args .bytes .now in
     let q = asked (bytes) (index) (u .0) (sym (ap shape (c .before .before .s .given .1)) ∙ c .before .before .before .before .order-q .ensures) in
     second-zero q (v .0) (ancestorOf (viewOf (bytes) (index)) (u .0 - 1) (v .0 - 1)) (c .if1 .taken)
 
 returns-2 : tie.Need-returns-2
 unfolding ancestor ancestorRules
 returns-2 c =
-    let u = c .before .before .before .before .before .before .before .before .args .u in
-    let index = c .before .before .before .before .before .before .before .before .args .index .now in
     let v = c .before .before .before .before .before .before .before .before .args .v in
     let bytes = c .before .before .before .before .before .before .before .before .args .bytes .now in
+    let u = c .before .before .before .before .before .before .before .before .args .u in
+    let index = c .before .before .before .before .before .before .before .before .args .index .now in
     let q = asked (bytes) (index) (u .0) (sym (ap shape (c .before .before .before .s .given .1)) ∙ c .before .before .before .before .before .order-q .ensures) in
     second-past q (v .0) (ancestorOf (viewOf (bytes) (index)) (u .0 - 1) (v .0 - 1)) (c .if2 .taken)
 
@@ -55,17 +55,17 @@ ancestor-in-requires c κs = let q = asked (c .before .before .before .before .b
 returns-3 : tie.Need-returns-3
 unfolding ancestor ancestorRules
 returns-3 c =
-    let u = c .before .before .before .before .before .before .args .u in
-    let bytes = c .before .before .before .before .before .before .args .bytes .now in
     let index = c .before .before .before .before .before .before .args .index .now in
+    let u = c .before .before .before .before .before .before .args .u in
     let v = c .before .before .before .before .before .before .args .v in
+    let bytes = c .before .before .before .before .before .before .args .bytes .now in
     then-refused (orderQ (bytes) (index) (u .0)) ((11, noTerminal (bytes) (v .0)) ∷ []) (sizesOf (bytes)) (ancestorOf (viewOf (bytes) (index)) (u .0 - 1) (v .0 - 1)) (sym (ap shape (c .before .r .given .1)) ∙ c .before .before .before .order-q .ensures)
 
 returns-4 : tie.Need-returns-4
 unfolding ancestor ancestorRules
 returns-4 c =
-    let u = c .before .before .before .before .before .before .before .before .before .args .u in
     let v = c .before .before .before .before .before .before .before .before .before .args .v in
+    let u = c .before .before .before .before .before .before .before .before .before .args .u in
     let q = asked (c .before .before .before .before .before .before .before .before .before .args .bytes .now) (c .before .before .before .before .before .before .before .before .before .args .index .now) (u .0) (sym (ap shape (c .before .before .before .before .s .given .1)) ∙ c .before .before .before .before .before .before .order-q .ensures) in
     second-passed q (v .0) (λ (w : View). ancestorOf w (u .0 - 1) (v .0 - 1)) (c .before .before .if1 .left) (c .before .if2 .left) (c .ancestor-in .ensures)
 

@@ -33,10 +33,10 @@ child-in-requires c κs = let q = asked (c .before .before .before .before .befo
 returns : tie.Need-returns
 unfolding child childRules
 returns c =
-    let bytes = c .before .before .before .before .before .before .args .bytes .now in
-    let j = c .before .before .before .before .before .before .args .j in
     let index = c .before .before .before .before .before .before .args .index .now in
     let v = c .before .before .before .before .before .before .args .v in
+    let j = c .before .before .before .before .before .before .args .j in
+    let bytes = c .before .before .before .before .before .before .args .bytes .now in
     then-refused (orderQ (bytes) (index) (v .0)) ((13, noChild (bytes) (index) (v .0) (j)) ∷ []) (sizesOf (bytes)) (childOf (viewOf (bytes) (index)) (v .0 - 1) (j)) (sym (ap shape (c .before .r .given .1)) ∙ c .before .before .before .order-q .ensures)
 
 returns-2 : tie.Need-returns-2
@@ -45,8 +45,8 @@ returns-2 c =
     let u = c .before .before .before .before .before .before .before .args .v .0 - 1 in
     let bytes = c .before .before .before .before .before .before .before .args .bytes .now in
     let index = c .before .before .before .before .before .before .before .args .index .now in
-    let v = c .before .before .before .before .before .before .before .args .v in
     let j = c .before .before .before .before .before .before .before .args .j in
+    let v = c .before .before .before .before .before .before .before .args .v in
     let q = asked (bytes) (index) (v .0) (sym (ap shape (c .before .before .s .given .1)) ∙ c .before .before .before .before .order-q .ensures) in
     passed-further q ((13, noChild (bytes) (index) (v .0) (j)) ∷ []) (childOf (viewOf (bytes) (index)) u j) (c .child-in .ensures ∙ same-view q (λ (w : View). triedThen ((13, eqb j 0 || ltb (childCount w u) j) ∷ []) (childOf w u j)))
 

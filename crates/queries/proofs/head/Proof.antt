@@ -29,9 +29,9 @@ head-in-requires c κs = let q = asked (c .before .before .before .before .befor
 returns : tie.Need-returns
 unfolding head
 returns c =
-    let bytes = c .before .before .before .before .before .before .args .bytes .now in
     let index = c .before .before .before .before .before .before .args .index .now in
     let v = c .before .before .before .before .before .before .args .v in
+    let bytes = c .before .before .before .before .before .before .args .bytes .now in
     refused-on (bytes) (index) (v .0) (headOf (viewOf (bytes) (index)) (v .0 - 1)) (sym (ap shape (c .before .r .given .1)) ∙ c .before .before .before .order-q .ensures)
 
 returns-2 : tie.Need-returns-2

@@ -29,9 +29,9 @@ visited-in-requires c κs = let q = asked (c .before .before .before .before .be
 returns : tie.Need-returns
 unfolding visited
 returns c =
-    let bytes = c .before .before .before .before .before .before .args .bytes .now in
-    let index = c .before .before .before .before .before .before .args .index .now in
     let i = c .before .before .before .before .before .before .args .i in
+    let index = c .before .before .before .before .before .before .args .index .now in
+    let bytes = c .before .before .before .before .before .before .args .bytes .now in
     refused-on (bytes) (index) (i .0) (visitedOf (viewOf (bytes) (index)) (i .0 - 1)) (sym (ap shape (c .before .r .given .1)) ∙ c .before .before .before .order-q .ensures)
 
 returns-2 : tie.Need-returns-2

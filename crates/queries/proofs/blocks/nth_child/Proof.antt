@@ -43,8 +43,8 @@ add-result c =
 
 returns : tie.Need-returns Inv-loop μ-loop
 returns c =
-    let l = c .before .before .before .before .before .before .pre .1 in
     let loop = c .before .before .before .before .loop in
+    let l = c .before .before .before .before .before .before .pre .1 in
     let e = length-E (c .before .before .before .before .before .before .pre .0) in nth-found (sectionOf (c .before .before .before .before .before .before .args .n) (c .before .before .before .before .before .before .args .m) (c .before .before .before .before .before .before .args .index .now) 0) (c .before .before .before .before .before .before .args .from) (c .before .before .before .before .before .before .args .k) (omega arith) (c .before .before .before .loop-test .taken) (loop .inv .0) (c .before .before .child-mark .ensures) (loop .inv .2) (c .before .tally .ensures) (c .if1 .taken)
 
 add-i : tie.Need-add-i Inv-loop μ-loop
@@ -57,9 +57,9 @@ loop-less c = omega arith
 
 loop-again : tie.Need-loop-again Inv-loop μ-loop
 loop-again c =
-    let l = c .before .before .before .before .before .before .pre .1 in
-    let loop = c .before .before .before .before .loop in
     let child-mark = c .before .before .child-mark in
+    let loop = c .before .before .before .before .loop in
+    let l = c .before .before .before .before .before .before .pre .1 in
     let e = length-E (c .before .before .before .before .before .before .pre .0) in let more = counted-more (sectionOf (c .before .before .before .before .before .before .args .n) (c .before .before .before .before .before .before .args .m) (c .before .before .before .before .before .before .args .index .now) 0) (c .before .before .before .before .before .before .args .from) (c .before .before .before .before .before .before .args .k) (omega arith) (c .before .before .before .loop-test .taken) (loop .inv .0) (child-mark .ensures) (c .before .tally .ensures) in
     (more, omega arith, below (child-mark .result) (loop .inv .2) (c .before .tally .ensures) (c .if1 .left))
 

@@ -1,12 +1,9 @@
 -- `climbs::ancestor_turn` meets its contract.
-use Rattle.queries.proofs.Laws.Climbing.{starts-long, ancestor-yes, ancestor-step}
+use Rattle.queries.proofs.Laws.Climbing.{starts-long, block-from, block-to, ancestor-yes, ancestor-step}
 use Rattle.queries.specs.Steps.{stepOf}
 use Rattle.queries.specs.Queries.{ancestorBy}
 use Rattle.queries.specs.View.{viewBy}
-use lib.ListN.{getD}
 use native.Mathlib.Omega.{arith}
-use Prim.Native.Nat.{ℕ, _+_}
-use mathlib.Core.List.{List}
 use mathlib.Core.Path.{sym, ap, _∙_}
 use borrow.Author.Needs.{needs}
 use Rattle.queries.proofs.climbs.ancestor_turn.Statement.{statement}
@@ -30,9 +27,10 @@ get-requires-2 c κs =
 
 step-up-requires : tie.Need-step-up-requires
 step-up-requires c κs =
-    let u = c .before .before .before .before .before .before .args .u in
+    let ga = c .before .get .ensures .0 in
+    let gb = c .get2 .ensures .0 in
     let pre = c .before .before .before .before .before .before .pre in
-    (pre .0, pre .2, c .before .get .ensures .0 ∙ ap (λ (l : List ℕ). getD l (u) 0) (pre .1), c .get2 .ensures .0 ∙ ap (λ (l : List ℕ). getD l (u + 1) 0) (pre .1))
+    (pre .0, pre .2, block-from (pre .0) (pre .1) (pre .2) ga gb, block-to (pre .0) (pre .1) (pre .2) ga gb)
 
 enum-told : tie.Need-enum-told
 enum-told c = search needs

@@ -66,9 +66,9 @@ loop-less c = omega arith
 
 loop-again : tie.Need-loop-again Inv-loop μ-loop
 loop-again c =
+    let loop = c .before .before .before .before .before .loop in
     let i = c .before .before .before .before .before .loop .inv .1 in
     let x = c .before .before .before .before .before .before .before .before .before .args .x in
-    let loop = c .before .before .before .before .before .loop in
     let w = viewBy (c .before .before .before .before .before .before .before .before .before .args .n) (c .before .before .before .before .before .before .before .before .before .args .m) (c .before .before .before .before .before .before .before .before .before .args .bytes .now) (c .before .before .before .before .before .before .before .before .before .args .index .now) in
     let e = sym (ap turnOf (c .before .p .given .1)) ∙ c .before .before .before .ancestor-turn .ensures in
     let l = ancestor-inside w (x) (loop .u) e in

@@ -63,8 +63,8 @@ loop-less c = omega arith
 
 loop-again : tie.Need-loop-again Inv-loop μ-loop
 loop-again c =
-    let i = c .before .before .before .before .before .loop .inv .1 in
     let loop = c .before .before .before .before .before .loop in
+    let i = c .before .before .before .before .before .loop .inv .1 in
     let w = viewBy (c .before .before .before .before .before .before .before .before .before .args .n) (c .before .before .before .before .before .before .before .before .before .args .m) (c .before .before .before .before .before .before .before .before .before .args .bytes .now) (c .before .before .before .before .before .before .before .before .before .args .index .now) in
     let e = sym (ap (moveOf (loop .u)) (c .before .p .given .1)) ∙ c .before .before .before .head-move .ensures in
     let l = head-inside w (loop .u) e in

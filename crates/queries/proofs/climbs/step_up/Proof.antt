@@ -85,24 +85,24 @@ sub-t16 c = search needs
 
 returns-3 : tie.Need-returns-3
 returns-3 c =
-    let a = c .before .before .before .before .before .before .before .before .args .a in
-    let index = c .before .before .before .before .before .before .before .before .args .index .now in
-    let m = c .before .before .before .before .before .before .before .before .args .m in
-    let first-parent = c .before .before .before .before .before .first-parent in
     let n = c .before .before .before .before .before .before .before .before .args .n in
     let pre = c .before .before .before .before .before .before .before .before .pre in
+    let first-parent = c .before .before .before .before .before .first-parent in
+    let m = c .before .before .before .before .before .before .before .before .args .m in
+    let index = c .before .before .before .before .before .before .before .before .args .index .now in
+    let a = c .before .before .before .before .before .before .before .before .args .a in
     let (r, e) = block-bounds (pre .0 .sound) (pre .1) (pre .2) (pre .3) in let l = length-P (pre .0 .framed) in let z = pre .1 in
     let f = first-fits (sectionOf (n) (m) (index) 1) (a + c .before .before .before .before .before .before .before .before .args .u + 1) (c .before .before .before .before .before .before .before .before .args .b - a) (omega arith) (first-parent .ensures) in
     step-risen (pre .0 .sound) (pre .1) (pre .2) (pre .3) (sectionOf (n) (m) (index) 1) (first-parent .ensures) (c .before .before .before .before .if1 .left) (c .before .before .before .first-parent2 .ensures) (c .before .before .if2 .left) f (c .before .field .ensures .0) (c .if3 .taken)
 
 returns-4 : tie.Need-returns-4
 returns-4 c =
-    let a = c .before .before .before .before .before .before .before .before .args .a in
-    let index = c .before .before .before .before .before .before .before .before .args .index .now in
-    let m = c .before .before .before .before .before .before .before .before .args .m in
-    let first-parent = c .before .before .before .before .before .first-parent in
     let n = c .before .before .before .before .before .before .before .before .args .n in
     let pre = c .before .before .before .before .before .before .before .before .pre in
+    let first-parent = c .before .before .before .before .before .first-parent in
+    let m = c .before .before .before .before .before .before .before .before .args .m in
+    let index = c .before .before .before .before .before .before .before .before .args .index .now in
+    let a = c .before .before .before .before .before .before .before .before .args .a in
     let (r, e) = block-bounds (pre .0 .sound) (pre .1) (pre .2) (pre .3) in let l = length-P (pre .0 .framed) in let z = pre .1 in
     let f = first-fits (sectionOf (n) (m) (index) 1) (a + c .before .before .before .before .before .before .before .before .args .u + 1) (c .before .before .before .before .before .before .before .before .args .b - a) (omega arith) (first-parent .ensures) in
     step-stray (pre .0 .sound) (pre .1) (pre .2) (pre .3) (sectionOf (n) (m) (index) 1) (first-parent .ensures) (c .before .before .before .before .if1 .left) (c .before .before .before .first-parent2 .ensures) (c .before .before .if2 .left) f (c .before .field .ensures .0) (c .if3 .left)

@@ -1,7 +1,6 @@
 -- `single::child_in` meets its contract.
-use Rattle.queries.proofs.Laws.Singles.{no-first, too-few, child-there, child-stray, child-place, child-fits, child-field, as-many, positive}
-use Rattle.queries.proofs.Laws.Stepping.{block-bounds, below-end}
-use Rattle.queries.proofs.Laws.Marks.{length-E}
+use Rattle.queries.proofs.Laws.Singles.{no-first, few-told, child-room, there-told, stray-told, positive}
+use Rattle.queries.proofs.Laws.Stepping.{block-bounds}
 use Rattle.queries.specs.View.{viewBy}
 use native.Mathlib.Omega.{arith}
 use borrow.Author.Needs.{needs}
@@ -43,10 +42,7 @@ nth-child-requires c κs =
 returns-2 : tie.Need-returns-2
 returns-2 c =
     let pre = c .before .before .before .before .before .before .before .pre in
-    let j = c .before .before .before .before .before .before .before .args .j in
-    let index = c .before .before .before .before .before .before .before .args .index .now in
-    let p = child-place (index) (pre .0 .sound) (pre .1) (c .before .before .before .start-of .ensures) (c .before .before .start-of2 .ensures) (j) (c .before .nth-child .ensures) in
-    too-few (viewBy (c .before .before .before .before .before .before .before .args .n) (c .before .before .before .before .before .before .before .args .m) (c .before .before .before .before .before .before .before .args .bytes .now) (index)) (c .before .before .before .before .before .before .before .args .u) (j) (c .before .before .before .before .if1 .left) p (c .if2 .taken)
+    few-told (pre .0) (pre .1) (c .before .before .before .start-of .ensures) (c .before .before .start-of2 .ensures) (c .before .before .before .before .if1 .left) (c .before .nth-child .ensures) (c .if2 .taken)
 
 sub-field : tie.Need-sub-field
 sub-field c = search needs
@@ -54,53 +50,26 @@ sub-field c = search needs
 add-field : tie.Need-add-field
 add-field c =
     let pre = c .before .before .before .before .before .before .before .pre in
-    let start-of2 = c .before .before .start-of2 in
-    let start-of = c .before .before .before .start-of in
-    let (r, e) = block-bounds (pre .0 .sound) (pre .1) (start-of .ensures) (start-of2 .ensures) in
-    let f = child-fits (c .before .before .before .before .before .before .before .args .index .now) (pre .0 .sound) (pre .1) (start-of .ensures) (start-of2 .ensures) (c .before .before .before .before .before .before .before .args .j) (length-E (pre .0 .framed)) (c .before .nth-child .ensures) in
+    let l = child-room (pre .0) (pre .1) (c .before .before .before .start-of .ensures) (c .before .before .start-of2 .ensures) (c .before .before .before .before .if1 .left) (c .before .nth-child .ensures) (c .if2 .left) in
     let y = pre .0 .framed .m-fits in omega arith
 
 field-requires : tie.Need-field-requires
 field-requires c κs =
     let pre = c .before .before .before .before .before .before .before .pre in
-    let start-of2 = c .before .before .start-of2 in
-    let start-of = c .before .before .before .start-of in
-    let (r, e) = block-bounds (pre .0 .sound) (pre .1) (start-of .ensures) (start-of2 .ensures) in
-    let f = child-fits (c .before .before .before .before .before .before .before .args .index .now) (pre .0 .sound) (pre .1) (start-of .ensures) (start-of2 .ensures) (c .before .before .before .before .before .before .before .args .j) (length-E (pre .0 .framed)) (c .before .nth-child .ensures) in
-    (pre .0 .sound, below-end r e f (c .if2 .left))
+    (pre .0 .sound, child-room (pre .0) (pre .1) (c .before .before .before .start-of .ensures) (c .before .before .start-of2 .ensures) (c .before .before .before .before .if1 .left) (c .before .nth-child .ensures) (c .if2 .left))
 
 add-t17 : tie.Need-add-t17
 add-t17 c = search needs
 
 returns-3 : tie.Need-returns-3
 returns-3 c =
-    let nth-child = c .before .before .before .nth-child in
-    let start-of2 = c .before .before .before .before .start-of2 in
     let pre = c .before .before .before .before .before .before .before .before .before .pre in
-    let start-of = c .before .before .before .before .before .start-of in
-    let if2 = c .before .before .if2 in
-    let index = c .before .before .before .before .before .before .before .before .before .args .index .now in
-    let j = c .before .before .before .before .before .before .before .before .before .args .j in
-    let f = child-fits (index) (pre .0 .sound) (pre .1) (start-of .ensures) (start-of2 .ensures) (j) (length-E (pre .0 .framed)) (nth-child .ensures) in
-    let p = child-place (index) (pre .0 .sound) (pre .1) (start-of .ensures) (start-of2 .ensures) (j) (nth-child .ensures) in
-    let t = child-field (index) (pre .0 .sound) (pre .1) (start-of .ensures) (start-of2 .ensures) f (if2 .left) (c .before .field .ensures .0) in
-    let k = as-many (index) (pre .0 .sound) (pre .1) (start-of .ensures) (start-of2 .ensures) in
-    child-there (viewBy (c .before .before .before .before .before .before .before .before .before .args .n) (c .before .before .before .before .before .before .before .before .before .args .m) (c .before .before .before .before .before .before .before .before .before .args .bytes .now) (index)) (c .before .before .before .before .before .before .before .before .before .args .u) (j) (c .before .before .before .before .before .before .if1 .left) p (if2 .left) t (omega arith)
+    there-told (pre .0) (pre .1) (c .before .before .before .before .before .start-of .ensures) (c .before .before .before .before .start-of2 .ensures) (c .before .before .before .before .before .before .if1 .left) (c .before .before .before .nth-child .ensures) (c .before .before .if2 .left) (c .before .field .ensures .0) (c .if3 .taken)
 
 returns-4 : tie.Need-returns-4
 returns-4 c =
-    let nth-child = c .before .before .before .nth-child in
-    let start-of2 = c .before .before .before .before .start-of2 in
     let pre = c .before .before .before .before .before .before .before .before .before .pre in
-    let start-of = c .before .before .before .before .before .start-of in
-    let if2 = c .before .before .if2 in
-    let index = c .before .before .before .before .before .before .before .before .before .args .index .now in
-    let j = c .before .before .before .before .before .before .before .before .before .args .j in
-    let f = child-fits (index) (pre .0 .sound) (pre .1) (start-of .ensures) (start-of2 .ensures) (j) (length-E (pre .0 .framed)) (nth-child .ensures) in
-    let p = child-place (index) (pre .0 .sound) (pre .1) (start-of .ensures) (start-of2 .ensures) (j) (nth-child .ensures) in
-    let t = child-field (index) (pre .0 .sound) (pre .1) (start-of .ensures) (start-of2 .ensures) f (if2 .left) (c .before .field .ensures .0) in
-    let k = as-many (index) (pre .0 .sound) (pre .1) (start-of .ensures) (start-of2 .ensures) in
-    child-stray (viewBy (c .before .before .before .before .before .before .before .before .before .args .n) (c .before .before .before .before .before .before .before .before .before .args .m) (c .before .before .before .before .before .before .before .before .before .args .bytes .now) (index)) (c .before .before .before .before .before .before .before .before .before .args .u) (j) (c .before .before .before .before .before .before .if1 .left) p (if2 .left) t (omega arith)
+    stray-told (pre .0) (pre .1) (c .before .before .before .before .before .start-of .ensures) (c .before .before .before .before .start-of2 .ensures) (c .before .before .before .before .before .before .if1 .left) (c .before .before .before .nth-child .ensures) (c .before .before .if2 .left) (c .before .field .ensures .0) (c .if3 .left)
 
 pub child-in-spec : {M : Type 1} → statement M
 child-in-spec =
