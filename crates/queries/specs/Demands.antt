@@ -12,7 +12,7 @@ use Rattle.graph.specs.Graph.{Blocks, block, Place, position, twin, WellFormed}
 use Rattle.graph.specs.Search.{Forest, countUp, forest}
 use Rattle.graph.specs.Joined.{Chain, without, bridge, DoublyJoined}
 use Rattle.graph.specs.Forest.{number, vertexAt, parent as parentIn, head as headIn, Ancestor, children as childrenIn, childMark, parentMark}
-use Rattle.graph.specs.Theorems.{vertices-cover, wires-balance, child-marks, marks-at-pairs, vertex-of-number, number-of-vertex, ancestor-told, same-heads, bridge-told, bridge-both}
+use Rattle.graph.specs.Theorems.{vertices-cover, wires-balance, child-marks, marks-at-pairs, number-in-range, vertex-in-range, vertex-of-number, number-of-vertex, ancestor-told, same-heads, bridge-told, bridge-both}
 use Rattle.graph.specs.Laws.Places.Basics.{clash}
 use Rattle.graph.specs.Laws.Places.Pairing.{source, twin-place}
 use Rattle.graph.specs.Laws.Joined.Spanning.{Covers}
@@ -48,16 +48,6 @@ build-writes bytes work buffer e =
       is = sym (buffer-written (buildRules bytes work buffer) (indexOf (blocks bytes)) buffer k);
     }
 
-same-answer : {A : Type 0} {a b : A} → answered a ≡ answered b → a ≡ b
-same-answer e = cc
-
-passes : (b : Bool) → (b ≡ false → ⊥) → b ≡ true
-passes true h = refl
-passes false h = absurd (h refl)
-
-same-suc : {a b : ℕ} → suc a ≡ suc b → a ≡ b
-same-suc e = omega arith
-
 -- v is a terminal of the record
 pub record Terminal (bytes : List ℕ) (v : ℕ) : Type 0 where
   pub some : 0 < v
@@ -68,6 +58,18 @@ pub record HeadsTell (bytes : List ℕ) (u v : ℕ) (x y : Answer ℕ) : Type 0 
   pub first-head : x ≡ answered (suc (headIn (blocks bytes) (forest (blocks bytes)) (u - 1)))
   pub second-head : y ≡ answered (suc (headIn (blocks bytes) (forest (blocks bytes)) (v - 1)))
   pub equal-exactly : (x ≡ y) ↔ DoublyJoined (blocks bytes) (u - 1) (v - 1)
+
+-- ---- what the theorems below rest on
+
+same-answer : {A : Type 0} {a b : A} → answered a ≡ answered b → a ≡ b
+same-answer e = cc
+
+passes : (b : Bool) → (b ≡ false → ⊥) → b ≡ true
+passes true h = refl
+passes false h = absurd (h refl)
+
+same-suc : {a b : ℕ} → suc a ≡ suc b → a ≡ b
+same-suc e = omega arith
 
 module _ {bytes index : List ℕ} (w : Written bytes index) where
   abbrev g : Blocks
@@ -185,18 +187,24 @@ module _ {bytes index : List ℕ} (w : Written bytes index) where
   unfolding visited
   visited-told {i} t = passed t (visited-shown wf cover shown (i - 1) (vertex t))
 
-  pub visited-of-visit : {v i : ℕ} → Terminal bytes v → visit bytes index v ≡ answered i → Terminal bytes i → visited bytes index i ≡ answered v
-  visited-of-visit {v} {i} t e r =
+  pub visited-of-visit : {v i : ℕ} → Terminal bytes v → visit bytes index v ≡ answered i → visited bytes index i ≡ answered v
+  visited-of-visit {v} {i} t e =
       let q : suc (number F (v - 1)) ≡ i = same-answer (sym (visit-told t) ∙ e) in
+      let l = as-many (w .accepted) in
+      let k = number-in-range (wf .in-range) cover (v - 1) (vertex t) in
+      let r : Terminal bytes i = record { some = omega arith; upto = omega arith } in
       let z : i - 1 ≡ number F (v - 1) = omega arith in
       let y = vertex-of-number (wf .in-range) cover (v - 1) (vertex t) in
       let x = ap (vertexAt F) z in
       let s = t .some in
       visited-told r ∙ ap answered (omega arith)
 
-  pub visit-of-visited : {v i : ℕ} → Terminal bytes i → visited bytes index i ≡ answered v → Terminal bytes v → visit bytes index v ≡ answered i
-  visit-of-visited {v} {i} t e r =
+  pub visit-of-visited : {v i : ℕ} → Terminal bytes i → visited bytes index i ≡ answered v → visit bytes index v ≡ answered i
+  visit-of-visited {v} {i} t e =
       let q : suc (vertexAt F (i - 1)) ≡ v = same-answer (sym (visited-told t) ∙ e) in
+      let l = as-many (w .accepted) in
+      let k = vertex-in-range (wf .in-range) cover (i - 1) (vertex t) in
+      let r : Terminal bytes v = record { some = omega arith; upto = omega arith } in
       let z : v - 1 ≡ vertexAt F (i - 1) = omega arith in
       let y = number-of-vertex (wf .in-range) cover (i - 1) (vertex t) in
       let x = ap (number F) z in
