@@ -2,3 +2,4 @@
 pub mod Marks
 pub mod Shown
 pub mod Built
+pub mod Answered
