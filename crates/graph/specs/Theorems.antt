@@ -10,6 +10,7 @@ use Rattle.graph.specs.Graph.{Blocks, block, target, Place, position, pa
 use Rattle.graph.specs.Search.{Forest, PlaceTest, all, entered, search, countUp}
 use Rattle.graph.specs.Joined.{Chain, without, joined, bridge, DoublyJoined}
 use Rattle.graph.specs.Forest.{number, vertexAt, parent, rootOf, head, Ancestor, children, childMark, parentMark}
+use Rattle.graph.specs.Walk.{walk}
 use Rattle.graph.specs.Laws.Places.Pairing.{InRange, Balanced, both-ends}
 use Rattle.graph.specs.Laws.Tree.Entries.{entered-test, test-entered}
 use Rattle.graph.specs.Laws.Tree.Numbers.{vertex-number, number-vertex, vertex-entered, parent-first}
@@ -28,7 +29,7 @@ use Rattle.graph.specs.Laws.Bridges.Sweep.{Least, sweep-begin, sweep-roo
 use Rattle.graph.specs.Laws.Heads.Sections.{same-head}
 use Rattle.graph.specs.Laws.Loop.Arrays.{Cells, Kept, Same, Enters}
 use Rattle.graph.specs.Laws.Loop.Invariant.{Loop, loop-begin, loop-pass-start, loop-enter-start, loop-pass, loop-enter, loop-return, loop-end}
-use Rattle.graph.specs.Laws.Heads.Walks.{walk, HeadSteps, walk-head, AncestorSteps, walk-ancestor}
+use Rattle.graph.specs.Laws.Heads.Walks.{HeadSteps, walk-head, AncestorSteps, walk-ancestor}
 
 -- `forest g` takes the vertices in order: they cover
 pub vertices-cover : (g : Blocks) → Covers g (countUp 0 (length g))

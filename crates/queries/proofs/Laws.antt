@@ -1,7 +1,7 @@
 -- Laws about what the code computes.
+pub mod Ones
 pub mod Ordered
 pub mod Asking
-pub mod Ones
 pub mod Marks
 pub mod Stepping
 pub mod Climbing

@@ -8,7 +8,7 @@ use Rattle.graph.specs.Graph.{Blocks, mentions, position, pair}
 use Rattle.graph.specs.Search.{entered, arcs, run, search, countUp}
 use Rattle.graph.specs.Joined.{without, joined, bridge}
 use Rattle.graph.specs.Forest.{number, childMark, parentMark}
-use Rattle.graph.specs.Laws.Heads.Walks.{walk}
+use Rattle.graph.specs.Walk.{walk}
 use Rattle.record.specs.Record.{terminals, wires, usedBits, recordLength, unary, fieldsFrom, fields, zeros, parts, blocks, layOut, unaryOf, fieldBits, recordBits, recordOf}
 use Rattle.record.specs.Rules.{firstBroken, beginsWithZero, orderR, anyIn, anyFrom, spareSet, stray, doubled, oneSided, checkRules}
 use Rattle.record.specs.Answers.{Answer, refused, answered, outcome, otherwise}

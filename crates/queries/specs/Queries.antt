@@ -9,7 +9,7 @@ use lib.ListN.{length, getD}
 use Rattle.bits.specs.Bits.{count, select}
 use Rattle.graph.specs.Graph.{Blocks, target}
 use Rattle.graph.specs.Search.{countUp}
-use Rattle.graph.specs.Laws.Heads.Walks.{walk}
+use Rattle.graph.specs.Walk.{walk}
 use Rattle.record.specs.Answers.{Answer, refused, answered}
 use Rattle.queries.specs.View.{View}
 

@@ -16,10 +16,9 @@ use Rattle.record.specs.Starts.{startsOf}
 use Rattle.record.specs.Steps.{Sound}
 use Rattle.record.specs.Operations.{Accepted}
 use Rattle.record.specs.Laws.First.{neither}
-use Rattle.record.specs.Laws.Layout.{length-fields, starts-count}
-use Rattle.record.specs.Laws.RoundTrip.{flatten-blocks}
+use Rattle.record.specs.Laws.Layout.{starts-count}
 use Rattle.record.specs.Laws.Sound.{accepted-well-formed}
-use Rattle.record.proofs.Laws.Reading.Sounded.{sound-shaped}
+use Rattle.record.proofs.Laws.Reading.Sounded.{sound-shaped, sound-all}
 use Rattle.forest.specs.Steps.{cellsOf, Holding, Searching, Unvisited, Searched}
 use Rattle.forest.proofs.Laws.Entering.{Put, put-length, put-other, put-here}
 use Rattle.forest.proofs.Laws.Searched.{as-many, still-holding, start-busy, hand-busy}
@@ -84,7 +83,7 @@ module _ {bytes work next : List ℕ} {n m : ℕ} (o : Holding bytes work n m) (
       let g = blocks bytes in
       let l = as-many after in
       let c = count-length 0 (length g) in
-      let f : length (flatten g) ≡ 2 * m = ap length (flatten-blocks (sound-shaped (o .sound))) ∙ length-fields bytes ∙ ap (λ (x : ℕ). 2 * x) (sym (o .sound .is-m)) in
+      let f : length (flatten g) ≡ 2 * m = sound-all (o .sound) in
       let e : length g ≡ n - 0 = omega arith in
       record {
         holds = after;

@@ -15,9 +15,7 @@ use Rattle.record.specs.Answers.{refused, answered, tried, sizesOf}
 use Rattle.record.specs.Operations.{otherLength}
 use Rattle.record.specs.Steps.{Sound}
 use Rattle.record.specs.Laws.First.{first-broken, first-kept, append-kept, append-broken, check-numbered}
-use Rattle.record.specs.Laws.Layout.{length-blocks, length-fields}
-use Rattle.record.specs.Laws.RoundTrip.{flatten-blocks}
-use Rattle.record.proofs.Laws.Reading.Sounded.{sound-shaped}
+use Rattle.record.proofs.Laws.Reading.Sounded.{sound-vertices, sound-all}
 use Rattle.record.proofs.Laws.Telling.Told.{told, untold, told-back, buffer-kept, buffer-written}
 use Rattle.forest.specs.Index.{markBytes, numberBytes, indexOf, indexLength}
 use Rattle.forest.specs.Operations.{buildRules, build, built}
@@ -34,8 +32,8 @@ pub empty-index : {bytes index : List ℕ} {n m : ℕ} → Sound bytes n m → n
 unfolding flatten indexLength markBytes numberBytes
 empty-index {bytes} {index} {n} {m} s z e =
     let g : Blocks = blocks bytes in
-    let l : length g ≡ 0 = length-blocks (sound-shaped s) ∙ sym (s .is-n) ∙ z in
-    let f : length (flatten g) ≡ 2 * m = ap length (flatten-blocks (sound-shaped s)) ∙ length-fields bytes ∙ ap (λ (x : ℕ). 2 * x) (sym (s .is-m)) in
+    let l : length g ≡ 0 = sound-vertices s ∙ z in
+    let f : length (flatten g) ≡ 2 * m = sound-all s in
     let i = length-index g (forest g) m f in
     no-length index (none g l f e) ∙ sym (no-length (indexOf g) (i ∙ short g l f))
   where

@@ -12,9 +12,8 @@ use Rattle.graph.specs.Laws.Bridges.Stores.{Stored}
 use Rattle.graph.specs.Laws.Loop.Arrays.{Cells, Enters, Same}
 use Rattle.graph.specs.Laws.Loop.Invariant.{Loop, loop-room, loop-vertex, loop-busy, loop-busy-start, loop-pass-start, loop-enter-start, loop-pass, loop-enter, loop-return}
 use Rattle.record.specs.Record.{fields, blocks}
-use Rattle.record.specs.Laws.Layout.{length-blocks}
 use Rattle.record.specs.Laws.Sound.{accepted-well-formed}
-use Rattle.record.proofs.Laws.Reading.Sounded.{sound-shaped}
+use Rattle.record.proofs.Laws.Reading.Sounded.{sound-vertices}
 use Rattle.forest.specs.Steps.{cellsOf, Holding, Searching, StartsStay}
 use Rattle.forest.proofs.Laws.Rows.{row-rises, row-ends, row-size, row-neighbour}
 use Rattle.forest.proofs.Laws.Entering.{Put, put-length, put-other, put-here}
@@ -31,7 +30,7 @@ enters-after s e = record {
 
 module _ {bytes work : List ℕ} {n m : ℕ} (o : Holding bytes work n m) where
   pub as-many : length (blocks bytes) ≡ n
-  as-many = length-blocks (sound-shaped (o .sound)) ∙ sym (o .sound .is-n)
+  as-many = sound-vertices (o .sound)
 
   pub still-holding : {next : List ℕ} → StartsStay n work next → length next ≡ length work → Holding bytes next n m
   still-holding s l = let z = o .size in record {

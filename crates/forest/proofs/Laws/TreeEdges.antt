@@ -23,10 +23,8 @@ use Rattle.graph.specs.Laws.Edges.Marks.{Back, child-mark, child-mark-entry, ba
 use Rattle.record.specs.Record.{unary, blocks}
 use Rattle.record.specs.Starts.{startsOf}
 use Rattle.record.specs.Steps.{Sound}
-use Rattle.record.specs.Laws.Layout.{length-fields, length-blocks}
 use Rattle.record.specs.Laws.Parts.{start-first}
-use Rattle.record.specs.Laws.RoundTrip.{flatten-blocks}
-use Rattle.record.proofs.Laws.Reading.Sounded.{sound-shaped}
+use Rattle.record.proofs.Laws.Reading.Sounded.{sound-shaped, sound-vertices, sound-all}
 use Rattle.record.proofs.Laws.Reading.Spans.{span-rises, span-size}
 use Rattle.forest.specs.Steps.{Holding}
 use Rattle.forest.specs.Lows.{Passed, Lifting}
@@ -43,7 +41,7 @@ pub start-block : {bytes : List ℕ} {n m : ℕ} → Sound bytes n m → (u : �
 unfolding flatten
 start-block {bytes} o zero h = start-first (unary bytes) (sound-shaped o .begins)
 start-block {bytes} {n} o (suc u) h =
-    let l : length (blocks bytes) ≡ n = length-blocks (sound-shaped o) ∙ sym (o .is-n) in
+    let l = sound-vertices o in
     let i = start-block o u (omega arith) in
     let e : getD (startsOf (unary bytes)) (u + 1) 0 ≡ getD (startsOf (unary bytes)) (suc u) 0 = ap (λ (x : ℕ). getD (startsOf (unary bytes)) x 0) (add-one u) in
     let s = start-more (blocks bytes) u (omega arith) in
@@ -53,7 +51,7 @@ start-block {bytes} {n} o (suc u) h =
 
 module _ {bytes work : List ℕ} {n m : ℕ} (o : Holding bytes work n m) where
   pub as-many-places : length (flatten (blocks bytes)) ≡ 2 * m
-  as-many-places = ap length (flatten-blocks (sound-shaped (o .sound))) ∙ length-fields bytes ∙ ap (λ (x : ℕ). 2 * x) (sym (o .sound .is-m))
+  as-many-places = sound-all (o .sound)
 
   -- the work slice begins with the starts
   start-cell : (u : ℕ) → u ≤ n → getD work u 0 ≡ blockStart (blocks bytes) u

@@ -22,6 +22,7 @@ use Rattle.forest.specs.Index.{indexLength}
 use Rattle.queries.specs.View.{View, viewBy, viewOf}
 use Rattle.queries.specs.Operations.{orderQ}
 use Rattle.queries.specs.Steps.{Beside}
+use Rattle.queries.proofs.Laws.Ones.{positive}
 use Rattle.queries.specs.Laws.Built.{order-numbered-q}
 
 -- order Q is kept for v, and n and m are the record's
@@ -105,8 +106,4 @@ module _ {bytes index : List ℕ} {u n m : ℕ} (q : Asked bytes index u n m) (v
 
 -- its vertex
 pub inner : {v n : ℕ} → (v ≡ 0 → ⊥) → v ≤ n → v - 1 < n
-inner {v} {n} z h = go (ℕ-discrete v 0)
-  where
-    go : Dec (v ≡ 0) → v - 1 < n
-    go (yes e) = absurd (z e)
-    go (no d) = omega arith
+inner z h = let q = positive z in omega arith

@@ -13,13 +13,14 @@ use Rattle.bits.specs.Bits.{count, select}
 use Rattle.bits.specs.Laws.Select.{select-bounds}
 use Rattle.graph.specs.Graph.{Blocks, target}
 use Rattle.graph.specs.Laws.Places.Basics.{Told, pass, fail, told}
-use Rattle.graph.specs.Laws.Heads.Walks.{walk, walk-stop, walk-up, walk-late}
+use Rattle.graph.specs.Walk.{walk}
+use Rattle.graph.specs.Laws.Heads.Walks.{walk-stop, walk-up, walk-late}
 use Rattle.record.specs.Record.{unary, blocks}
 use Rattle.record.specs.Starts.{startsOf}
 use Rattle.record.specs.Answers.{refused, answered}
 use Rattle.record.specs.Steps.{Sound}
-use Rattle.record.specs.Laws.Layout.{length-blocks, starts-count}
-use Rattle.record.proofs.Laws.Reading.Sounded.{sound-shaped}
+use Rattle.record.specs.Laws.Layout.{starts-count}
+use Rattle.record.proofs.Laws.Reading.Sounded.{sound-shaped, sound-vertices}
 use Rattle.queries.specs.View.{View, viewBy, blockMarks, sectionOf}
 use Rattle.queries.specs.Queries.{Step, stuck, top, rise, stepBy, stepUp, headBy, headNext, headOf, ancestorBy, ancestorNext, ancestorOf}
 use Rattle.queries.specs.Steps.{Beside}
@@ -87,7 +88,7 @@ risen g u (suc zero) i h = (refl, one-risen g u i (told (ltb (target g u i) (len
 risen g u (suc (suc c)) i h = let z = ap tag h in absurd (omega arith)
 
 module _ {bytes : List ℕ} {n m u a b : ℕ} (o : Sound bytes n m) (h : u < n) (ea : a ≡ getD (startsOf (unary bytes)) u 0) (eb : b ≡ getD (startsOf (unary bytes)) (u + 1) 0)
-    (s t : List Bool) (l : length s ≡ n + 2 * m) (k : length t ≡ n + 2 * m) {j p : ℕ} (e : rise j p ≡ stepUp (blocks bytes) (blockMarks bytes s) u) where
+    (s : List Bool) (l : length s ≡ n + 2 * m) {j p : ℕ} (e : rise j p ≡ stepUp (blocks bytes) (blockMarks bytes s) u) where
   rise-at : j < b - a
   unfolding stepUp
   rise-at =
@@ -102,13 +103,12 @@ module _ {bytes : List ℕ} {n m u a b : ℕ} (o : Sound bytes n m) (h : u < n) 
   unfolding stepUp
   rise-to =
       let i : Inside (blocks bytes) (rise j p) = subst (Inside (blocks bytes)) (sym e) (step-inside (blocks bytes) u (count (blockMarks bytes s u)) (select (blockMarks bytes s u) 1 - 1)) in
-      let k = length-blocks (sound-shaped o) in
-      let z = o .is-n in
+      let k = sound-vertices o in
       omega arith
 
   -- the bit of another section at that position
-  rise-bit : getD t (a + u + 1 + j) false ≡ getD (blockMarks bytes t u) j false
-  rise-bit =
+  rise-bit : (t : List Bool) → length t ≡ n + 2 * m → getD t (a + u + 1 + j) false ≡ getD (blockMarks bytes t u) j false
+  rise-bit t k =
       let (q, r) = block-bounds o h ea eb in
       sym (ap (λ (x : List Bool). getD x j false) (block-marks o h ea eb t) ∙ part-bit t (a + u + 1) (b - a) (omega arith) j rise-at)
 
@@ -147,12 +147,12 @@ module _ {bytes index starts : List ℕ} {n m u a b : ℕ} (o : Beside bytes ind
     pub rise-room : a + u + 1 + j < n + 2 * m
     rise-room =
         let (q, r) = block-bounds (o .sound) h block-from block-to in
-        let l = rise-at (o .sound) h block-from block-to (sectionOf n m index 1) (sectionOf n m index 2) (length-P (o .framed)) (length-B (o .framed)) e in
+        let l = rise-at (o .sound) h block-from block-to (sectionOf n m index 1) (length-P (o .framed)) e in
         omega arith
 
     module _ {on : Bool} (is : on ≡ getD (sectionOf n m index 2) (a + u + 1 + j) false) where
       the-bit : on ≡ getD (blockMarks bytes (sectionOf n m index 2) u) j false
-      the-bit = is ∙ rise-bit (o .sound) h block-from block-to (sectionOf n m index 1) (sectionOf n m index 2) (length-P (o .framed)) (length-B (o .framed)) e
+      the-bit = is ∙ rise-bit (o .sound) h block-from block-to (sectionOf n m index 1) (length-P (o .framed)) e (sectionOf n m index 2) (length-B (o .framed))
 
       pub head-stops : on ≡ true → inl (answered (suc u)) ≡ headNext (viewBy n m bytes index) u
       head-stops t = head-here (viewBy n m bytes index) u j p (sym the-bit ∙ t) ∙ ap (headBy (viewBy n m bytes index) u) e
@@ -186,9 +186,6 @@ module _ (w : View) (x u : ℕ) where
 -- ---- the begin of a climb, for a record that passed order R
 
 module _ {bytes : List ℕ} {n m : ℕ} (o : Sound bytes n m) where
-  pub as-many : length (blocks bytes) ≡ n
-  as-many = length-blocks (sound-shaped o) ∙ sym (o .is-n)
-
   -- a start is read
   pub starts-long : {starts : List ℕ} → starts ≡ startsOf (unary bytes) → length starts ≡ n + 1
   starts-long e = ap length e ∙ starts-count (sound-shaped o) ∙ ap (λ (x : ℕ). x + 1) (sym (o .is-n))
@@ -196,8 +193,8 @@ module _ {bytes : List ℕ} {n m : ℕ} (o : Sound bytes n m) where
   module _ (index : List ℕ) (v : ℕ) where
     pub head-begin : walk (headNext (viewBy n m bytes index)) (refused 12) (n - 1) v ≡ headOf (viewBy n m bytes index) v
     unfolding headOf
-    head-begin = ap (λ (x : ℕ). walk (headNext (viewBy n m bytes index)) (refused 12) (x - 1) v) (sym as-many)
+    head-begin = ap (λ (x : ℕ). walk (headNext (viewBy n m bytes index)) (refused 12) (x - 1) v) (sym (sound-vertices o))
 
     pub ancestor-begin : (x : ℕ) → walk (ancestorNext (viewBy n m bytes index) x) (refused 12) (n - 1) v ≡ ancestorOf (viewBy n m bytes index) x v
     unfolding ancestorOf
-    ancestor-begin x = ap (λ (k : ℕ). walk (ancestorNext (viewBy n m bytes index) x) (refused 12) (k - 1) v) (sym as-many)
+    ancestor-begin x = ap (λ (k : ℕ). walk (ancestorNext (viewBy n m bytes index) x) (refused 12) (k - 1) v) (sym (sound-vertices o))

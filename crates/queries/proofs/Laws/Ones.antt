@@ -12,6 +12,10 @@ use Rattle.bits.specs.Bits.{bit, count, rank, select}
 use Rattle.bits.specs.Laws.Rank.{count-append, count-cons}
 use Rattle.bits.specs.Laws.Select.{select-none, select-rank}
 
+-- a number that is not 0
+pub positive : {j : ℕ} → (j ≡ 0 → ⊥) → 1 ≤ j
+positive {j} z = elim (ℕ-discrete j 0) [ yes e ↦ absurd (z e) | no d ↦ omega arith ]
+
 -- k bits from bit `from` on
 module _ (s : List Bool) (from k : ℕ) (h : from + k ≤ length s) where
   pub part-length : length (take k (drop from s)) ≡ k

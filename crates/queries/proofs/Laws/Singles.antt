@@ -4,7 +4,7 @@ use mathlib.Core.Bool.{Bool, true, false, _||_}
 use mathlib.Core.List.{List, [], _∷_, map}
 use Prim.Native.Nat.{ℕ, _+_, _-_, _*_, _≤_, _<_}
 use native.Mathlib.Numerals.{add-one}
-use native.Mathlib.Decide.{ℕ-discrete, decLt}
+use native.Mathlib.Decide.{decLt}
 use native.Mathlib.Omega.{arith}
 use borrow.Author.Tests.{eq-eqb, ne-eqb, lt-ltb, le-ltb}
 use lib.Dec.{eqb, ltb}
@@ -19,13 +19,12 @@ use Rattle.record.specs.Starts.{startsOf}
 use Rattle.record.specs.Answers.{refused, answered, triedThen}
 use Rattle.record.specs.Steps.{Sound}
 use Rattle.record.specs.Laws.First.{first-broken, first-kept}
-use Rattle.record.specs.Laws.Layout.{length-blocks}
-use Rattle.record.proofs.Laws.Reading.Sounded.{sound-shaped}
+use Rattle.record.proofs.Laws.Reading.Sounded.{sound-vertices}
 use Rattle.record.proofs.Laws.Telling.Told.{then-told, then-untold}
 use Rattle.forest.specs.Laws.Sections.{length-each, each-at}
 use Rattle.queries.specs.View.{View, viewBy, blockMarks, sectionOf}
 use Rattle.queries.specs.Queries.{childCount, vertexOr, childOf, visitOf, found, visitedOf}
-use Rattle.queries.proofs.Laws.Ones.{part-length, count-next, found-here, found-none}
+use Rattle.queries.proofs.Laws.Ones.{positive, part-length, count-next, found-here, found-none}
 use Rattle.queries.specs.Steps.{Beside}
 use Rattle.queries.proofs.Laws.Marks.{length-E}
 use Rattle.queries.proofs.Laws.Stepping.{block-bounds, block-marks, block-neighbour, below-end}
@@ -167,25 +166,10 @@ module _ {bytes index : List ℕ} {n m u a b j p : ℕ} (o : Beside bytes index 
 
     module _ {t : ℕ} (et : t ≡ getD (fields bytes) (a + (p - 1)) 0) where
       leads : target (blocks bytes) u (p - 1) ≡ t
-      leads = block-neighbour (o .sound) h ea eb (p - 1) (go (ℕ-discrete p 0)) ∙ sym et
-        where
-          go : Dec (p ≡ 0) → p - 1 < b - a
-          go (yes q) = absurd (some q)
-          go (no q) = let f = fits in omega arith
-
-      many : length (blocks bytes) ≡ n
-      many = length-blocks (sound-shaped (o .sound)) ∙ sym (o .sound .is-n)
+      leads = block-neighbour (o .sound) h ea eb (p - 1) (let f = fits in let q = positive some in omega arith) ∙ sym et
 
       pub there-told : t < n → answered (t + 1) ≡ triedThen ((13, eqb j 0 || ltb (childCount view u) j) ∷ []) (childOf view u j)
-      there-told l = child-there view u j nz place some leads (let k = many in omega arith)
+      there-told l = child-there view u j nz place some leads (let k = sound-vertices (o .sound) in omega arith)
 
       pub stray-told : n ≤ t → refused 12 ≡ triedThen ((13, eqb j 0 || ltb (childCount view u) j) ∷ []) (childOf view u j)
-      stray-told l = child-stray view u j nz place some leads (let k = many in omega arith)
-
--- a number that is not 0
-pub positive : {j : ℕ} → (j ≡ 0 → ⊥) → 1 ≤ j
-positive {j} z = go (ℕ-discrete j 0)
-  where
-    go : Dec (j ≡ 0) → 1 ≤ j
-    go (yes e) = absurd (z e)
-    go (no d) = omega arith
+      stray-told l = child-stray view u j nz place some leads (let k = sound-vertices (o .sound) in omega arith)

@@ -3,7 +3,7 @@ use mathlib.Core.Path.{_≡_, refl, sym, ap, ap₂, _∙_}
 use mathlib.Core.Bool.{Bool}
 use mathlib.Core.List.{List, [], _∷_}
 use Prim.Native.Nat.{ℕ, zero, suc, _+_, _-_, _*_, _≤_, _<_}
-use native.Mathlib.Decide.{decLt, ℕ-discrete}
+use native.Mathlib.Decide.{decLt}
 use native.Mathlib.Omega.{arith}
 use borrow.Author.Tests.{lt-ltb, le-ltb}
 use lib.ListN.{length, take, drop, getD, length-drop}
@@ -15,12 +15,11 @@ use Rattle.graph.specs.Graph.{Blocks, block, target}
 use Rattle.record.specs.Record.{unary, fields, blocks}
 use Rattle.record.specs.Starts.{startsOf}
 use Rattle.record.specs.Steps.{Sound}
-use Rattle.record.specs.Laws.Layout.{length-blocks}
-use Rattle.record.proofs.Laws.Reading.Sounded.{sound-shaped}
+use Rattle.record.proofs.Laws.Reading.Sounded.{sound-vertices}
 use Rattle.record.proofs.Laws.Reading.Spans.{span-rises, span-ends, span-size, span-one, span-neighbour}
 use Rattle.queries.specs.View.{blockMarks}
 use Rattle.queries.specs.Queries.{stuck, top, rise, stepBy, stepUp}
-use Rattle.queries.proofs.Laws.Ones.{part-length}
+use Rattle.queries.proofs.Laws.Ones.{positive, part-length}
 
 -- ---- the first one of a list of bits, and those after it
 
@@ -95,9 +94,6 @@ module _ {bytes : List ℕ} {n m u a b : ℕ} (o : Sound bytes n m) (h : u < n) 
   pub block-neighbour : (j : ℕ) → j < b - a → target (blocks bytes) u j ≡ getD (fields bytes) (a + j) 0
   block-neighbour j k = span-neighbour o h j (omega arith) ∙ ap (λ (x : ℕ). getD (fields bytes) (x + j) 0) (sym ea)
 
-  as-many : length (blocks bytes) ≡ n
-  as-many = length-blocks (sound-shaped o) ∙ sym (o .is-n)
-
   module _ (s : List Bool) {p : ℕ} (ep : p ≡ select (take (b - a) (drop (a + u + 1) s)) 1) where
     marks : List Bool
     marks = blockMarks bytes s u
@@ -142,14 +138,14 @@ module _ {bytes : List ℕ} {n m u a b : ℕ} (o : Sound bytes n m) (h : u < n) 
           pub step-risen : t < n → rise (p - 1) t ≡ stepUp (blocks bytes) (blockMarks bytes s) u
           unfolding stepUp marks
           step-risen l =
-              let k = as-many in
+              let k = sound-vertices o in
               let e = leads in
               ap (λ (x : ℕ). rise (p - 1) x) (sym leads) ∙ step-rises (blocks bytes) u (p - 1) single (omega arith) ∙ ap (stepBy (blocks bytes) u (count marks)) at
 
           pub step-stray : n ≤ t → stuck ≡ stepUp (blocks bytes) (blockMarks bytes s) u
           unfolding stepUp marks
           step-stray l =
-              let k = as-many in
+              let k = sound-vertices o in
               let e = leads in
               step-strays (blocks bytes) u (p - 1) single (omega arith) ∙ ap (stepBy (blocks bytes) u (count marks)) at
 
@@ -159,8 +155,4 @@ first-fits s from k h e = let l = part-length s from k h in let b = select-le (t
 
 -- so its field is one of the record's
 pub below-end : {a b p e : ℕ} → a ≤ b → b ≤ e → p ≤ b - a → (p ≡ 0 → ⊥) → a + (p - 1) < e
-below-end {a} {b} {p} {e} r l f z = go (ℕ-discrete p 0)
-  where
-    go : Dec (p ≡ 0) → a + (p - 1) < e
-    go (yes q) = absurd (z q)
-    go (no q) = omega arith
+below-end r l f z = let q = positive z in omega arith

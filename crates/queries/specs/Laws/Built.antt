@@ -16,10 +16,8 @@ use Rattle.record.specs.Rules.{orderR, checkRules}
 use Rattle.record.specs.Operations.{Accepted}
 use Rattle.record.specs.Steps.{Sound}
 use Rattle.record.specs.Laws.First.{Numbered, none, rule, both-kept, order-numbered}
-use Rattle.record.specs.Laws.Layout.{length-blocks, length-fields}
-use Rattle.record.specs.Laws.RoundTrip.{flatten-blocks}
 use Rattle.record.specs.Laws.Sound.{accepted-well-formed}
-use Rattle.record.proofs.Laws.Reading.Sounded.{sound-of, sound-shaped}
+use Rattle.record.proofs.Laws.Reading.Sounded.{sound-of, sound-vertices, sound-all}
 use Rattle.record.proofs.Laws.Reading.Spans.{span-one}
 use Rattle.forest.specs.Index.{section, sectionE, sectionP, sectionB, indexOf, markBytes}
 use Rattle.forest.specs.Laws.Sections.{placeBit}
@@ -40,10 +38,10 @@ module _ {bytes : List ℕ} (a : Accepted bytes) where
   accepted-sound = sound-of bytes (both-kept (order-numbered bytes) _ (a .unbroken) .0) refl refl
 
   pub as-many : length (blocks bytes) ≡ terminals bytes
-  as-many = length-blocks (sound-shaped accepted-sound)
+  as-many = sound-vertices accepted-sound
 
   pub as-many-places : length (flatten (blocks bytes)) ≡ 2 * wires bytes
-  as-many-places = ap length (flatten-blocks (sound-shaped accepted-sound)) ∙ length-fields bytes
+  as-many-places = sound-all accepted-sound
 
   same-bytes : markBytes (terminals bytes) (wires bytes) ≡ markBytes (length (blocks bytes)) (wires bytes)
   same-bytes = ap (λ (x : ℕ). markBytes x (wires bytes)) (sym as-many)

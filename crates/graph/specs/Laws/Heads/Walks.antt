@@ -12,6 +12,7 @@ use Rattle.graph.specs.Graph.{Blocks, block, target, pair, twin, WellFor
 use Rattle.graph.specs.Search.{Goal, root, via, aim, Forest}
 use Rattle.graph.specs.Joined.{bridge}
 use Rattle.graph.specs.Forest.{number, parent, head, parentMark}
+use Rattle.graph.specs.Walk.{walk}
 use Rattle.graph.specs.Laws.Places.Basics.{Told, pass, fail, told, or-left}
 use Rattle.graph.specs.Laws.Places.Pairing.{Balanced, both-ends, pair-place, twin-place}
 use Rattle.graph.specs.Laws.Tree.Entries.{Entered, entry-entered, Entry, as-root, as-child, entry, Built, parent-entered}
@@ -22,11 +23,6 @@ use Rattle.graph.specs.Laws.Joined.Spanning.{Spanning, tree-place, numbe
 use Rattle.graph.specs.Laws.Edges.Marks.{back, back-place, back-marked}
 use Rattle.graph.specs.Laws.Bridges.Crossings.{bridge-twin}
 use Rattle.graph.specs.Laws.Heads.Sections.{head-root, head-bridge, head-parent}
-
--- from v: an answer, or a step up to the next vertex; after k steps a further one gives `late`
-unfoldable pub walk : {A : Type 0} → (ℕ → A ⊎ ℕ) → A → ℕ → ℕ → A
-walk next late zero v = elim (next v) [ inl a ↦ a | inr u ↦ late ]
-walk next late (suc k) v = elim (next v) [ inl a ↦ a | inr u ↦ walk next late k u ]
 
 -- steps that go up the forest and stop with the value, which is the parent's where they go on
 record Follows {A : Type 0} (F : Forest) (next : ℕ → A ⊎ ℕ) (value : ℕ → A) : Type 0 where

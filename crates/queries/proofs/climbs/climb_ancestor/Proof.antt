@@ -1,10 +1,11 @@
 -- `climbs::climb_ancestor` meets its contract.
-use Rattle.queries.proofs.Laws.Climbing.{climb-stop, climb-on, climb-late, ancestor-inside, as-many, ancestor-begin}
+use Rattle.record.proofs.Laws.Reading.Sounded.{sound-vertices}
+use Rattle.queries.proofs.Laws.Climbing.{climb-stop, climb-on, climb-late, ancestor-inside, ancestor-begin}
 use Rattle.queries.specs.Steps.{turnOf}
 use Rattle.queries.specs.Queries.{ancestorNext, ancestorOf}
 use Rattle.queries.specs.View.{viewBy}
 use Rattle.record.specs.Answers.{refused}
-use Rattle.graph.specs.Laws.Heads.Walks.{walk}
+use Rattle.graph.specs.Walk.{walk}
 use borrow.Author.Needs.{needs}
 use native.Mathlib.Omega.{arith}
 use Prim.Native.Nat.{_<_}
@@ -72,7 +73,7 @@ loop-again c =
     let w = viewBy (c .before .before .before .before .before .before .before .before .before .args .n) (c .before .before .before .before .before .before .before .before .before .args .m) (c .before .before .before .before .before .before .before .before .before .args .bytes .now) (c .before .before .before .before .before .before .before .before .before .args .index .now) in
     let e = sym (ap turnOf (c .before .p .given .1)) ∙ c .before .before .before .ancestor-turn .ensures in
     let l = ancestor-inside w (x) (loop .u) e in
-    let k = as-many (c .before .before .before .before .before .before .before .before .before .pre .0 .sound) in
+    let k = sound-vertices (c .before .before .before .before .before .before .before .before .before .pre .0 .sound) in
     (omega arith, omega arith, climb-on (ancestorNext w (x)) (refused 12) (loop .left) (loop .u) (c .before .before .before .before .loop-test .taken) e (loop .inv .2))
 
 ancestor-turn-requires-2 : tie.Need-ancestor-turn-requires-2 Inv-loop μ-loop

@@ -1,11 +1,12 @@
 -- `climbs::climb_head` meets its contract.
-use Rattle.queries.proofs.Laws.Climbing.{climb-stop, climb-on, climb-late, head-inside, as-many, head-begin}
+use Rattle.record.proofs.Laws.Reading.Sounded.{sound-vertices}
+use Rattle.queries.proofs.Laws.Climbing.{climb-stop, climb-on, climb-late, head-inside, head-begin}
 use Rattle.queries.specs.Steps.{moveOf}
 use Rattle.queries.specs.Queries.{headNext, headOf}
 use Rattle.queries.specs.View.{viewBy}
 use native.Mathlib.Numerals.{add-one}
 use Rattle.record.specs.Answers.{refused, answered}
-use Rattle.graph.specs.Laws.Heads.Walks.{walk}
+use Rattle.graph.specs.Walk.{walk}
 use borrow.Author.Needs.{needs}
 use native.Mathlib.Omega.{arith}
 use Prim.Native.Nat.{_<_}
@@ -68,7 +69,7 @@ loop-again c =
     let w = viewBy (c .before .before .before .before .before .before .before .before .before .args .n) (c .before .before .before .before .before .before .before .before .before .args .m) (c .before .before .before .before .before .before .before .before .before .args .bytes .now) (c .before .before .before .before .before .before .before .before .before .args .index .now) in
     let e = sym (ap (moveOf (loop .u)) (c .before .p .given .1)) ∙ c .before .before .before .head-move .ensures in
     let l = head-inside w (loop .u) e in
-    let k = as-many (c .before .before .before .before .before .before .before .before .before .pre .0 .sound) in
+    let k = sound-vertices (c .before .before .before .before .before .before .before .before .before .pre .0 .sound) in
     (omega arith, omega arith, climb-on (headNext w) (refused 12) (loop .left) (loop .u) (c .before .before .before .before .loop-test .taken) e (loop .inv .2))
 
 head-move-requires-2 : tie.Need-head-move-requires-2 Inv-loop μ-loop

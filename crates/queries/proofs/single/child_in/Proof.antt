@@ -1,5 +1,6 @@
 -- `single::child_in` meets its contract.
-use Rattle.queries.proofs.Laws.Singles.{no-first, few-told, child-room, there-told, stray-told, positive}
+use Rattle.queries.proofs.Laws.Singles.{no-first, few-told, child-room, there-told, stray-told}
+use Rattle.queries.proofs.Laws.Ones.{positive}
 use Rattle.queries.proofs.Laws.Stepping.{block-bounds}
 use Rattle.queries.specs.View.{viewBy}
 use native.Mathlib.Omega.{arith}

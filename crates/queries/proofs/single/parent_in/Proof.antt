@@ -39,7 +39,7 @@ add-t13 c =
     let m = c .before .before .before .before .before .before .before .before .before .args .m in
     let n = c .before .before .before .before .before .before .before .before .before .args .n in
     let index = c .before .before .before .before .before .before .before .before .before .args .index .now in
-    let t = rise-to (pre .0 .sound) (pre .1) (c .before .before .before .before .before .before .start-of .ensures) (c .before .before .before .before .before .start-of2 .ensures) (sectionOf (n) (m) (index) 1) (sectionOf (n) (m) (index) 1) (length-P (pre .0 .framed)) (length-P (pre .0 .framed)) (sym (ap stepOf (c .before .before .r .given .1)) ∙ c .before .before .before .before .step-up .ensures) in
+    let t = rise-to (pre .0 .sound) (pre .1) (c .before .before .before .before .before .before .start-of .ensures) (c .before .before .before .before .before .start-of2 .ensures) (sectionOf (n) (m) (index) 1) (length-P (pre .0 .framed)) (sym (ap stepOf (c .before .before .r .given .1)) ∙ c .before .before .before .before .step-up .ensures) in
     let f = pre .0 .framed .n-fits in omega arith
 
 returns : tie.Need-returns

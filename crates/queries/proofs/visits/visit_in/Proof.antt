@@ -1,6 +1,6 @@
 -- `visits::visit_in` meets its contract.
+use Rattle.record.proofs.Laws.Reading.Sounded.{sound-vertices}
 use Rattle.queries.proofs.Laws.Singles.{visit-told, visit-stray}
-use Rattle.queries.proofs.Laws.Climbing.{as-many}
 use Rattle.queries.specs.View.{viewBy}
 use native.Mathlib.Omega.{arith}
 use borrow.Author.Needs.{needs}
@@ -15,12 +15,12 @@ add-t8 c = search needs
 
 returns : tie.Need-returns
 returns c =
-    let k = as-many (c .before .before .before .before .pre .0 .sound) in
+    let k = sound-vertices (c .before .before .before .before .pre .0 .sound) in
     visit-told (viewBy (c .before .before .before .before .args .n) (c .before .before .before .before .args .m) (c .before .before .before .before .args .bytes .now) (c .before .before .before .before .args .index .now)) {u = c .before .before .before .before .args .u} (c .before .stored .ensures .0) (omega arith)
 
 returns-2 : tie.Need-returns-2
 returns-2 c =
-    let k = as-many (c .before .before .before .before .pre .0 .sound) in
+    let k = sound-vertices (c .before .before .before .before .pre .0 .sound) in
     visit-stray (viewBy (c .before .before .before .before .args .n) (c .before .before .before .before .args .m) (c .before .before .before .before .args .bytes .now) (c .before .before .before .before .args .index .now)) {u = c .before .before .before .before .args .u} (c .before .stored .ensures .0) (omega arith)
 
 pub visit-in-spec : {M : Type 1} → statement M

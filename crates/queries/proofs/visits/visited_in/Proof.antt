@@ -1,6 +1,6 @@
 -- `visits::visited_in` meets its contract.
+use Rattle.record.proofs.Laws.Reading.Sounded.{sound-vertices}
 use Rattle.queries.proofs.Laws.Singles.{Unmet, unmet-begin, unmet-more, met, unmet-end}
-use Rattle.queries.proofs.Laws.Climbing.{as-many}
 use Rattle.queries.specs.View.{viewBy}
 use native.Mathlib.Omega.{arith}
 use Prim.Native.Nat.{_-_}
@@ -25,7 +25,7 @@ add-t9 c = let f = c .before .before .before .before .before .before .pre .frame
 returns : tie.Need-returns Inv-loop μ-loop
 returns c =
     let loop = c .before .before .before .loop in
-    let k = as-many (c .before .before .before .before .before .before .pre .sound) in
+    let k = sound-vertices (c .before .before .before .before .before .before .pre .sound) in
     met (viewBy (c .before .before .before .before .before .before .args .n) (c .before .before .before .before .before .before .args .m) (c .before .before .before .before .before .before .args .bytes .now) (c .before .before .before .before .before .before .args .index .now)) (c .before .before .before .before .before .before .args .k) {u = loop .u} (omega arith) (c .before .stored .ensures .0) (loop .inv) (c .if1 .taken)
 
 add-u : tie.Need-add-u Inv-loop μ-loop
@@ -37,12 +37,12 @@ loop-less c = omega arith
 loop-again : tie.Need-loop-again Inv-loop μ-loop
 loop-again c =
     let loop = c .before .before .before .loop in
-    let k = as-many (c .before .before .before .before .before .before .pre .sound) in
+    let k = sound-vertices (c .before .before .before .before .before .before .pre .sound) in
     unmet-more (viewBy (c .before .before .before .before .before .before .args .n) (c .before .before .before .before .before .before .args .m) (c .before .before .before .before .before .before .args .bytes .now) (c .before .before .before .before .before .before .args .index .now)) (c .before .before .before .before .before .before .args .k) {u = loop .u} (omega arith) (c .before .stored .ensures .0) (loop .inv) (c .if1 .left)
 
 returns-2 : tie.Need-returns-2 Inv-loop μ-loop
 returns-2 c =
-    let k = as-many (c .before .before .before .before .pre .sound) in
+    let k = sound-vertices (c .before .before .before .before .pre .sound) in
     unmet-end (viewBy (c .before .before .before .before .args .n) (c .before .before .before .before .args .m) (c .before .before .before .before .args .bytes .now) (c .before .before .before .before .args .index .now)) (c .before .before .before .before .args .k) {u = c .before .loop .u} (omega arith) (c .before .loop .inv)
 
 pub visited-in-spec : {M : Type 1} → statement M

@@ -1,7 +1,7 @@
 -- A record that order R lets pass, by the n and m that the code holds.
 use mathlib.Core.Path.{_≡_, sym, ap, _∙_}
 use mathlib.Core.Bool.{false, not}
-use mathlib.Core.List.{List}
+use mathlib.Core.List.{List, flatten}
 use Prim.Native.Nat.{ℕ, _+_, _-_, _*_, _<_}
 use native.Mathlib.Omega.{arith}
 use lib.Dec.{eqb}
@@ -11,7 +11,7 @@ use borrow.Author.Tests.{le-leb}
 use Rattle.bits.specs.Bits.{bits, field, string, count, rank, select}
 use Rattle.bits.specs.Laws.Rank.{bit-held, rank-inside}
 use Rattle.bits.specs.Laws.Bytes.{length-bits}
-use Rattle.record.specs.Record.{terminals, wires, usedBits, recordLength, unary, fields}
+use Rattle.record.specs.Record.{terminals, wires, usedBits, recordLength, unary, fields, blocks}
 use Rattle.record.specs.Starts.{startsOf}
 use Rattle.record.specs.Rules.{firstBroken, orderR, spareSet}
 use Rattle.record.specs.Answers.{answered, tried, sizesOf}
@@ -20,7 +20,8 @@ use Rattle.record.specs.declared.Sizes.{Sizes}
 use Rattle.record.specs.Laws.First.{Shaped, shaped}
 use Rattle.record.specs.Laws.Parts.{start-select}
 use Rattle.record.proofs.Laws.Telling.Told.{untold-back}
-use Rattle.record.specs.Laws.Layout.{fields-at, used-held, length-unary, starts-end}
+use Rattle.record.specs.Laws.Layout.{length-fields, fields-at, used-held, length-unary, length-blocks, starts-end}
+use Rattle.record.specs.Laws.RoundTrip.{flatten-blocks}
 
 pub sound-of : (bytes : List ℕ) {n m : ℕ} → firstBroken (orderR bytes) ≡ 0 → n ≡ terminals bytes → m ≡ wires bytes → Sound bytes n m
 unfolding usedBits recordLength
@@ -54,6 +55,13 @@ module _ {bytes : List ℕ} {n m : ℕ} (s : Sound bytes n m) where
 
   pub sound-ones : count (unary bytes) ≡ n
   sound-ones = sound-shaped .ones ∙ sym (s .is-n)
+
+  -- the graph has n vertices and 2·m places
+  pub sound-vertices : length (blocks bytes) ≡ n
+  sound-vertices = length-blocks sound-shaped ∙ sym (s .is-n)
+
+  pub sound-all : length (flatten (blocks bytes)) ≡ 2 * m
+  sound-all = ap length (flatten-blocks sound-shaped) ∙ length-fields bytes ∙ ap (λ (x : ℕ). 2 * x) (sym (s .is-m))
 
   -- a bit of D
   pub sound-bit : (i : ℕ) → i < n + 2 * m → getD (bits bytes) (28 + i) false ≡ getD (unary bytes) i false
