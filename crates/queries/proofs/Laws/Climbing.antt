@@ -54,7 +54,7 @@ module _ {A : Type 0} (next : ℕ → A ⊎ ℕ) (late : A) {final : A} where
 -- ---- where a step leads
 
 -- a parent is a vertex
-abbrev Inside : Blocks → Step → Type 0
+abbrev pub Inside : Blocks → Step → Type 0
 Inside g stuck = Unit {0}
 Inside g top = Unit {0}
 Inside g (rise j p) = p < length g
@@ -64,7 +64,7 @@ unfolding stepBy
 one-inside g u j (pass e) = rw (stepBy, e) (ltb-true (target g u j) (length g) e)
 one-inside g u j (fail e) = rw (stepBy, e) tt
 
-step-inside : (g : Blocks) (u c j : ℕ) → Inside g (stepBy g u c j)
+pub step-inside : (g : Blocks) (u c j : ℕ) → Inside g (stepBy g u c j)
 unfolding stepBy
 step-inside g u zero j = tt
 step-inside g u (suc zero) j = one-inside g u j (told (ltb (target g u j) (length g)))

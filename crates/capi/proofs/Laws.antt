@@ -1,0 +1,3 @@
+-- Laws behind the answers.
+pub mod Coded
+pub mod Signed

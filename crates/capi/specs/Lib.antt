@@ -1,0 +1,3 @@
+-- The C interface: how an answer is one number, and that every answer fits.
+pub mod Code
+pub mod Laws
