@@ -1,0 +1,177 @@
+/*
+ * The C interface of the static library: packed records of graphs, their depth-first search index, and the questions to both.
+ *
+ * A terminal is a vertex and a wire is an edge. Terminals, visit numbers and children count from 1. n and m are the numbers of
+ * terminals and of wires in a record's header.
+ *
+ * Results. A uint32_t has the number of the refusal, or 0, in its high half and the value, or 0 where there is none, in its low
+ * half: read it with celduga_refusal and celduga_value. A call names the first broken rule, in the order given at its function,
+ * and then leaves the buffer for the result unchanged.
+ *
+ * What a caller lends. A call answers for all numbers and for all contents of its slices, also for damaged records and for
+ * indexes that nobody built. It asks that
+ *   - each pointer is good for as many elements as the length behind it says, for writing too where it is not const;
+ *   - no pointer is NULL, also where the length is 0 (data() of an empty std::vector may be NULL);
+ *   - a pointer to uint16_t is aligned for it;
+ *   - a buffer that is written overlaps no other slice of the call (a record and an index that are only read may overlap);
+ *   - the stack has room: 224 KiB for celduga_check, celduga_build, celduga_unpack and celduga_loop_figure, 16 KiB for others.
+ *
+ * Threads. There is no state, and no pointer is kept after a call. Calls may run at once where none writes what another is lent.
+ */
+#ifndef CELDUGA_H
+#define CELDUGA_H
+
+#include <stddef.h>
+#include <stdint.h>
+
+#ifdef __cplusplus
+extern "C" {
+#endif
+
+/* The limits of n and m, and the greatest lengths: bytes of a record and of an index, numbers of a work slice and of a list. */
+#define CELDUGA_MAX_TERMINALS 4096
+#define CELDUGA_MAX_WIRES 16384
+#define CELDUGA_MAX_RECORD_LEN 53764
+#define CELDUGA_MAX_INDEX_LEN 19968
+#define CELDUGA_MAX_WORK_LEN 32768
+#define CELDUGA_MAX_LIST_LEN 32768
+
+/*
+ * The refusals. D is the part of a record that holds the degrees in unary. 12 is given where the index shows two parents of a
+ * terminal, a field or a stored number of n or more, a climb that is not over after n - 1 steps, or a visit number nowhere.
+ */
+enum celduga_refusal_number {
+    CELDUGA_TOO_SHORT = 1,         /* the record has under 4 bytes */
+    CELDUGA_OVER_LIMIT = 2,        /* n or m is over its limit */
+    CELDUGA_WRONG_LENGTH = 3,      /* the record has another length than n and m give */
+    CELDUGA_BAD_UNARY = 4,         /* D has not n ones, or begins with a zero */
+    CELDUGA_SPARE_SET = 5,         /* a bit after the last field is set */
+    CELDUGA_STRAY_NEIGHBOUR = 6,   /* a neighbour is no terminal, or the terminal itself */
+    CELDUGA_DOUBLED_NEIGHBOUR = 7, /* a neighbour stands twice in a block */
+    CELDUGA_ONE_SIDED_WIRE = 8,    /* a wire is listed at one end only */
+    CELDUGA_SHORT_WORK = 9,        /* the work slice has fewer numbers than celduga_work_len(n) */
+    CELDUGA_WRONG_BUFFER = 10,     /* the index or the list has another length than n and m give */
+    CELDUGA_NO_TERMINAL = 11,      /* the terminal, or the visit number, is 0 or above n */
+    CELDUGA_BAD_INDEX = 12,        /* the index shows what no forest does */
+    CELDUGA_NO_CHILD = 13          /* j is 0 or above the number of children */
+};
+
+/* Results */
+
+/* The number of the refusal, or 0. */
+static inline unsigned celduga_refusal(uint32_t result)
+{
+    return (unsigned)(result >> 16);
+}
+
+/* The value; 0 where the call refuses. */
+static inline unsigned celduga_value(uint32_t result)
+{
+    return (unsigned)(result & 0xFFFFu);
+}
+
+/* The value of celduga_loop_figure, which has a sign. */
+static inline int16_t celduga_figure(uint32_t result)
+{
+    int32_t value = (int32_t)(result & 0xFFFFu);
+    return (int16_t)(value < 0x8000 ? value : value - 0x10000);
+}
+
+/* Sizes */
+
+/* n and m, from the 4 bytes of the header; they may be over their limits. */
+static inline size_t celduga_terminals(const uint8_t *record)
+{
+    return (size_t)record[0] << 5 | (size_t)record[1] >> 3;
+}
+
+static inline size_t celduga_wires(const uint8_t *record)
+{
+    return ((size_t)record[1] & 7) << 12 | (size_t)record[2] << 4 | (size_t)record[3] >> 4;
+}
+
+/* The bytes of a record, and of its index. */
+static inline size_t celduga_record_len(size_t n, size_t m)
+{
+    return (28 + n + 26 * m + 7) / 8;
+}
+
+static inline size_t celduga_index_len(size_t n, size_t m)
+{
+    return 3 * ((n + 2 * m + 7) / 8) + (12 * n + 7) / 8;
+}
+
+/* The numbers that the work slice of celduga_build must have at least, and those of the list of celduga_unpack. */
+static inline size_t celduga_work_len(size_t n)
+{
+    return 8 * n;
+}
+
+static inline size_t celduga_list_len(size_t m)
+{
+    return 2 * m;
+}
+
+/* Records */
+
+/* Accepts a record. No value. Refuses 1 to 8. */
+uint32_t celduga_check(const uint8_t *record, size_t record_len);
+
+/* How many wires terminal v has. Refuses 1 to 4, 11. */
+uint32_t celduga_degree(const uint8_t *record, size_t record_len, size_t v);
+
+/* Writes the neighbours of all terminals to the list, block after block. No value. Refuses 1 to 8, 10. */
+uint32_t celduga_unpack(const uint8_t *record, size_t record_len, uint16_t *list, size_t list_len);
+
+/* m - n + 1, to be read with celduga_figure. Refuses 1 to 8. */
+uint32_t celduga_loop_figure(const uint8_t *record, size_t record_len);
+
+/*
+ * Writes the record's index. The work slice may hold anything before and after the call, refused or not.
+ * No value. Refuses 1 to 8, 9, 10.
+ */
+uint32_t celduga_build(const uint8_t *record, size_t record_len, uint16_t *work, size_t work_len, uint8_t *index, size_t index_len);
+
+/* Queries. They take any index of the right length. On the one that celduga_build wrote for the record none refuses with 12. */
+
+/* The parent of terminal v in the forest, 0 for a root. Refuses 1 to 4, 10, 11, 12. */
+uint32_t celduga_parent(const uint8_t *record, size_t record_len, const uint8_t *index, size_t index_len, size_t v);
+
+/*
+ * The head of terminal v: the first terminal, from v upward, that is a root or whose wire to its parent is a bridge. On a built
+ * index two terminals have one head exactly when they are joined and stay so whichever one wire is taken out.
+ * Refuses 1 to 4, 10, 11, 12.
+ */
+uint32_t celduga_head(const uint8_t *record, size_t record_len, const uint8_t *index, size_t index_len, size_t v);
+
+/* 1 where u is v or stands above it, else 0. Refuses 1 to 4, 10, 11 for u, 11 for v, 12. */
+uint32_t celduga_ancestor(const uint8_t *record, size_t record_len, const uint8_t *index, size_t index_len, size_t u, size_t v);
+
+/* How many children terminal v has. Refuses 1 to 4, 10, 11. */
+uint32_t celduga_children(const uint8_t *record, size_t record_len, const uint8_t *index, size_t index_len, size_t v);
+
+/* The j-th child of terminal v, in order of visits. Refuses 1 to 4, 10, 11, 13, 12. */
+uint32_t celduga_child(const uint8_t *record, size_t record_len, const uint8_t *index, size_t index_len, size_t v, size_t j);
+
+/* The visit number of terminal v. Refuses 1 to 4, 10, 11, 12. */
+uint32_t celduga_visit(const uint8_t *record, size_t record_len, const uint8_t *index, size_t index_len, size_t v);
+
+/* The lowest terminal with visit number i. Refuses 1 to 4, 10, 11 for i, 12. */
+uint32_t celduga_visited(const uint8_t *record, size_t record_len, const uint8_t *index, size_t index_len, size_t i);
+
+/*
+ * Bit strings. The places of a string count from 1. It begins at bit start, which counts from 0 for the most significant bit of
+ * the first byte. One that its bytes do not hold in full counts as empty. Both functions give a plain number and refuse nothing.
+ */
+
+/* The ones in places 1 to p; a p past the end counts all. */
+size_t celduga_rank(const uint8_t *bytes, size_t len, size_t start, size_t places, size_t p);
+
+/* The place of the k-th one; 0 for k = 0 and where there are fewer ones. */
+size_t celduga_select(const uint8_t *bytes, size_t len, size_t start, size_t places, size_t k);
+
+#ifdef __cplusplus
+}
+#endif
+
+#endif

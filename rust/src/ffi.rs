@@ -1,0 +1,143 @@
+//! The calls of the static library, and the one place that reads their results. All unsafe code is here.
+//!
+//! What each call asks is in include/celduga.h. A slice meets it for its pointer and length: the pointer is not null, aligned and good for
+//! the whole length, also where that is 0. A slice that is lent to be written overlaps no other.
+
+use crate::Refusal;
+
+mod c {
+    extern "C" {
+        pub fn celduga_check(record: *const u8, record_len: usize) -> u32;
+        pub fn celduga_degree(record: *const u8, record_len: usize, v: usize) -> u32;
+        pub fn celduga_unpack(record: *const u8, record_len: usize, list: *mut u16, list_len: usize) -> u32;
+        pub fn celduga_loop_figure(record: *const u8, record_len: usize) -> u32;
+        pub fn celduga_build(
+            record: *const u8,
+            record_len: usize,
+            work: *mut u16,
+            work_len: usize,
+            index: *mut u8,
+            index_len: usize,
+        ) -> u32;
+        pub fn celduga_parent(record: *const u8, record_len: usize, index: *const u8, index_len: usize, v: usize) -> u32;
+        pub fn celduga_head(record: *const u8, record_len: usize, index: *const u8, index_len: usize, v: usize) -> u32;
+        pub fn celduga_ancestor(record: *const u8, record_len: usize, index: *const u8, index_len: usize, u: usize, v: usize) -> u32;
+        pub fn celduga_children(record: *const u8, record_len: usize, index: *const u8, index_len: usize, v: usize) -> u32;
+        pub fn celduga_child(record: *const u8, record_len: usize, index: *const u8, index_len: usize, v: usize, j: usize) -> u32;
+        pub fn celduga_visit(record: *const u8, record_len: usize, index: *const u8, index_len: usize, v: usize) -> u32;
+        pub fn celduga_visited(record: *const u8, record_len: usize, index: *const u8, index_len: usize, i: usize) -> u32;
+        pub fn celduga_rank(bytes: *const u8, len: usize, start: usize, places: usize, p: usize) -> usize;
+        pub fn celduga_select(bytes: *const u8, len: usize, start: usize, places: usize, k: usize) -> usize;
+    }
+}
+
+/// The value, in the low half of a result, or the refusal, whose number is in the high half.
+fn decode(result: u32) -> Result<u16, Refusal> {
+    match (result >> 16) as u16 {
+        0 => Ok(result as u16),
+        number => Err(Refusal::from_number(number).unwrap_or_else(|| panic!("the archive gives a refusal that has no name: {number}"))),
+    }
+}
+
+pub fn check(record: &[u8]) -> Result<u16, Refusal> {
+    // SAFETY: the slice is read only.
+    decode(unsafe { c::celduga_check(record.as_ptr(), record.len()) })
+}
+
+pub fn degree(record: &[u8], v: usize) -> Result<u16, Refusal> {
+    // SAFETY: the slice is read only.
+    decode(unsafe { c::celduga_degree(record.as_ptr(), record.len(), v) })
+}
+
+pub fn unpack(record: &[u8], list: &mut [u16]) -> Result<u16, Refusal> {
+    // SAFETY: the list is borrowed to be written, so it does not overlap the record.
+    decode(unsafe { c::celduga_unpack(record.as_ptr(), record.len(), list.as_mut_ptr(), list.len()) })
+}
+
+pub fn loop_figure(record: &[u8]) -> Result<u16, Refusal> {
+    // SAFETY: the slice is read only.
+    decode(unsafe { c::celduga_loop_figure(record.as_ptr(), record.len()) })
+}
+
+pub fn build(record: &[u8], work: &mut [u16], index: &mut [u8]) -> Result<u16, Refusal> {
+    // SAFETY: the work slice and the index are borrowed to be written, so neither overlaps another slice.
+    decode(unsafe {
+        c::celduga_build(
+            record.as_ptr(),
+            record.len(),
+            work.as_mut_ptr(),
+            work.len(),
+            index.as_mut_ptr(),
+            index.len(),
+        )
+    })
+}
+
+pub fn parent(record: &[u8], index: &[u8], v: usize) -> Result<u16, Refusal> {
+    // SAFETY: both slices are read only.
+    decode(unsafe { c::celduga_parent(record.as_ptr(), record.len(), index.as_ptr(), index.len(), v) })
+}
+
+pub fn head(record: &[u8], index: &[u8], v: usize) -> Result<u16, Refusal> {
+    // SAFETY: both slices are read only.
+    decode(unsafe { c::celduga_head(record.as_ptr(), record.len(), index.as_ptr(), index.len(), v) })
+}
+
+pub fn ancestor(record: &[u8], index: &[u8], u: usize, v: usize) -> Result<u16, Refusal> {
+    // SAFETY: both slices are read only.
+    decode(unsafe { c::celduga_ancestor(record.as_ptr(), record.len(), index.as_ptr(), index.len(), u, v) })
+}
+
+pub fn children(record: &[u8], index: &[u8], v: usize) -> Result<u16, Refusal> {
+    // SAFETY: both slices are read only.
+    decode(unsafe { c::celduga_children(record.as_ptr(), record.len(), index.as_ptr(), index.len(), v) })
+}
+
+pub fn child(record: &[u8], index: &[u8], v: usize, j: usize) -> Result<u16, Refusal> {
+    // SAFETY: both slices are read only.
+    decode(unsafe { c::celduga_child(record.as_ptr(), record.len(), index.as_ptr(), index.len(), v, j) })
+}
+
+pub fn visit(record: &[u8], index: &[u8], v: usize) -> Result<u16, Refusal> {
+    // SAFETY: both slices are read only.
+    decode(unsafe { c::celduga_visit(record.as_ptr(), record.len(), index.as_ptr(), index.len(), v) })
+}
+
+pub fn visited(record: &[u8], index: &[u8], i: usize) -> Result<u16, Refusal> {
+    // SAFETY: both slices are read only.
+    decode(unsafe { c::celduga_visited(record.as_ptr(), record.len(), index.as_ptr(), index.len(), i) })
+}
+
+pub fn rank(bytes: &[u8], start: usize, places: usize, p: usize) -> usize {
+    // SAFETY: the slice is read only.
+    unsafe { c::celduga_rank(bytes.as_ptr(), bytes.len(), start, places, p) }
+}
+
+pub fn select(bytes: &[u8], start: usize, places: usize, k: usize) -> usize {
+    // SAFETY: the slice is read only.
+    unsafe { c::celduga_select(bytes.as_ptr(), bytes.len(), start, places, k) }
+}
+
+#[cfg(test)]
+mod tests {
+    use super::decode;
+
+    #[test]
+    fn the_low_half_is_the_value() {
+        assert_eq!(decode(0), Ok(0));
+        assert_eq!(decode(0xF001), Ok(0xF001));
+    }
+
+    #[test]
+    fn the_high_half_is_the_number_of_the_refusal() {
+        for number in 1..=13 {
+            assert_eq!(decode(number << 16).map_err(|refusal| u32::from(refusal.number())), Err(number));
+        }
+    }
+
+    #[test]
+    #[should_panic(expected = "no name: 14")]
+    fn another_number_is_no_answer() {
+        let _ = decode(14 << 16);
+    }
+}

@@ -1,0 +1,162 @@
+//! The operations, one function each, for all bytes.
+
+use crate::{ffi, Dfi, Refusal, Vertex};
+
+fn vertex(number: u16) -> Vertex {
+    Vertex(number.into())
+}
+
+/// Accepts a record.
+///
+/// # Errors
+///
+/// Refusals 1 to 8, tried in this order.
+///
+/// # Examples
+///
+/// ```
+/// use celduga::{check, Refusal};
+///
+/// assert_eq!(check(&[0, 0, 0, 0]), Ok(()));
+/// assert_eq!(check(&[0, 0, 0]), Err(Refusal::TooShort));
+/// ```
+pub fn check(record: &[u8]) -> Result<(), Refusal> {
+    ffi::check(record).map(drop)
+}
+
+/// How many wires terminal `v` has.
+///
+/// # Errors
+///
+/// Refusals 1 to 4, 11, tried in this order.
+pub fn degree(record: &[u8], v: Vertex) -> Result<usize, Refusal> {
+    ffi::degree(record, v.0).map(usize::from)
+}
+
+/// Writes the neighbours of all terminals to the list, block after block; the list has [`Sizes::list_len`](crate::Sizes::list_len) numbers.
+///
+/// # Errors
+///
+/// Refusals 1 to 8, 10, tried in this order.
+pub fn unpack(record: &[u8], list: &mut [u16]) -> Result<(), Refusal> {
+    ffi::unpack(record, list).map(drop)
+}
+
+/// m − n + 1, for n terminals and m wires.
+///
+/// # Errors
+///
+/// Refusals 1 to 8, tried in this order.
+pub fn loop_figure(record: &[u8]) -> Result<i32, Refusal> {
+    // the value is a number of 16 bits with a sign
+    ffi::loop_figure(record).map(|value| i32::from(value as i16))
+}
+
+/// Writes the record's index, of [`Sizes::index_len`](crate::Sizes::index_len) bytes. The work slice has
+/// [`Sizes::work_len`](crate::Sizes::work_len) numbers or more, and may hold anything before and after the call.
+///
+/// # Errors
+///
+/// Refusals 1 to 8, 9, 10, tried in this order.
+///
+/// # Examples
+///
+/// ```
+/// use celduga::{build, Refusal};
+///
+/// let wire = [0x00, 0x10, 0x00, 0x1A, 0x00, 0x10, 0x00];
+/// let mut index = [0; 6];
+/// build(&wire, &mut [0; 16], &mut index)?;
+/// assert_eq!(index, [0x40, 0x10, 0x50, 0x00, 0x00, 0x01]);
+/// # Ok::<(), Refusal>(())
+/// ```
+pub fn build(record: &[u8], work: &mut [u16], index: &mut [u8]) -> Result<(), Refusal> {
+    ffi::build(record, work, index).map(drop)
+}
+
+/// The parent of terminal `v` in the forest, `None` for a root.
+///
+/// # Errors
+///
+/// Refusals 1 to 4, 10, 11, 12, tried in this order.
+pub fn parent(record: &[u8], index: &[u8], v: Vertex) -> Result<Option<Vertex>, Refusal> {
+    ffi::parent(record, index, v.0).map(|number| (number != 0).then(|| vertex(number)))
+}
+
+/// The head of terminal `v`: the first terminal, from `v` upward, that is a root or whose wire to its parent is a bridge. On a built index
+/// two terminals have one head exactly when they are joined and stay so whichever one wire is taken out.
+///
+/// # Errors
+///
+/// Refusals 1 to 4, 10, 11, 12, tried in this order.
+pub fn head(record: &[u8], index: &[u8], v: Vertex) -> Result<Vertex, Refusal> {
+    ffi::head(record, index, v.0).map(vertex)
+}
+
+/// Whether `u` is `v` or stands above it.
+///
+/// # Errors
+///
+/// Refusals 1 to 4, 10, 11 for `u`, 11 for `v`, 12, tried in this order.
+pub fn ancestor(record: &[u8], index: &[u8], u: Vertex, v: Vertex) -> Result<bool, Refusal> {
+    ffi::ancestor(record, index, u.0, v.0).map(|yes| yes != 0)
+}
+
+/// How many children terminal `v` has.
+///
+/// # Errors
+///
+/// Refusals 1 to 4, 10, 11, tried in this order.
+pub fn children(record: &[u8], index: &[u8], v: Vertex) -> Result<usize, Refusal> {
+    ffi::children(record, index, v.0).map(usize::from)
+}
+
+/// The `j`-th child of terminal `v`, from 1 in order of visits.
+///
+/// # Errors
+///
+/// Refusals 1 to 4, 10, 11, 13, 12, tried in this order.
+pub fn child(record: &[u8], index: &[u8], v: Vertex, j: usize) -> Result<Vertex, Refusal> {
+    ffi::child(record, index, v.0, j).map(vertex)
+}
+
+/// The visit number of terminal `v`.
+///
+/// # Errors
+///
+/// Refusals 1 to 4, 10, 11, 12, tried in this order.
+pub fn visit(record: &[u8], index: &[u8], v: Vertex) -> Result<Dfi, Refusal> {
+    ffi::visit(record, index, v.0).map(|number| Dfi(number.into()))
+}
+
+/// The lowest terminal with visit number `i`.
+///
+/// # Errors
+///
+/// Refusals 1 to 4, 10, 11 for `i`, 12, tried in this order.
+pub fn visited(record: &[u8], index: &[u8], i: Dfi) -> Result<Vertex, Refusal> {
+    ffi::visited(record, index, i.0).map(vertex)
+}
+
+/// The ones in places 1 to `p` of a bit string; a `p` past the end counts all.
+///
+/// The string has so many places and begins at bit `start`, which counts from 0 for the most significant bit of the first byte. One that
+/// its bytes do not hold in full counts as empty.
+///
+/// # Examples
+///
+/// ```
+/// use celduga::{rank, select};
+///
+/// // the places of 1010 0000, from the second bit on, are 0, 1, 0, 0
+/// assert_eq!(rank(&[0xA0], 1, 4, 2), 1);
+/// assert_eq!(select(&[0xA0], 1, 4, 1), 2);
+/// ```
+pub fn rank(bytes: &[u8], start: usize, places: usize, p: usize) -> usize {
+    ffi::rank(bytes, start, places, p)
+}
+
+/// The place, from 1, of the `k`-th one of a bit string, which is given as for [`rank`]; 0 for `k` = 0 and where there are fewer ones.
+pub fn select(bytes: &[u8], start: usize, places: usize, k: usize) -> usize {
+    ffi::select(bytes, start, places, k)
+}

@@ -1,0 +1,88 @@
+//! The refusals and their numbers.
+
+use std::error::Error;
+use std::fmt;
+
+/// The rule that is broken. `n` and `m` are the numbers of terminals and wires in the record's header.
+#[derive(Clone, Copy, Debug, PartialEq, Eq, Hash)]
+#[non_exhaustive]
+pub enum Refusal {
+    /// 1: the record has under 4 bytes.
+    TooShort = 1,
+    /// 2: n is over 4,096 or m over 16,384.
+    OverLimit = 2,
+    /// 3: the record's length is not the one that n and m give.
+    WrongLength = 3,
+    /// 4: D, the string of the degrees in unary, has not n ones, or begins with a zero.
+    BadUnary = 4,
+    /// 5: a bit after the last field is set.
+    SpareSet = 5,
+    /// 6: a neighbour is no terminal, or the terminal itself.
+    StrayNeighbour = 6,
+    /// 7: a neighbour stands twice in a block.
+    DoubledNeighbour = 7,
+    /// 8: a wire is listed at one end only.
+    OneSidedWire = 8,
+    /// 9: the work slice has fewer than 8·n numbers.
+    ShortWork = 9,
+    /// 10: the length of the index or the list is not the one that n and m give.
+    WrongBuffer = 10,
+    /// 11: the terminal, or the visit number, is 0 or above n.
+    NoTerminal = 11,
+    /// 12: the index shows two parents, a field or a stored number of n or more, a climb that is not over after n − 1 steps, or a visit
+    /// number nowhere. The index that [`build`](crate::build) wrote for the record shows none of these.
+    BadIndex = 12,
+    /// 13: the number of the child is 0 or above the count of children.
+    NoChild = 13,
+}
+
+impl Refusal {
+    const ALL: [Refusal; 13] = [
+        Refusal::TooShort,
+        Refusal::OverLimit,
+        Refusal::WrongLength,
+        Refusal::BadUnary,
+        Refusal::SpareSet,
+        Refusal::StrayNeighbour,
+        Refusal::DoubledNeighbour,
+        Refusal::OneSidedWire,
+        Refusal::ShortWork,
+        Refusal::WrongBuffer,
+        Refusal::NoTerminal,
+        Refusal::BadIndex,
+        Refusal::NoChild,
+    ];
+
+    /// The refusal's number, from 1.
+    pub const fn number(self) -> u16 {
+        self as u16
+    }
+
+    /// The refusal with this number, where there is one.
+    pub fn from_number(number: u16) -> Option<Refusal> {
+        Refusal::ALL.into_iter().find(|refusal| refusal.number() == number)
+    }
+}
+
+impl fmt::Display for Refusal {
+    fn fmt(&self, f: &mut fmt::Formatter<'_>) -> fmt::Result {
+        let words = match self {
+            Refusal::TooShort => "the record has under 4 bytes",
+            Refusal::OverLimit => "the record has too many terminals or wires",
+            Refusal::WrongLength => "the record has another length than its header gives",
+            Refusal::BadUnary => "the degrees in unary do not fit the number of terminals",
+            Refusal::SpareSet => "a spare bit of the record is set",
+            Refusal::StrayNeighbour => "a neighbour is no terminal, or the terminal itself",
+            Refusal::DoubledNeighbour => "a neighbour stands twice in a block",
+            Refusal::OneSidedWire => "a wire is listed at one end only",
+            Refusal::ShortWork => "the work slice is too short",
+            Refusal::WrongBuffer => "the index or the list has another length than the record gives",
+            Refusal::NoTerminal => "there is no such terminal or visit number",
+            Refusal::BadIndex => "the index shows what no forest does",
+            Refusal::NoChild => "there is no such child",
+        };
+        write!(f, "refused {}: {words}", self.number())
+    }
+}
+
+impl Error for Refusal {}

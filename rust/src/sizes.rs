@@ -1,0 +1,57 @@
+//! The numbers in a record's header, and the lengths that follow from them.
+
+/// The numbers of terminals and wires in a record's header, n and m, and the lengths that they give.
+///
+/// # Examples
+///
+/// ```
+/// let sizes = celduga::Sizes::of(&[0x00, 0x30, 0x00, 0x59]).expect("4 bytes");
+/// assert_eq!((sizes.terminals(), sizes.wires()), (6, 5));
+/// assert_eq!((sizes.record_len(), sizes.index_len()), (21, 15));
+/// ```
+#[derive(Clone, Copy, Debug, PartialEq, Eq, Hash)]
+pub struct Sizes {
+    terminals: u16,
+    wires: u16,
+}
+
+impl Sizes {
+    /// The sizes that the first 4 bytes of a record hold, also where they are over the limits; `None` where there are fewer bytes.
+    pub fn of(record: &[u8]) -> Option<Sizes> {
+        let header = u32::from_be_bytes(record.get(..4)?.try_into().ok()?);
+        Some(Sizes {
+            terminals: (header >> 19) as u16,
+            wires: (header >> 4 & 0x7FFF) as u16,
+        })
+    }
+
+    /// n, the number of terminals.
+    pub fn terminals(self) -> usize {
+        self.terminals.into()
+    }
+
+    /// m, the number of wires.
+    pub fn wires(self) -> usize {
+        self.wires.into()
+    }
+
+    /// The bytes of the record.
+    pub fn record_len(self) -> usize {
+        (28 + self.terminals() + 26 * self.wires()).div_ceil(8)
+    }
+
+    /// The bytes of its index: three sections of marks, and the visit numbers.
+    pub fn index_len(self) -> usize {
+        3 * (self.terminals() + 2 * self.wires()).div_ceil(8) + (12 * self.terminals()).div_ceil(8)
+    }
+
+    /// The numbers that the work slice of [`build`](crate::build) has at least.
+    pub fn work_len(self) -> usize {
+        8 * self.terminals()
+    }
+
+    /// The numbers of the list of [`unpack`](crate::unpack).
+    pub fn list_len(self) -> usize {
+        2 * self.wires()
+    }
+}

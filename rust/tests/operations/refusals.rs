@@ -1,0 +1,149 @@
+//! Each refusal is reached, and leaves the buffer for the result as it was.
+
+use crate::packing::*;
+use celduga::*;
+
+/// A record for each of the refusals 1 to 8.
+fn refused_records() -> [Vec<u8>; 8] {
+    let mut few_ones = SAMPLE.to_vec();
+    few_ones[5] ^= 0x20;
+    let mut spare = SAMPLE.to_vec();
+    spare[20] |= 1;
+    [
+        SAMPLE[..3].to_vec(),
+        vec![0x80, 0x08, 0x00, 0x00],
+        SAMPLE[..20].to_vec(),
+        few_ones,
+        spare,
+        record(&[[2], [2]]),
+        record(&[[2, 2], [1, 1]]),
+        record(&[&[2, 3][..], &[1], &[2]]),
+    ]
+}
+
+fn refusal(number: usize) -> Refusal {
+    Refusal::from_number(number as u16).expect("a number from 1 to 13")
+}
+
+/// Build refuses, and the buffer stays.
+fn build_refuses(record: &[u8], work_len: usize, index_len: usize, number: usize) {
+    let before: Vec<u8> = (0..index_len).map(|i| 0xA1 + i as u8).collect();
+    let mut index = before.clone();
+    assert_eq!(build(record, &mut vec![7; work_len], &mut index), Err(refusal(number)));
+    assert_eq!(index, before);
+}
+
+/// Unpack refuses, and the list stays.
+fn unpack_refuses(record: &[u8], list_len: usize, number: usize) {
+    let before: Vec<u16> = (0..list_len).map(|i| 0xA0B1 + i as u16).collect();
+    let mut list = before.clone();
+    assert_eq!(unpack(record, &mut list), Err(refusal(number)));
+    assert_eq!(list, before);
+}
+
+#[test]
+fn refusals_1_to_8() {
+    for (number, record) in (1..).zip(refused_records()) {
+        assert_eq!(check(&record), Err(refusal(number)));
+        assert_eq!(Record::new(&record), Err(refusal(number)));
+        assert_eq!(loop_figure(&record), Err(refusal(number)));
+        build_refuses(&record, 48, 15, number);
+        unpack_refuses(&record, 10, number);
+    }
+}
+
+#[test]
+fn queries_refuse_1_to_4() {
+    for (number, record) in (1..=4).zip(refused_records()) {
+        let (v, no) = (Vertex(1), refusal(number));
+        assert_eq!(degree(&record, v), Err(no));
+        assert_eq!(parent(&record, &SAMPLE_INDEX, v), Err(no));
+        assert_eq!(head(&record, &SAMPLE_INDEX, v), Err(no));
+        assert_eq!(ancestor(&record, &SAMPLE_INDEX, v, v), Err(no));
+        assert_eq!(children(&record, &SAMPLE_INDEX, v), Err(no));
+        assert_eq!(child(&record, &SAMPLE_INDEX, v, 1), Err(no));
+        assert_eq!(visit(&record, &SAMPLE_INDEX, v), Err(no));
+        assert_eq!(visited(&record, &SAMPLE_INDEX, Dfi(1)), Err(no));
+    }
+}
+
+#[test]
+fn refusal_9() {
+    build_refuses(&SAMPLE, 47, 15, 9);
+    build_refuses(&SAMPLE, 0, 15, 9);
+    build_refuses(&SAMPLE, 47, 14, 9);
+}
+
+#[test]
+fn refusal_10() {
+    for len in [0, 14, 16] {
+        build_refuses(&SAMPLE, 48, len, 10);
+        let index = vec![0; len];
+        assert_eq!(parent(&SAMPLE, &index, Vertex(0)), Err(Refusal::WrongBuffer));
+        assert_eq!(visited(&SAMPLE, &index, Dfi(0)), Err(Refusal::WrongBuffer));
+        assert_eq!(Index::new(Record::new(&SAMPLE).unwrap(), index), Err(Refusal::WrongBuffer));
+    }
+    build_refuses(&EMPTY, 0, 1, 10);
+    for len in [0, 9, 11] {
+        unpack_refuses(&SAMPLE, len, 10);
+    }
+}
+
+#[test]
+fn refusal_11() {
+    let no = Refusal::NoTerminal;
+    for number in [0, 7, 65536, 65537, usize::MAX] {
+        let v = Vertex(number);
+        assert_eq!(degree(&SAMPLE, v), Err(no));
+        assert_eq!(parent(&SAMPLE, &SAMPLE_INDEX, v), Err(no));
+        assert_eq!(head(&SAMPLE, &SAMPLE_INDEX, v), Err(no));
+        assert_eq!(ancestor(&SAMPLE, &SAMPLE_INDEX, v, Vertex(1)), Err(no));
+        assert_eq!(ancestor(&SAMPLE, &SAMPLE_INDEX, Vertex(1), v), Err(no));
+        assert_eq!(children(&SAMPLE, &SAMPLE_INDEX, v), Err(no));
+        assert_eq!(child(&SAMPLE, &SAMPLE_INDEX, v, 1), Err(no));
+        assert_eq!(visit(&SAMPLE, &SAMPLE_INDEX, v), Err(no));
+        assert_eq!(visited(&SAMPLE, &SAMPLE_INDEX, Dfi(number)), Err(no));
+    }
+    assert_eq!(degree(&EMPTY, Vertex(1)), Err(no));
+    assert_eq!(parent(&EMPTY, &[], Vertex(1)), Err(no));
+}
+
+#[test]
+fn refusal_12() {
+    let no = Refusal::BadIndex;
+    let v = Vertex(1);
+    // P marks both wires of terminal 1
+    let mut two_parents = SAMPLE_INDEX;
+    two_parents[2] |= 0x60;
+    assert_eq!(parent(&SAMPLE, &two_parents, v), Err(no));
+    assert_eq!(head(&SAMPLE, &two_parents, v), Err(no));
+    assert_eq!(ancestor(&SAMPLE, &two_parents, Vertex(5), v), Err(no));
+    assert_eq!(ancestor(&SAMPLE, &two_parents, v, v), Ok(true));
+    // all stored numbers are 4095
+    let mut numbers = SAMPLE_INDEX;
+    numbers[6..].fill(0xFF);
+    assert_eq!(visit(&SAMPLE, &numbers, v), Err(no));
+    assert_eq!(visited(&SAMPLE, &numbers, Dfi(1)), Err(no));
+    // the neighbour at E's mark is no terminal
+    let stray = record(&[[3], [1]]);
+    assert_eq!(child(&stray, &[0x40, 0, 0, 0, 0, 0], v, 1), Err(no));
+    // each of two terminals is the parent of the other
+    assert_eq!(head(&WIRE, &[0, 0x50, 0, 0, 0, 0], v), Err(no));
+}
+
+#[test]
+fn refusal_13() {
+    for (v, j) in [(3, 0), (3, 3), (4, 1), (1, usize::MAX)] {
+        assert_eq!(child(&SAMPLE, &SAMPLE_INDEX, Vertex(v), j), Err(Refusal::NoChild));
+    }
+}
+
+#[test]
+fn numbers_and_words() {
+    let refusals: Vec<Refusal> = (0..=20).filter_map(Refusal::from_number).collect();
+    assert!(refusals.iter().map(|refusal| refusal.number()).eq(1..=13));
+    assert_eq!(refusals[0], Refusal::TooShort);
+    assert_eq!(refusals[12], Refusal::NoChild);
+    let error: Box<dyn std::error::Error> = Refusal::OneSidedWire.into();
+    assert_eq!(error.to_string(), "refused 8: a wire is listed at one end only");
+}

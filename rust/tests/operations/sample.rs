@@ -1,0 +1,110 @@
+//! The lines of document 01's sample, by the functions that mirror the operations.
+
+use crate::packing::*;
+use celduga::*;
+
+/// What Build answers and writes.
+fn built(record: &[u8], index_len: usize) -> Vec<u8> {
+    let mut work = vec![0xFFFF; Sizes::of(record).unwrap().work_len()];
+    let mut index = vec![0xFF; index_len];
+    assert_eq!(build(record, &mut work, &mut index), Ok(()));
+    index
+}
+
+#[test]
+fn the_blocks_pack_to_the_bytes() {
+    assert_eq!(record(&SAMPLE_BLOCKS), SAMPLE);
+    assert_eq!(record::<&[u16]>(&[]), EMPTY);
+    assert_eq!(record(&[[]]), TERMINAL);
+    assert_eq!(record(&[[2], [1]]), WIRE);
+}
+
+#[test]
+fn accepted_records_and_their_indexes() {
+    assert_eq!(built(&SAMPLE, 15), SAMPLE_INDEX);
+    assert_eq!(built(&EMPTY, 0), []);
+    assert_eq!(built(&TERMINAL, 5), [0; 5]);
+    assert_eq!(built(&WIRE, 6), [0x40, 0x10, 0x50, 0x00, 0x00, 0x01]);
+}
+
+#[test]
+fn refused_records() {
+    let mut spare = SAMPLE;
+    spare[20] = 0x41;
+    assert_eq!(check(&spare), Err(Refusal::SpareSet));
+    assert_eq!(check(&SAMPLE[..3]), Err(Refusal::TooShort));
+    assert_eq!(check(&[0x80, 0x08, 0x00, 0x00]), Err(Refusal::OverLimit));
+    assert_eq!(check(&record(&[[2, 2], [1, 1]])), Err(Refusal::DoubledNeighbour));
+    assert_eq!(check(&record(&[&[2, 3][..], &[1], &[2]])), Err(Refusal::OneSidedWire));
+}
+
+#[test]
+fn the_listing() {
+    // terminal, visit number, parent, children, head
+    let rows = [
+        (1, 1, 0, 1, 1),
+        (2, 3, 3, 0, 1),
+        (3, 2, 1, 2, 1),
+        (4, 4, 3, 0, 4),
+        (5, 5, 0, 1, 5),
+        (6, 6, 5, 0, 6),
+    ];
+    for (v, number, above, count, top) in rows {
+        let v = Vertex(v);
+        assert_eq!(visit(&SAMPLE, &SAMPLE_INDEX, v), Ok(Dfi(number)));
+        assert_eq!(visited(&SAMPLE, &SAMPLE_INDEX, Dfi(number)), Ok(v));
+        assert_eq!(parent(&SAMPLE, &SAMPLE_INDEX, v), Ok((above != 0).then_some(Vertex(above))));
+        assert_eq!(children(&SAMPLE, &SAMPLE_INDEX, v), Ok(count));
+        assert_eq!(head(&SAMPLE, &SAMPLE_INDEX, v), Ok(Vertex(top)));
+        assert_eq!(degree(&SAMPLE, v), Ok(SAMPLE_BLOCKS[v.0 - 1].len()));
+    }
+    assert_eq!(loop_figure(&SAMPLE), Ok(0));
+}
+
+#[test]
+fn children_in_order() {
+    assert_eq!(child(&SAMPLE, &SAMPLE_INDEX, Vertex(1), 1), Ok(Vertex(3)));
+    assert_eq!(child(&SAMPLE, &SAMPLE_INDEX, Vertex(3), 1), Ok(Vertex(2)));
+    assert_eq!(child(&SAMPLE, &SAMPLE_INDEX, Vertex(3), 2), Ok(Vertex(4)));
+}
+
+#[test]
+fn ancestors() {
+    let above: [&[usize]; 6] = [&[1], &[1, 2, 3], &[1, 3], &[1, 3, 4], &[5], &[5, 6]];
+    for v in 1..=6 {
+        for u in 1..=6 {
+            assert_eq!(
+                ancestor(&SAMPLE, &SAMPLE_INDEX, Vertex(u), Vertex(v)),
+                Ok(above[v - 1].contains(&u))
+            );
+        }
+    }
+}
+
+#[test]
+fn the_unpacked_list() {
+    let mut list = [0; 10];
+    assert_eq!(unpack(&SAMPLE, &mut list), Ok(()));
+    assert_eq!(list[..], SAMPLE_BLOCKS.concat());
+}
+
+#[test]
+fn loop_figures_have_a_sign() {
+    assert_eq!(loop_figure(&EMPTY), Ok(1));
+    assert_eq!(loop_figure(&record(&[[], [], []])), Ok(-2));
+    assert_eq!(loop_figure(&record(&[[]; 4096])), Ok(-4095));
+}
+
+#[test]
+fn rank_and_select_in_the_degrees() {
+    let ones = [1, 4, 7, 11, 13, 15];
+    for p in 0..=20 {
+        assert_eq!(rank(&SAMPLE, 28, 16, p), ones.iter().filter(|&&one| one <= p).count());
+    }
+    for (k, one) in (1..).zip(ones) {
+        assert_eq!(select(&SAMPLE, 28, 16, k), one);
+    }
+    assert_eq!((select(&SAMPLE, 28, 16, 0), select(&SAMPLE, 28, 16, 7)), (0, 0));
+    // a string that the bytes do not hold is empty
+    assert_eq!((rank(&[], 0, 1, 1), select(&[0xFF], 1, usize::MAX, 1)), (0, 0));
+}

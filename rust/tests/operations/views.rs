@@ -1,0 +1,123 @@
+//! `Record` and `Index`, over the same operations.
+
+use crate::packing::*;
+use celduga::*;
+
+#[test]
+fn the_sample() {
+    let record = Record::new(&SAMPLE).unwrap();
+    assert_eq!(record.as_bytes(), SAMPLE);
+    assert_eq!((record.sizes().terminals(), record.sizes().wires()), (6, 5));
+    assert_eq!(record.unpack(), SAMPLE_BLOCKS.concat());
+    assert_eq!(record.loop_figure(), 0);
+    assert_eq!(record.degree(Vertex(3)), Ok(3));
+    let index = record.index();
+    assert_eq!(index.record(), record);
+    assert_eq!(index.as_bytes(), SAMPLE_INDEX);
+    assert_eq!(index.parent(Vertex(1)), Ok(None));
+    assert_eq!(index.parent(Vertex(2)), Ok(Some(Vertex(3))));
+    assert_eq!(index.head(Vertex(2)), Ok(Vertex(1)));
+    assert_eq!(index.ancestor(Vertex(1), Vertex(4)), Ok(true));
+    assert_eq!(index.ancestor(Vertex(4), Vertex(1)), Ok(false));
+    assert_eq!(index.children(Vertex(3)), Ok(2));
+    assert_eq!(index.child(Vertex(3), 2), Ok(Vertex(4)));
+    assert_eq!(index.visit(Vertex(2)), Ok(Dfi(3)));
+    assert_eq!(index.visited(Dfi(3)), Ok(Vertex(2)));
+    assert_eq!(index.into_bytes(), SAMPLE_INDEX);
+}
+
+#[test]
+fn an_index_owns_its_bytes_or_borrows_them() {
+    let record = Record::new(&SAMPLE).unwrap();
+    let borrowed = Index::new(record, &SAMPLE_INDEX).unwrap();
+    let owned = Index::new(record, SAMPLE_INDEX.to_vec()).unwrap();
+    assert_eq!(borrowed, owned);
+    assert_eq!(borrowed, record.index());
+    // it outlives the view that it was made from
+    let index = { Record::new(&SAMPLE).unwrap().index() };
+    assert_eq!(index.head(Vertex(6)), Ok(Vertex(6)));
+}
+
+#[test]
+fn the_empty_record() {
+    let record = Record::new(&EMPTY).unwrap();
+    assert_eq!(record.vertices().len(), 0);
+    assert_eq!(record.unpack(), []);
+    assert_eq!(record.loop_figure(), 1);
+    assert_eq!(record.degree(Vertex(1)), Err(Refusal::NoTerminal));
+    let index = record.index();
+    assert_eq!(index.as_bytes(), []);
+    assert_eq!(index.head(Vertex(1)), Err(Refusal::NoTerminal));
+}
+
+#[test]
+fn one_wire() {
+    let record = Record::new(&WIRE).unwrap();
+    assert_eq!(record.unpack(), [2, 1]);
+    assert!(record.vertices().eq([Vertex(1), Vertex(2)]));
+    let index = record.index();
+    assert_eq!(index.parent(Vertex(2)), Ok(Some(Vertex(1))));
+    // the wire is a bridge
+    assert_eq!(index.head(Vertex(2)), Ok(Vertex(2)));
+}
+
+#[test]
+fn visit_numbers_are_no_terminals() {
+    // the path 1, 3, 4, 2
+    let bytes = record(&[&[3][..], &[4], &[1, 4], &[3, 2]]);
+    let index = Record::new(&bytes).unwrap().index();
+    for (i, v) in (1..).zip([1, 3, 4, 2]) {
+        assert_eq!(index.visited(Dfi(i)), Ok(Vertex(v)));
+        assert_eq!(index.visit(Vertex(v)), Ok(Dfi(i)));
+    }
+}
+
+/// The blocks of 4,096 terminals in a ring, each with a wire to those at these steps on both sides.
+fn ring(steps: &[u16]) -> Vec<Vec<u16>> {
+    let around = |v: u16, step: u16| (v + step) % 4096 + 1;
+    (0..4096)
+        .map(|v| steps.iter().flat_map(|&step| [around(v, step), around(v, 4096 - step)]).collect())
+        .collect()
+}
+
+#[test]
+fn the_largest_record() {
+    let blocks = ring(&[1, 2, 3, 4]);
+    let bytes = record(&blocks);
+    let record = Record::new(&bytes).unwrap();
+    let sizes = record.sizes();
+    assert_eq!((sizes.terminals(), sizes.wires()), (4096, 16384));
+    assert_eq!((bytes.len(), sizes.record_len()), (53764, 53764));
+    assert_eq!((sizes.index_len(), sizes.work_len(), sizes.list_len()), (19968, 32768, 32768));
+    assert_eq!(record.unpack(), blocks.concat());
+    assert_eq!(record.loop_figure(), 12289);
+    let index = record.index();
+    for v in record.vertices() {
+        assert_eq!(index.head(v), Ok(Vertex(1)));
+        assert_eq!(index.visited(index.visit(v).unwrap()), Ok(v));
+    }
+}
+
+#[test]
+fn views_go_to_other_threads() {
+    let index = Record::new(&SAMPLE).unwrap().index();
+    let heads: Vec<_> = std::thread::scope(|scope| {
+        let asked: Vec<_> = index
+            .record()
+            .vertices()
+            .map(|v| (v, &index))
+            .map(|(v, index)| scope.spawn(move || index.head(v)))
+            .collect();
+        asked.into_iter().map(|thread| thread.join().unwrap()).collect()
+    });
+    assert_eq!(heads, [1, 1, 1, 4, 5, 6].map(|head| Ok(Vertex(head))));
+}
+
+#[test]
+fn sizes_of_any_header() {
+    assert_eq!(Sizes::of(&SAMPLE[..3]), None);
+    let highest = Sizes::of(&[0xFF; 4]).unwrap();
+    assert_eq!((highest.terminals(), highest.wires()), (8191, 32767));
+    let mixed = Sizes::of(&[0xA5, 0x1C, 0x5A, 0xC3]).unwrap();
+    assert_eq!((mixed.terminals(), mixed.wires()), (0b1010010100011, 0b100010110101100));
+}
