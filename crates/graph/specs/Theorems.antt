@@ -1,7 +1,7 @@
 -- The theorems, for the forest of any list of starts that covers the vertices, and for doubled neighbours too. Each is a citation of a law.
 use Prim.Native.Nat.{ℕ, suc, _-_, _*_, _+_, _≤_, _<_, min}
 use mathlib.Core.Path.{_≡_}
-use mathlib.Core.Logic.{_⊎_, _↔_}
+use mathlib.Core.Logic.{_⊎_, inr, _↔_}
 use mathlib.Core.Bool.{Bool, true, false}
 use mathlib.Core.List.{List, [], _∷_, List·Memᴰ, flatten}
 use lib.Dec.{eqb}
@@ -29,7 +29,7 @@ use Rattle.graph.specs.Laws.Bridges.Sweep.{Least, sweep-begin, sweep-roo
 use Rattle.graph.specs.Laws.Heads.Sections.{same-head}
 use Rattle.graph.specs.Laws.Loop.Arrays.{Cells, Kept, Same, Enters}
 use Rattle.graph.specs.Laws.Loop.Invariant.{Loop, loop-begin, loop-pass-start, loop-enter-start, loop-pass, loop-enter, loop-return, loop-end}
-use Rattle.graph.specs.Laws.Heads.Walks.{HeadSteps, walk-head, AncestorSteps, walk-ancestor}
+use Rattle.graph.specs.Laws.Heads.Walks.{HeadSteps, walk-head, rise-head, AncestorSteps, walk-ancestor}
 
 -- `forest g` takes the vertices in order: they cover
 pub vertices-cover : (g : Blocks) → Covers g (countUp 0 (length g))
@@ -186,6 +186,11 @@ module _ {g : Blocks} (wf : WellFormed g) {starts : List ℕ} (cov : Covers g st
   pub head-by-steps : {A : Type 0} {answer : ℕ → A} {next : ℕ → A ⊎ ℕ} → HeadSteps g (search g all starts) answer next
       → (late : A) (v : ℕ) → v < length g → walk next late (length g - 1) v ≡ answer (head g (search g all starts) v)
   head-by-steps = walk-head wf (spans (wf .in-range) cov)
+
+  -- where such a step goes up, both vertices have one head
+  pub head-of-step : {A : Type 0} {answer : ℕ → A} {next : ℕ → A ⊎ ℕ} → HeadSteps g (search g all starts) answer next
+      → {v u : ℕ} → v < length g → u < length g → next v ≡ inr u → answer (head g (search g all starts) v) ≡ answer (head g (search g all starts) u)
+  head-of-step = rise-head wf (spans (wf .in-range) cov)
 
 -- the test of joined is the relation, and bridge marks stand at both places of a wire or at neither
 pub joined-told : {g : Blocks} → InRange g → (ok : PlaceTest) (u v : ℕ) → u < length g → (joined g ok u v ≡ true) ↔ Chain g ok u v

@@ -7,3 +7,4 @@ pub mod Stepping
 pub mod Climbing
 pub mod Singles
 pub mod Paired
+pub mod Tabling

@@ -6,4 +6,5 @@ pub mod Answers
 pub mod Steps
 pub mod Laws
 pub mod Demands
+pub mod Table
 pub mod Examples

@@ -17,6 +17,7 @@ mod climbs; // climbs.rt: steps up the forest
 mod ascents; // ascents.rt: climbs, with the starts of the blocks
 mod single; // single.rt: one vertex
 mod visits; // visits.rt: the stored numbers
+pub mod table; // table.rt: the answers for all terminals at once
 pub mod pair; // pair.rt: demand 3 over the running code
 
 // What stands above a terminal.

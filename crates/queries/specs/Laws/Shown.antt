@@ -15,14 +15,14 @@ use Rattle.graph.specs.Graph.{block, target, position, WellFormed}
 use Rattle.graph.specs.Search.{Forest, all, search, countUp}
 use Rattle.graph.specs.Joined.{bridge}
 use Rattle.graph.specs.Forest.{number, vertexAt, parent, head, children, childMark, parentMark}
-use Rattle.graph.specs.Theorems.{wires-balance, number-in-range, vertex-in-range, vertex-of-number, number-of-vertex, children-as-listed, children-counted, parent-mark-once, parent-mark-none, ancestor-by-steps, head-by-steps}
+use Rattle.graph.specs.Theorems.{wires-balance, number-in-range, vertex-in-range, vertex-of-number, number-of-vertex, children-as-listed, children-counted, parent-mark-once, parent-mark-none, ancestor-by-steps, head-by-steps, head-of-step}
 use Rattle.graph.specs.Laws.Places.Basics.{clash}
 use Rattle.graph.specs.Laws.Places.Pairing.{place-at, source}
 use Rattle.graph.specs.Laws.Tree.Ancestors.{ancestor}
 use Rattle.graph.specs.Laws.Joined.Spanning.{Covers, search-spans}
 use Rattle.graph.specs.Laws.Edges.Marks.{back-place, back-marked, back-parent, first-back}
-use Rattle.graph.specs.Laws.Heads.Walks.{HeadSteps, AncestorSteps}
-use Rattle.record.specs.Answers.{refused, answered}
+use Rattle.graph.specs.Laws.Heads.Walks.{walk-stop, HeadSteps, AncestorSteps}
+use Rattle.record.specs.Answers.{Answer, refused, answered}
 use Rattle.forest.specs.Laws.Sections.{length-each, each-at}
 use Rattle.queries.specs.View.{View}
 use Rattle.queries.specs.Queries.{top, rise, stepBy, stepUp, parentBy, parentOf, headBy, headNext, headOf, ancestorBy, ancestorNext, ancestorOf, childCount, vertexOr, childOf, visitOf, found, visitedOf}
@@ -120,6 +120,14 @@ module _ {w : View} {starts : List ℕ} (wf : WellFormed (w .graph)) (cov : Cove
   pub head-shown : (u : ℕ) → u < length (w .graph) → headOf w u ≡ answered (suc (head (w .graph) F u))
   unfolding headOf
   head-shown u h = head-by-steps wf cov head-steps (refused 12) u h
+
+  -- where one step stops, and where it goes up
+  pub head-stopped : (u : ℕ) → u < length (w .graph) → {a : Answer ℕ} → headNext w u ≡ inl a → a ≡ answered (suc (head (w .graph) F u))
+  head-stopped u h e = sym (walk-stop (headNext w) (refused 12) (length (w .graph) - 1) e) ∙ head-by-steps wf cov head-steps (refused 12) u h
+
+  pub head-risen : {u p : ℕ} → u < length (w .graph) → p < length (w .graph) → headNext w u ≡ inr p
+      → answered (suc (head (w .graph) F u)) ≡ answered (suc (head (w .graph) F p))
+  head-risen h l e = head-of-step wf cov head-steps h l e
 
   -- ---- Ancestor
 

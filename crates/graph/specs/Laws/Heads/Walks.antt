@@ -67,11 +67,9 @@ pub record HeadSteps {A : Type 0} (g : Blocks) (F : Forest) (answer : ℕ → A)
   pub bridge-stops : (v i : ℕ) → i < length (block g v) → parentMark g g F v i ≡ true → bridge g v i ≡ true → next v ≡ inl (answer v)
   pub goes-up : (v i : ℕ) → i < length (block g v) → parentMark g g F v i ≡ true → bridge g v i ≡ false → next v ≡ inr (target g v i)
 
-pub walk-head : {A : Type 0} {g : Blocks} → WellFormed g → {F : Forest} → Spanning g F → {answer : ℕ → A} {next : ℕ → A ⊎ ℕ}
-    → HeadSteps g F answer next → (late : A) (v : ℕ) → v < length g → walk next late (length g - 1) v ≡ answer (head g F v)
-walk-head {g = g} wf {F = F} span {answer = answer} {next = next} st late v h =
-    walk-value next late (span .built) (record { at-root = on-root; at-child = λ u j x m. on-child u j x m (told (bridge g u j)) })
-    (length g - 1) v (span .whole v h) (let a = number-range span v h in omega arith)
+follows-head : {A : Type 0} {g : Blocks} → WellFormed g → {F : Forest} → Spanning g F → {answer : ℕ → A} {next : ℕ → A ⊎ ℕ}
+    → HeadSteps g F answer next → Follows F next (λ v. answer (head g F v))
+follows-head {g = g} wf {F = F} span {answer = answer} {next = next} st = record { at-root = on-root; at-child = λ u j x m. on-child u j x m (told (bridge g u j)) }
   where
     on-root : (x : ℕ) → List·Memᴰ (root x) F → next x ≡ inl (answer (head g F x))
     on-root x m = st .root-stops x (span .within x (entry-entered m)) (parent-root (span .built) m) ∙ ap (λ y. inl (answer y)) (sym (head-root g (span .built) m))
@@ -90,6 +88,19 @@ walk-head {g = g} wf {F = F} span {answer = answer} {next = next} st late v h =
     on-child u j x m (pass e) = inl (st .bridge-stops x (twin g u j) (fits m) (marked m) (both m ∙ e) ∙ ap (λ y. inl (answer y)) (sym (head-bridge g (span .built) m e)))
     on-child u j x m (fail e) =
         inr (st .goes-up x (twin g u j) (fits m) (marked m) (both m ∙ e) ∙ ap inr (twin-place wf (tree-place span m) .leads), ap answer (head-parent g (span .built) m e))
+
+module _ {A : Type 0} {g : Blocks} (wf : WellFormed g) {F : Forest} (span : Spanning g F) {answer : ℕ → A} {next : ℕ → A ⊎ ℕ} (st : HeadSteps g F answer next) where
+  walk-enough : (late : A) (k v : ℕ) → v < length g → length g - 1 ≤ k → walk next late k v ≡ answer (head g F v)
+  walk-enough late k v h l = walk-value next late (span .built) (follows-head wf span st) k v (span .whole v h) (let a = number-range span v h in omega arith)
+
+  pub walk-head : (late : A) (v : ℕ) → v < length g → walk next late (length g - 1) v ≡ answer (head g F v)
+  walk-head late v h = walk-enough late (length g - 1) v h (omega arith)
+
+  -- a step up leaves the answer as it is
+  pub rise-head : {v u : ℕ} → v < length g → u < length g → next v ≡ inr u → answer (head g F v) ≡ answer (head g F u)
+  rise-head {v} {u} h l e =
+      let late : A = answer v in
+      sym (walk-enough late (suc (length g)) v h (omega arith)) ∙ walk-up next late (length g) e ∙ walk-enough late (length g) u l (omega arith)
 
 -- ---- Ancestor: up by the parent mark, on the side h that lists the way back
 

@@ -1,0 +1,88 @@
+-- `table::fill_climbs` meets its contract.
+use Rattle.queries.proofs.Laws.Tabling.{cells-begin, cells-put, cells-end, ready-beside, vertex-inside, vertices-apart}
+use Rattle.queries.specs.Table.{HeadsTo, ParentsTo}
+use Rattle.graph.specs.Forest.{parent as parentIn, head as headIn}
+use Rattle.graph.specs.Search.{forest}
+use Rattle.record.specs.Record.{blocks}
+use Prim.Native.Nat.{ℕ, suc, _-_}
+use native.Mathlib.Omega.{arith}
+use mathlib.Core.Path.{sym, ap, _∙_}
+use Rattle.queries.proofs.table.fill_climbs.Statement.{statement}
+use Rattle.queries.proofs.table.fill_climbs.Tie as tie
+
+abbrev Inv-loop : tie.InvT-loop
+Inv-loop bytes index n m starts order parents₀ heads₀ k₀ parents heads k = ParentsTo bytes n k parents × HeadsTo bytes n k heads
+
+abbrev μ-loop : tie.MeasureT-loop
+μ-loop bytes index n m starts order parents₀ heads₀ k₀ parents heads k = n - k
+
+loop-holds : tie.Need-loop-holds Inv-loop μ-loop
+loop-holds c = (record { hold = cells-begin (c .before .before .before .before .before .before .pre .3) }, record { hold = cells-begin (c .before .before .before .before .before .before .pre .4) })
+
+get-requires : tie.Need-get-requires Inv-loop μ-loop
+get-requires c κs = let s = c .before .before .before .before .before .before .before .before .pre .2 .size in let t = c .loop-test .taken in omega arith
+
+place-of-requires : tie.Need-place-of-requires Inv-loop μ-loop
+place-of-requires c κs =
+    let t = c .before .before .loop-test .taken in
+    (c .before .before .before .before .before .before .before .before .before .before .pre .0, c .before .before .before .before .before .before .before .before .before .before .pre .1, t, c .before .get .ensures .0 ∙ c .before .before .before .before .before .before .before .before .before .before .pre .2 .cells (c .before .before .before .loop .k) t, c .before .before .before .loop .inv .1)
+
+put-requires : tie.Need-put-requires Inv-loop μ-loop
+put-requires c κs =
+    let t = c .before .before .before .before .loop-test .taken in
+    let i = vertex-inside (c .before .before .before .before .before .before .before .before .before .before .before .before .pre .0) t in
+    let q = c .before .before .before .get .ensures .0 ∙ c .before .before .before .before .before .before .before .before .before .before .before .before .pre .2 .cells (c .before .before .before .before .before .loop .k) t in
+    let s = c .before .before .before .before .before .loop .inv .0 .hold .size in
+    (omega arith, c .before .place-of .ensures .2)
+
+put-requires-2 : tie.Need-put-requires-2 Inv-loop μ-loop
+put-requires-2 c κs =
+    let t = c .before .before .before .before .before .before .before .before .loop-test .taken in
+    let i = vertex-inside (c .before .before .before .before .before .before .before .before .before .before .before .before .before .before .before .before .pre .0) t in
+    let q = c .before .before .before .before .before .before .before .get .ensures .0 ∙ c .before .before .before .before .before .before .before .before .before .before .before .before .before .before .before .before .pre .2 .cells (c .before .before .before .before .before .before .before .before .before .loop .k) t in
+    let s = c .before .before .before .before .before .before .before .before .before .loop .inv .1 .hold .size in
+    (omega arith, c .before .before .before .before .before .place-of .ensures .3)
+
+add-k : tie.Need-add-k Inv-loop μ-loop
+add-k c = let f = ready-beside (c .before .before .before .before .before .before .before .before .before .before .before .before .before .before .before .before .before .before .before .pre .0) .framed .n-fits in let t = c .before .before .before .before .before .before .before .before .before .before .before .loop-test .taken in omega arith
+
+loop-less : tie.Need-loop-less Inv-loop μ-loop
+loop-less c = let t = c .before .before .before .before .before .before .before .before .before .before .before .loop-test .taken in omega arith
+
+loop-again : tie.Need-loop-again Inv-loop μ-loop
+loop-again c =
+    let t = c .before .before .before .before .before .before .before .before .before .before .before .loop-test .taken in
+    let q = c .before .before .before .before .before .before .before .before .before .before .get .ensures .0 ∙ c .before .before .before .before .before .before .before .before .before .before .before .before .before .before .before .before .before .before .before .pre .2 .cells (c .before .before .before .before .before .before .before .before .before .before .before .before .loop .k) t in
+    let i = vertex-inside (c .before .before .before .before .before .before .before .before .before .before .before .before .before .before .before .before .before .before .before .pre .0) t in
+    let d = vertices-apart (c .before .before .before .before .before .before .before .before .before .before .before .before .before .before .before .before .before .before .before .pre .0) t in
+    let g = blocks (c .before .before .before .before .before .before .before .before .before .before .before .before .before .before .before .before .before .before .before .args .bytes .now) in (
+      record { hold = cells-put (c .before .before .before .before .before .before .before .before .before .before .before .before .loop .inv .0 .hold) d q i (c .before .before .before .before .before .before .before .before .place-of .ensures .0 ∙ ap (parentIn (forest g)) q) (c .before .before .before .before .before .before .put .ensures) },
+      record { hold = cells-put (c .before .before .before .before .before .before .before .before .before .before .before .before .loop .inv .1 .hold) d q i (c .before .before .before .before .before .before .before .before .place-of .ensures .1 ∙ ap (λ (x : ℕ). suc (headIn g (forest g) x)) q) (c .before .before .put2 .ensures) },
+    )
+
+same-length : tie.Need-same-length Inv-loop μ-loop
+same-length c = c .before .loop .inv .0 .hold .size ∙ sym (c .before .before .before .before .before .before .before .before .pre .3)
+
+same-length-2 : tie.Need-same-length-2 Inv-loop μ-loop
+same-length-2 c = c .before .loop .inv .1 .hold .size ∙ sym (c .before .before .before .before .before .before .before .before .pre .4)
+
+returns : tie.Need-returns Inv-loop μ-loop
+returns c = (record { hold = cells-end (c .loop-test .left) (c .before .loop .inv .0 .hold) }, record { hold = cells-end (c .loop-test .left) (c .before .loop .inv .1 .hold) })
+
+pub fill-climbs-spec : {M : Type 1} → statement M
+fill-climbs-spec =
+    tie.close
+    (tie.spec
+    Inv-loop
+    μ-loop
+    loop-holds
+    get-requires
+    place-of-requires
+    put-requires
+    put-requires-2
+    add-k
+    loop-less
+    loop-again
+    same-length
+    same-length-2
+    returns)

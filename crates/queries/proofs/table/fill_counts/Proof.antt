@@ -1,0 +1,121 @@
+-- `table::fill_counts` meets its contract.
+use Rattle.queries.proofs.Laws.Tabling.{cells-begin, cells-put, cells-end, apart-self, ready-beside, count-cell, count-small}
+use Rattle.queries.proofs.Laws.Climbing.{starts-long, block-from, block-to}
+use Rattle.queries.proofs.Laws.Stepping.{block-bounds}
+use Rattle.queries.specs.Table.{Cells}
+use Rattle.graph.specs.Forest.{children}
+use Rattle.graph.specs.Search.{forest}
+use Rattle.record.specs.Record.{blocks}
+use Prim.Native.Nat.{_-_}
+use lib.ListN.{length}
+use native.Mathlib.Omega.{arith}
+use mathlib.Core.Path.{refl, sym, _∙_}
+use Rattle.queries.proofs.table.fill_counts.Statement.{statement}
+use Rattle.queries.proofs.table.fill_counts.Tie as tie
+
+abbrev Inv-loop : tie.InvT-loop
+Inv-loop bytes index n m starts counts₀ v₀ counts v = Cells (λ u. u) (λ u. length (children (forest (blocks bytes)) u)) n v counts
+
+abbrev μ-loop : tie.MeasureT-loop
+μ-loop bytes index n m starts counts₀ v₀ counts v = n - v
+
+loop-holds : tie.Need-loop-holds Inv-loop μ-loop
+loop-holds c = cells-begin (c .before .before .before .before .pre .2)
+
+get-requires : tie.Need-get-requires Inv-loop μ-loop
+get-requires c κs = let l = starts-long (ready-beside (c .before .before .before .before .before .before .pre .0) .sound) (c .before .before .before .before .before .before .pre .1) in let t = c .loop-test .taken in omega arith
+
+add-get : tie.Need-add-get Inv-loop μ-loop
+add-get c = let f = ready-beside (c .before .before .before .before .before .before .before .pre .0) .framed .n-fits in let t = c .before .loop-test .taken in omega arith
+
+get-requires-2 : tie.Need-get-requires-2 Inv-loop μ-loop
+get-requires-2 c κs = let l = starts-long (ready-beside (c .before .before .before .before .before .before .before .pre .0) .sound) (c .before .before .before .before .before .before .before .pre .1) in let t = c .before .loop-test .taken in omega arith
+
+add-count-children : tie.Need-add-count-children Inv-loop μ-loop
+add-count-children c =
+    let b = ready-beside (c .before .before .before .before .before .before .before .before .before .pre .0) in
+    let t = c .before .before .before .loop-test .taken in
+    let ea = block-from b (c .before .before .before .before .before .before .before .before .before .pre .1) t (c .before .before .get .ensures .0) (c .before .get2 .ensures .0) in
+    let eb = block-to b (c .before .before .before .before .before .before .before .before .before .pre .1) t (c .before .before .get .ensures .0) (c .before .get2 .ensures .0) in
+    let (p, q) = block-bounds (b .sound) t ea eb in
+    let x = b .framed .n-fits in
+    let y = b .framed .m-fits in
+    omega arith
+
+add-count-children-2 : tie.Need-add-count-children-2 Inv-loop μ-loop
+add-count-children-2 c =
+    let b = ready-beside (c .before .before .before .before .before .before .before .before .before .pre .0) in
+    let t = c .before .before .before .loop-test .taken in
+    let ea = block-from b (c .before .before .before .before .before .before .before .before .before .pre .1) t (c .before .before .get .ensures .0) (c .before .get2 .ensures .0) in
+    let eb = block-to b (c .before .before .before .before .before .before .before .before .before .pre .1) t (c .before .before .get .ensures .0) (c .before .get2 .ensures .0) in
+    let (p, q) = block-bounds (b .sound) t ea eb in
+    let x = b .framed .n-fits in
+    let y = b .framed .m-fits in
+    omega arith
+
+sub-count-children : tie.Need-sub-count-children Inv-loop μ-loop
+sub-count-children c =
+    let b = ready-beside (c .before .before .before .before .before .before .before .before .before .pre .0) in
+    let t = c .before .before .before .loop-test .taken in
+    let ea = block-from b (c .before .before .before .before .before .before .before .before .before .pre .1) t (c .before .before .get .ensures .0) (c .before .get2 .ensures .0) in
+    let eb = block-to b (c .before .before .before .before .before .before .before .before .before .pre .1) t (c .before .before .get .ensures .0) (c .before .get2 .ensures .0) in
+    block-bounds (b .sound) t ea eb .0
+
+count-children-requires : tie.Need-count-children-requires Inv-loop μ-loop
+count-children-requires c κs =
+    let b = ready-beside (c .before .before .before .before .before .before .before .before .before .pre .0) in
+    let t = c .before .before .before .loop-test .taken in
+    let ea = block-from b (c .before .before .before .before .before .before .before .before .before .pre .1) t (c .before .before .get .ensures .0) (c .before .get2 .ensures .0) in
+    let eb = block-to b (c .before .before .before .before .before .before .before .before .before .pre .1) t (c .before .before .get .ensures .0) (c .before .get2 .ensures .0) in
+    let (p, q) = block-bounds (b .sound) t ea eb in
+    (b .framed, omega arith)
+
+put-requires : tie.Need-put-requires Inv-loop μ-loop
+put-requires c κs =
+    let b = ready-beside (c .before .before .before .before .before .before .before .before .before .before .pre .0) in
+    let t = c .before .before .before .before .loop-test .taken in
+    let ea = block-from b (c .before .before .before .before .before .before .before .before .before .before .pre .1) t (c .before .before .before .get .ensures .0) (c .before .before .get2 .ensures .0) in
+    let eb = block-to b (c .before .before .before .before .before .before .before .before .before .before .pre .1) t (c .before .before .before .get .ensures .0) (c .before .before .get2 .ensures .0) in
+    let s = c .before .before .before .before .before .loop .inv .size in
+    (omega arith, count-small (c .before .before .before .before .before .before .before .before .before .before .pre .0) t ea eb (c .count-children .ensures))
+
+add-v : tie.Need-add-v Inv-loop μ-loop
+add-v c = let f = ready-beside (c .before .before .before .before .before .before .before .before .before .before .before .before .before .pre .0) .framed .n-fits in let t = c .before .before .before .before .before .before .before .loop-test .taken in omega arith
+
+loop-less : tie.Need-loop-less Inv-loop μ-loop
+loop-less c = let t = c .before .before .before .before .before .before .before .loop-test .taken in omega arith
+
+loop-again : tie.Need-loop-again Inv-loop μ-loop
+loop-again c =
+    let b = ready-beside (c .before .before .before .before .before .before .before .before .before .before .before .before .before .pre .0) in
+    let t = c .before .before .before .before .before .before .before .loop-test .taken in
+    let ea = block-from b (c .before .before .before .before .before .before .before .before .before .before .before .before .before .pre .1) t (c .before .before .before .before .before .before .get .ensures .0) (c .before .before .before .before .before .get2 .ensures .0) in
+    let eb = block-to b (c .before .before .before .before .before .before .before .before .before .before .before .before .before .pre .1) t (c .before .before .before .before .before .before .get .ensures .0) (c .before .before .before .before .before .get2 .ensures .0) in
+    cells-put (c .before .before .before .before .before .before .before .before .loop .inv) apart-self refl t (count-cell (c .before .before .before .before .before .before .before .before .before .before .before .before .before .pre .0) t ea eb (c .before .before .before .count-children .ensures)) (c .before .before .put .ensures)
+
+same-length : tie.Need-same-length Inv-loop μ-loop
+same-length c = c .before .loop .inv .size ∙ sym (c .before .before .before .before .before .before .pre .2)
+
+returns : tie.Need-returns Inv-loop μ-loop
+returns c = cells-end (c .loop-test .left) (c .before .loop .inv)
+
+pub fill-counts-spec : {M : Type 1} → statement M
+fill-counts-spec =
+    tie.close
+    (tie.spec
+    Inv-loop
+    μ-loop
+    loop-holds
+    get-requires
+    add-get
+    get-requires-2
+    add-count-children
+    add-count-children-2
+    sub-count-children
+    count-children-requires
+    put-requires
+    add-v
+    loop-less
+    loop-again
+    same-length
+    returns)
