@@ -244,10 +244,11 @@ static size_t read_fields(const uint8_t *bytes, size_t len, size_t start, size_t
 
 /* Rules 6 to 8 for fields below n. Each terminal keeps the last block that has it, which shows a repeat. The blocks in which v stands go to
    v's own part of `mentions`, in ascending order; they are as many as v's neighbours. Read back in order, each list must meet its blocks
-   again. */
+   again. The arrays have some cells to spare: where last[v] and next[v] agree in the low 12 bits of their addresses, the processor may take
+   a load of one to wait for a store to the other. */
 static uint32_t pairing(const struct graph *g)
 {
-    uint16_t last[MOST_TERMINALS], next[MOST_TERMINALS], mentions[2 * MOST_WIRES];
+    uint16_t last[MOST_TERMINALS + 64], next[MOST_TERMINALS + 160], mentions[2 * MOST_WIRES + 352];
     size_t u, p;
     int doubled = 0, uneven = 0;
     memset(last, 0, g->n * sizeof last[0]);
