@@ -15,7 +15,8 @@
 #include <string.h>
 #include <time.h>
 
-enum { MOST_N = 4096, MOST_M = 16384, MOST_INDEX = 3 * 4608 + 6144, COPIES = 1 << (SIZES - 1), ARGUMENTS = 1024, ROUNDS = 40 };
+enum { MOST_N = 4096, MOST_M = 16384, MOST_INDEX = 3 * 4608 + 6144, COPIES = 1 << (SIZES - 1), ARGUMENTS = 1024, ROUNDS = 40,
+       QUERY_ROUNDS = 100, STRING_ROUNDS = 400, LENGTHS = 7 };
 
 /* All operations under one name each. */
 struct side {
@@ -51,7 +52,7 @@ struct room {
 };
 
 static struct room rooms[2];
-static size_t arguments[OPS][ARGUMENTS][2];
+static size_t arguments[RANK][ARGUMENTS][2], string_arguments[LENGTHS][2][ARGUMENTS][2];
 static size_t answers, refusals[14];
 static volatile size_t sink;
 
@@ -313,15 +314,24 @@ static double pass_over(const struct side *s, struct room *r, enum op op, const 
     return now() - from;
 }
 
-/* The time of a call over the arguments, `count` times. */
-static double pass_queries(const struct side *s, struct room *r, enum op op, size_t count)
+/* The time of a call, of `count` over the arguments. */
+static double pass_queries(const struct side *s, struct room *r, enum op op, const size_t (*args)[2], size_t count)
 {
     size_t i, sum = 0;
     double from = now();
     for (i = 0; i < count; i++)
-        sum += call(s, r, op, arguments[op][i % ARGUMENTS][0], arguments[op][i % ARGUMENTS][1]);
+        sum += call(s, r, op, args[i % ARGUMENTS][0], args[i % ARGUMENTS][1]);
     sink = sum;
     return (now() - from) / (double)count;
+}
+
+/* As many calls as take plain C 50 microseconds. */
+static size_t enough(enum op op, const size_t (*args)[2])
+{
+    size_t count = 64;
+    while (pass_queries(&plain, &rooms[1], op, args, count) * (double)count < 5e4)
+        count *= 2;
+    return count;
 }
 
 static void keep_least(struct times *t, double a, double b)
@@ -332,18 +342,17 @@ static void keep_least(struct times *t, double a, double b)
         t->plain = b;
 }
 
-/* The least time of a call on each side, both run in turn. */
-static struct times measure(enum op op)
+/* One round of both sides. */
+static void try_both(struct times *t, enum op op, const size_t (*args)[2], size_t count)
 {
-    struct times t = { 0, 0 };
-    size_t count = 64;
-    int round;
-    while (pass_queries(&plain, &rooms[1], op, count) * (double)count < 5e4)
-        count *= 2;
-    for (round = 0; round < ROUNDS; round++)
-        keep_least(&t, pass_queries(&product, &rooms[0], op, count), pass_queries(&plain, &rooms[1], op, count));
-    note(op, t);
-    return t;
+    double a = pass_queries(&product, &rooms[0], op, args, count);
+    keep_least(t, a, pass_queries(&plain, &rooms[1], op, args, count));
+}
+
+static void try_records(struct times *t, enum op op, const struct record *first, int count)
+{
+    double a = pass_over(&product, &rooms[0], op, first, count);
+    keep_least(t, a, pass_over(&plain, &rooms[1], op, first, count));
 }
 
 /* One shape: Check, Build, Unpack and Loop figure at all sizes, in turn. At each size there are as many records as make up the same volume,
@@ -368,8 +377,7 @@ static void print_shape(int shape)
     for (round = 0; round < ROUNDS; round++)
         for (op = 0; op < WHOLE; op++)
             for (size = 0; size < SIZES; size++)
-                keep_least(&t[op][size], pass_over(&product, &rooms[0], (enum op)op, first[size], COPIES >> size),
-                           pass_over(&plain, &rooms[1], (enum op)op, first[size], COPIES >> size));
+                try_records(&t[op][size], (enum op)op, first[size], COPIES >> size);
     for (size = 0; size < SIZES; size++) {
         printf("| %s | %zu | %zu | %zu |", shape_names[shape], first[size]->n, first[size]->m, 8 * first[size]->len);
         for (op = 0; op < WHOLE; op++) {
@@ -424,10 +432,36 @@ static void choose_arguments(const struct record *r, const uint8_t *index)
     }
 }
 
+/* The queries on one record, in turn. */
+static void print_record_queries(int shape, int size)
+{
+    struct times t[RANK];
+    size_t count[RANK];
+    int op, round;
+    make_record(shape, size, 0, &records[0]);
+    ask(&records[0]);
+    call(&product, &rooms[0], BUILD, 0, 0);
+    call(&plain, &rooms[1], BUILD, 0, 0);
+    choose_arguments(&records[0], rooms[1].index);
+    memset(t, 0, sizeof t);
+    for (op = DEGREE; op < RANK; op++)
+        count[op] = enough((enum op)op, (const size_t(*)[2])arguments[op]);
+    for (round = 0; round < QUERY_ROUNDS; round++)
+        for (op = DEGREE; op < RANK; op++)
+            try_both(&t[op], (enum op)op, (const size_t(*)[2])arguments[op], count[op]);
+    printf("| %s | %zu | %zu |", shape_names[shape], records[0].n, records[0].m);
+    for (op = DEGREE; op < RANK; op++) {
+        note((enum op)op, t[op]);
+        printf(" %.0f | %.2f |", t[op].product, t[op].product / t[op].plain);
+    }
+    printf("\n");
+    fflush(stdout);
+}
+
 /* The queries, on the smallest and on the largest record of each shape. */
 static void print_queries(void)
 {
-    int shape, size, op;
+    int shape, op;
     printf("| shape | n | m |");
     for (op = DEGREE; op < RANK; op++)
         printf(" %s | ratio |", op_names[op]);
@@ -436,52 +470,52 @@ static void print_queries(void)
         printf("--:|--:|");
     printf("\n");
     for (shape = 0; shape < SHAPES; shape++) {
-        for (size = 0; size < SIZES; size += SIZES - 1) {
-            make_record(shape, size, 0, &records[0]);
-            ask(&records[0]);
-            call(&product, &rooms[0], BUILD, 0, 0);
-            call(&plain, &rooms[1], BUILD, 0, 0);
-            choose_arguments(&records[0], rooms[1].index);
-            printf("| %s | %zu | %zu |", shape_names[shape], records[0].n, records[0].m);
-            for (op = DEGREE; op < RANK; op++) {
-                struct times t = measure((enum op)op);
-                printf(" %.0f | %.2f |", t.product, t.product / t.plain);
-                fflush(stdout);
-            }
-            printf("\n");
-        }
+        print_record_queries(shape, 0);
+        print_record_queries(shape, SIZES - 1);
     }
 }
 
 /* Rank and select in strings of drawn bytes that start inside a byte. Half the bits are ones, and on average half the string is read. */
 static void print_strings(void)
 {
-    static const size_t lengths[] = { 20, 60, 250, 1000, 4000, 36864, 430000 };
+    static const size_t lengths[LENGTHS] = { 20, 60, 250, 1000, 4000, 36864, 430000 };
     static uint8_t bytes[MOST_RECORD_BYTES];
+    struct times t[LENGTHS][2];
+    size_t count[LENGTHS][2], i, j, all;
     uint64_t state = 13;
-    size_t i, j, all;
-    printf("| places | Rank | a word | ratio | Select | a word | ratio |\n|--:|--:|--:|--:|--:|--:|--:|\n");
+    int round, o;
     for (i = 0; i < sizeof bytes; i++)
         bytes[i] = (uint8_t)draw(&state, 256);
     string = bytes;
     string_len = sizeof bytes;
     string_start = 28;
-    for (i = 0; i < sizeof lengths / sizeof lengths[0]; i++) {
-        struct times r, s;
-        double words = (double)lengths[i] / 2 / 64;
+    memset(t, 0, sizeof t);
+    for (i = 0; i < LENGTHS; i++) {
         string_places = lengths[i];
         all = plain_rank(string, string_len, string_start, string_places, string_places);
         for (j = 0; j < ARGUMENTS; j++) {
-            arguments[RANK][j][0] = 1 + draw(&state, string_places);
-            arguments[SELECT][j][0] = 1 + draw(&state, all);
-            same(RANK, arguments[RANK][j][0], 0);
-            same(SELECT, arguments[SELECT][j][0], 0);
+            string_arguments[i][0][j][0] = 1 + draw(&state, string_places);
+            string_arguments[i][1][j][0] = 1 + draw(&state, all);
         }
-        r = measure(RANK);
-        s = measure(SELECT);
-        printf("| %zu | %.1f | %.2f | %.2f | %.1f | %.2f | %.2f |\n", string_places, r.product, r.product / words, r.product / r.plain,
-               s.product, s.product / words, s.product / s.plain);
-        fflush(stdout);
+        for (o = 0; o < 2; o++)
+            count[i][o] = enough((enum op)(RANK + o), (const size_t(*)[2])string_arguments[i][o]);
+    }
+    for (round = 0; round < STRING_ROUNDS; round++) {
+        for (i = 0; i < LENGTHS; i++) {
+            string_places = lengths[i];
+            for (o = 0; o < 2; o++)
+                try_both(&t[i][o], (enum op)(RANK + o), (const size_t(*)[2])string_arguments[i][o], count[i][o]);
+        }
+    }
+    printf("| places | Rank | a word | ratio | Select | a word | ratio |\n|--:|--:|--:|--:|--:|--:|--:|\n");
+    for (i = 0; i < LENGTHS; i++) {
+        double words = (double)lengths[i] / 2 / 64;
+        printf("| %zu |", lengths[i]);
+        for (o = 0; o < 2; o++) {
+            note((enum op)(RANK + o), t[i][o]);
+            printf(" %.1f | %.2f | %.2f |", t[i][o].product, t[i][o].product / words, t[i][o].product / t[i][o].plain);
+        }
+        printf("\n");
     }
 }
 
