@@ -1,0 +1,564 @@
+/* Compares the product with plain C on records of several shapes and sizes, first by answers and written buffers, then by time.
+
+   bench                      the tables, as Markdown
+   bench compare              the answers alone
+   bench once SIDE OP SHAPE   one call on the largest record of a shape, to be counted: SIDE is product or plain, OP is check or build
+
+   Both sides run in turn, many times, and the least time of each counts. No buffer is cleared between two timed calls. */
+#define _POSIX_C_SOURCE 200809L
+#include "celduga.h"
+#include "plain.h"
+#include "shapes.h"
+
+#include <stdio.h>
+#include <stdlib.h>
+#include <string.h>
+#include <time.h>
+
+enum { MOST_N = 4096, MOST_M = 16384, MOST_INDEX = 3 * 4608 + 6144, COPIES = 1 << (SIZES - 1), ARGUMENTS = 1024, ROUNDS = 40,
+       QUERY_ROUNDS = 100, STRING_ROUNDS = 400, LENGTHS = 7 };
+
+/* All operations under one name each. */
+struct side {
+    uint32_t (*check)(const uint8_t *, size_t);
+    uint32_t (*build)(const uint8_t *, size_t, uint16_t *, size_t, uint8_t *, size_t);
+    uint32_t (*unpack)(const uint8_t *, size_t, uint16_t *, size_t);
+    uint32_t (*loop_figure)(const uint8_t *, size_t);
+    uint32_t (*degree)(const uint8_t *, size_t, size_t);
+    uint32_t (*one[5])(const uint8_t *, size_t, const uint8_t *, size_t, size_t);
+    uint32_t (*two[2])(const uint8_t *, size_t, const uint8_t *, size_t, size_t, size_t);
+    size_t (*rank)(const uint8_t *, size_t, size_t, size_t, size_t);
+    size_t (*select)(const uint8_t *, size_t, size_t, size_t, size_t);
+};
+
+static const struct side product = { celduga_check, celduga_build, celduga_unpack, celduga_loop_figure, celduga_degree,
+    { celduga_parent, celduga_head, celduga_children, celduga_visit, celduga_visited }, { celduga_ancestor, celduga_child },
+    celduga_rank, celduga_select };
+
+static const struct side plain = { plain_check, plain_build, plain_unpack, plain_loop_figure, plain_degree,
+    { plain_parent, plain_head, plain_children, plain_visit, plain_visited }, { plain_ancestor, plain_child },
+    plain_rank, plain_select };
+
+/* What is called. PARENT to VISITED are the side's queries of one argument, ANCESTOR and CHILD those of two. */
+enum op { CHECK, BUILD, UNPACK, LOOPS, WHOLE, DEGREE = WHOLE, PARENT, HEAD, CHILDREN, VISIT, VISITED, ANCESTOR, CHILD, RANK, SELECT, OPS };
+
+static const char *const op_names[OPS] = { "Check", "Build", "Unpack", "Loop figure", "Degree", "Parent", "Head", "Children", "Visit",
+    "Visited", "Ancestor", "Child", "Rank", "Select" };
+
+/* What one side writes to. */
+struct room {
+    uint16_t work[8 * MOST_N], list[2 * MOST_M];
+    uint8_t index[MOST_INDEX + 1];
+};
+
+static struct room rooms[2];
+static size_t arguments[RANK][ARGUMENTS][2], string_arguments[LENGTHS][2][ARGUMENTS][2];
+static size_t answers, refusals[14];
+static volatile size_t sink;
+
+/* What is asked: a record, its buffers' lengths, or a string. */
+static struct record records[2 * COPIES];
+static const struct record *asked;
+static size_t work_len, index_len, list_len;
+static const uint8_t *string;
+static size_t string_len, string_start, string_places;
+
+static void ask(const struct record *r)
+{
+    asked = r;
+    work_len = 8 * r->n;
+    index_len = r->index_len;
+    list_len = 2 * r->m;
+}
+
+static inline size_t call(const struct side *s, struct room *r, enum op op, size_t a, size_t b)
+{
+    const uint8_t *bytes = asked->bytes;
+    size_t len = asked->len;
+    switch (op) {
+    case CHECK:
+        return s->check(bytes, len);
+    case BUILD:
+        return s->build(bytes, len, r->work, work_len, r->index, index_len);
+    case UNPACK:
+        return s->unpack(bytes, len, r->list, list_len);
+    case LOOPS:
+        return s->loop_figure(bytes, len);
+    case DEGREE:
+        return s->degree(bytes, len, a);
+    case RANK:
+        return s->rank(string, string_len, string_start, string_places, a);
+    case SELECT:
+        return s->select(string, string_len, string_start, string_places, a);
+    default:
+        if (op < ANCESTOR)
+            return s->one[op - PARENT](bytes, len, r->index, index_len, a);
+        return s->two[op - ANCESTOR](bytes, len, r->index, index_len, a, b);
+    }
+}
+
+/* ---- comparing ---- */
+
+static void differ(const char *what, size_t a, size_t b, size_t left, size_t right)
+{
+    fprintf(stderr, "n = %zu, m = %zu: %s(%zu, %zu) differs: product %zx, plain %zx\n", asked->n, asked->m, what, a, b, left, right);
+    exit(1);
+}
+
+static size_t same(enum op op, size_t a, size_t b)
+{
+    size_t left = call(&product, &rooms[0], op, a, b);
+    size_t right = call(&plain, &rooms[1], op, a, b);
+    if (left != right)
+        differ(op_names[op], a, b, left, right);
+    answers++;
+    if (op < RANK)
+        refusals[left >> 16]++;
+    return left;
+}
+
+/* Check, Loop figure, Build and Unpack. The two sides' buffers hold different bytes before, so that a byte left out shows; a refused call
+   must leave its own. */
+static void compare_whole(void)
+{
+    static struct room before[2];
+    int s;
+    for (s = 0; s < 2; s++) {
+        memset(rooms[s].index, s == 0 ? 0xAA : 0x55, sizeof rooms[s].index);
+        memset(rooms[s].list, s == 0 ? 0xAA : 0x55, sizeof rooms[s].list);
+        before[s] = rooms[s];
+    }
+    same(CHECK, 0, 0);
+    same(LOOPS, 0, 0);
+    if (same(BUILD, 0, 0) == 0) {
+        if (memcmp(rooms[0].index, rooms[1].index, index_len) != 0)
+            differ("the index written by Build", 0, 0, 0, 0);
+    } else if (memcmp(rooms[0].index, before[0].index, sizeof rooms[0].index) != 0) {
+        differ("the index left by Build", 0, 0, 0, 0);
+    }
+    if (same(UNPACK, 0, 0) == 0) {
+        if (memcmp(rooms[0].list, rooms[1].list, list_len * sizeof rooms[0].list[0]) != 0)
+            differ("the list written by Unpack", 0, 0, 0, 0);
+    } else if (memcmp(rooms[0].list, before[0].list, sizeof rooms[0].list) != 0) {
+        differ("the list left by Unpack", 0, 0, 0, 0);
+    }
+}
+
+static void compare_queries(size_t v, uint64_t *state)
+{
+    int op;
+    size_t children;
+    for (op = DEGREE; op < ANCESTOR; op++)
+        same((enum op)op, v, 0);
+    children = same(CHILDREN, v, 0) & 0xFFFF;
+    same(ANCESTOR, 1 + draw(state, asked->n), v);
+    same(ANCESTOR, v, 1 + draw(state, asked->n));
+    same(CHILD, v, draw(state, children + 2));
+}
+
+static void turn_bit(uint8_t *bytes, size_t at)
+{
+    bytes[at / 8] ^= (uint8_t)(0x80 >> at % 8);
+}
+
+static int bit(const uint8_t *bytes, size_t at)
+{
+    return bytes[at / 8] >> (7 - at % 8) & 1;
+}
+
+/* Breaks a record in one of several ways. */
+static void harm(struct record *r, uint64_t *state)
+{
+    size_t d = r->n + 2 * r->m, fields = 28 + d, at, from, i;
+    switch (draw(state, 6)) {
+    case 0: /* any bits */
+        for (i = draw(state, 3); i > 0; i--)
+            turn_bit(r->bytes, draw(state, 8 * r->len));
+        break;
+    case 1: /* two unequal neighbouring bits of D change places */
+        at = 28 + draw(state, d - 1);
+        if (bit(r->bytes, at) != bit(r->bytes, at + 1)) {
+            turn_bit(r->bytes, at);
+            turn_bit(r->bytes, at + 1);
+        }
+        break;
+    case 2: /* a field becomes one near it */
+        at = fields + 12 * draw(state, 2 * r->m);
+        from = fields + 12 * draw(state, 2 * r->m);
+        if (draw(state, 2) == 0)
+            from = at + 12 < fields + 24 * r->m ? at + 12 : fields;
+        for (i = 0; i < 12; i++)
+            if (bit(r->bytes, at + i) != bit(r->bytes, from + i))
+                turn_bit(r->bytes, at + i);
+        break;
+    case 3: /* two fields of a few change places */
+        at = fields + 12 * draw(state, 2 * r->m);
+        from = fields + 12 * draw(state, 2 * r->m);
+        for (i = 0; i < 12; i++) {
+            if (bit(r->bytes, at + i) != bit(r->bytes, from + i)) {
+                turn_bit(r->bytes, at + i);
+                turn_bit(r->bytes, from + i);
+            }
+        }
+        break;
+    case 4: /* the last bit */
+        turn_bit(r->bytes, 8 * r->len - 1);
+        break;
+    default: /* another length, or other lengths of the buffers */
+        if (draw(state, 2) == 0)
+            r->len = draw(state, r->len + 1);
+        if (draw(state, 4) == 0)
+            work_len = draw(state, work_len + 1);
+        if (draw(state, 2) == 0)
+            index_len = index_len > 0 ? index_len - 1 : 1;
+        if (draw(state, 2) == 0)
+            list_len = list_len > 0 ? list_len - 1 : 1;
+        break;
+    }
+}
+
+/* Broken records, and indexes with some bits turned. */
+static void compare_harmed(const struct record *r, uint64_t *state)
+{
+    static struct record harmed;
+    static uint8_t index[MOST_INDEX];
+    size_t i, turn;
+    ask(r);
+    plain_build(r->bytes, r->len, rooms[1].work, work_len, index, index_len);
+    for (turn = 0; turn < 200; turn++) {
+        harmed = *r;
+        ask(&harmed);
+        harm(&harmed, state);
+        compare_whole();
+        memcpy(rooms[0].index, index, r->index_len);
+        for (i = draw(state, 8); i > 0; i--)
+            turn_bit(rooms[0].index, draw(state, 8 * r->index_len));
+        memcpy(rooms[1].index, rooms[0].index, r->index_len);
+        for (i = 0; i < 4; i++)
+            compare_queries(draw(state, r->n + 2), state);
+    }
+}
+
+static void compare_strings(const struct record *r, uint64_t *state)
+{
+    size_t i, bits;
+    string = r->bytes;
+    for (i = 0; i < 2000; i++) {
+        string_len = draw(state, 2) == 0 ? r->len : draw(state, 40);
+        bits = 8 * string_len;
+        string_start = draw(state, 16) == 0 ? bits + draw(state, 20) : draw(state, bits + 1);
+        string_places = draw(state, 16) == 0 || string_start > bits ? draw(state, bits + 20) : draw(state, bits - string_start + 1);
+        if (draw(state, 64) == 0)
+            string_places = SIZE_MAX - draw(state, 8);
+        same(RANK, draw(state, bits + 20), 0);
+        same(SELECT, draw(state, bits / 4 + 4), 0);
+    }
+}
+
+static void compare_all(void)
+{
+    static struct record r;
+    uint64_t state = 7;
+    int shape, size;
+    size_t v;
+    for (shape = 0; shape < SHAPES; shape++) {
+        for (size = 0; size < SIZES; size++) {
+            make_record(shape, size, 0, &r);
+            compare_harmed(&r, &state);
+            ask(&r);
+            compare_whole();
+            if (plain_check(r.bytes, r.len) != 0)
+                differ("a record of the benchmark", 0, 0, 0, plain_check(r.bytes, r.len));
+            for (v = 0; v <= r.n + 1; v++)
+                compare_queries(v, &state);
+            compare_strings(&r, &state);
+        }
+    }
+}
+
+/* ---- timing ---- */
+
+static double now(void)
+{
+    struct timespec t;
+    clock_gettime(CLOCK_MONOTONIC, &t);
+    return 1e9 * (double)t.tv_sec + (double)t.tv_nsec;
+}
+
+struct times {
+    double product, plain;
+};
+
+static struct times worst[OPS], best[OPS];
+
+/* Keeps the best and the worst ratio of each operation. */
+static void note(enum op op, struct times t)
+{
+    if (worst[op].plain == 0 || t.product / t.plain > worst[op].product / worst[op].plain)
+        worst[op] = t;
+    if (best[op].plain == 0 || t.product / t.plain < best[op].product / best[op].plain)
+        best[op] = t;
+}
+
+/* The time of a call on each of the records from `first` on. */
+static double pass_over(const struct side *s, struct room *r, enum op op, const struct record *first, int count)
+{
+    int i;
+    size_t sum = 0;
+    double from = now();
+    for (i = 0; i < count; i++) {
+        ask(&first[i]);
+        sum += call(s, r, op, 0, 0);
+    }
+    sink = sum;
+    return now() - from;
+}
+
+/* The time of a call, of `count` over the arguments. */
+static double pass_queries(const struct side *s, struct room *r, enum op op, const size_t (*args)[2], size_t count)
+{
+    size_t i, sum = 0;
+    double from = now();
+    for (i = 0; i < count; i++)
+        sum += call(s, r, op, args[i % ARGUMENTS][0], args[i % ARGUMENTS][1]);
+    sink = sum;
+    return (now() - from) / (double)count;
+}
+
+/* As many calls as take plain C 50 microseconds. */
+static size_t enough(enum op op, const size_t (*args)[2])
+{
+    size_t count = 64;
+    while (pass_queries(&plain, &rooms[1], op, args, count) * (double)count < 5e4)
+        count *= 2;
+    return count;
+}
+
+static void keep_least(struct times *t, double a, double b)
+{
+    if (t->product == 0 || a < t->product)
+        t->product = a;
+    if (t->plain == 0 || b < t->plain)
+        t->plain = b;
+}
+
+/* One round of both sides. */
+static void try_both(struct times *t, enum op op, const size_t (*args)[2], size_t count)
+{
+    double a = pass_queries(&product, &rooms[0], op, args, count);
+    keep_least(t, a, pass_queries(&plain, &rooms[1], op, args, count));
+}
+
+static void try_records(struct times *t, enum op op, const struct record *first, int count)
+{
+    double a = pass_over(&product, &rooms[0], op, first, count);
+    keep_least(t, a, pass_over(&plain, &rooms[1], op, first, count));
+}
+
+/* One shape: Check, Build, Unpack and Loop figure at all sizes, in turn. At each size there are as many records as make up the same volume,
+   since the processor learns the branches of a small record that it meets again and again. */
+static void print_shape(int shape)
+{
+    static const struct times nothing;
+    struct times t[WHOLE][SIZES];
+    const struct record *first[SIZES];
+    double bits[SIZES];
+    int size, op, round, i, made = 0;
+    for (size = 0; size < SIZES; size++) {
+        first[size] = &records[made];
+        bits[size] = 0;
+        for (i = 0; i < COPIES >> size; i++) {
+            make_record(shape, size, i, &records[made]);
+            bits[size] += 8 * (double)records[made++].len;
+        }
+        for (op = 0; op < WHOLE; op++)
+            t[op][size] = nothing;
+    }
+    for (round = 0; round < ROUNDS; round++)
+        for (op = 0; op < WHOLE; op++)
+            for (size = 0; size < SIZES; size++)
+                try_records(&t[op][size], (enum op)op, first[size], COPIES >> size);
+    for (size = 0; size < SIZES; size++) {
+        printf("| %s | %zu | %zu | %zu |", shape_names[shape], first[size]->n, first[size]->m, 8 * first[size]->len);
+        for (op = 0; op < WHOLE; op++) {
+            note((enum op)op, t[op][size]);
+            printf(" %.2f | %.2f |", t[op][size].product / bits[size], t[op][size].product / t[op][size].plain);
+        }
+        printf("\n");
+    }
+    fflush(stdout);
+}
+
+static void print_whole(void)
+{
+    int shape, op;
+    printf("| shape | n | m | bits |");
+    for (op = 0; op < WHOLE; op++)
+        printf(" %s | ratio |", op_names[op]);
+    printf("\n|---|--:|--:|--:|");
+    for (op = 0; op < WHOLE; op++)
+        printf("--:|--:|");
+    printf("\n");
+    for (shape = 0; shape < SHAPES; shape++)
+        print_shape(shape);
+}
+
+/* Any terminal; for Ancestor any two, and every second time one that stands above; for Child one that has children, and one of them. */
+static void choose_arguments(const struct record *r, const uint8_t *index)
+{
+    uint64_t state = 11;
+    size_t i, up, p, children;
+    int op;
+    for (op = DEGREE; op < RANK; op++)
+        for (i = 0; i < ARGUMENTS; i++)
+            arguments[op][i][0] = 1 + draw(&state, r->n);
+    for (i = 0; i < ARGUMENTS; i++) {
+        size_t *ancestor = arguments[ANCESTOR][i], *child = arguments[CHILD][i];
+        ancestor[1] = 1 + draw(&state, r->n);
+        if (i % 2 == 0) {
+            ancestor[0] = ancestor[1];
+            for (up = draw(&state, 64); up > 0; up--) {
+                p = plain_parent(r->bytes, r->len, index, r->index_len, ancestor[0]);
+                if (p == 0)
+                    break;
+                ancestor[0] = p;
+            }
+        }
+        do {
+            child[0] = 1 + draw(&state, r->n);
+            children = plain_children(r->bytes, r->len, index, r->index_len, child[0]);
+        } while (children == 0);
+        child[1] = 1 + draw(&state, children);
+    }
+}
+
+/* The queries on one record, in turn. */
+static void print_record_queries(int shape, int size)
+{
+    struct times t[RANK];
+    size_t count[RANK];
+    int op, round;
+    make_record(shape, size, 0, &records[0]);
+    ask(&records[0]);
+    call(&product, &rooms[0], BUILD, 0, 0);
+    call(&plain, &rooms[1], BUILD, 0, 0);
+    choose_arguments(&records[0], rooms[1].index);
+    memset(t, 0, sizeof t);
+    for (op = DEGREE; op < RANK; op++)
+        count[op] = enough((enum op)op, (const size_t(*)[2])arguments[op]);
+    for (round = 0; round < QUERY_ROUNDS; round++)
+        for (op = DEGREE; op < RANK; op++)
+            try_both(&t[op], (enum op)op, (const size_t(*)[2])arguments[op], count[op]);
+    printf("| %s | %zu | %zu |", shape_names[shape], records[0].n, records[0].m);
+    for (op = DEGREE; op < RANK; op++) {
+        note((enum op)op, t[op]);
+        printf(" %.0f | %.2f |", t[op].product, t[op].product / t[op].plain);
+    }
+    printf("\n");
+    fflush(stdout);
+}
+
+/* The queries, on the smallest and on the largest record of each shape. */
+static void print_queries(void)
+{
+    int shape, op;
+    printf("| shape | n | m |");
+    for (op = DEGREE; op < RANK; op++)
+        printf(" %s | ratio |", op_names[op]);
+    printf("\n|---|--:|--:|");
+    for (op = DEGREE; op < RANK; op++)
+        printf("--:|--:|");
+    printf("\n");
+    for (shape = 0; shape < SHAPES; shape++) {
+        print_record_queries(shape, 0);
+        print_record_queries(shape, SIZES - 1);
+    }
+}
+
+/* Rank and select in strings of drawn bytes that start inside a byte. Half the bits are ones, and on average half the string is read. */
+static void print_strings(void)
+{
+    static const size_t lengths[LENGTHS] = { 20, 60, 250, 1000, 4000, 36864, 430000 };
+    static uint8_t bytes[MOST_RECORD_BYTES];
+    struct times t[LENGTHS][2];
+    size_t count[LENGTHS][2], i, j, all;
+    uint64_t state = 13;
+    int round, o;
+    for (i = 0; i < sizeof bytes; i++)
+        bytes[i] = (uint8_t)draw(&state, 256);
+    string = bytes;
+    string_len = sizeof bytes;
+    string_start = 28;
+    memset(t, 0, sizeof t);
+    for (i = 0; i < LENGTHS; i++) {
+        string_places = lengths[i];
+        all = plain_rank(string, string_len, string_start, string_places, string_places);
+        for (j = 0; j < ARGUMENTS; j++) {
+            string_arguments[i][0][j][0] = 1 + draw(&state, string_places);
+            string_arguments[i][1][j][0] = 1 + draw(&state, all);
+        }
+        for (o = 0; o < 2; o++)
+            count[i][o] = enough((enum op)(RANK + o), (const size_t(*)[2])string_arguments[i][o]);
+    }
+    for (round = 0; round < STRING_ROUNDS; round++) {
+        for (i = 0; i < LENGTHS; i++) {
+            string_places = lengths[i];
+            for (o = 0; o < 2; o++)
+                try_both(&t[i][o], (enum op)(RANK + o), (const size_t(*)[2])string_arguments[i][o], count[i][o]);
+        }
+    }
+    printf("| places | Rank | a word | ratio | Select | a word | ratio |\n|--:|--:|--:|--:|--:|--:|--:|\n");
+    for (i = 0; i < LENGTHS; i++) {
+        double words = (double)lengths[i] / 2 / 64;
+        printf("| %zu |", lengths[i]);
+        for (o = 0; o < 2; o++) {
+            note((enum op)(RANK + o), t[i][o]);
+            printf(" %.1f | %.2f | %.2f |", t[i][o].product, t[i][o].product / words, t[i][o].product / t[i][o].plain);
+        }
+        printf("\n");
+    }
+}
+
+static void print_ratios(void)
+{
+    int op;
+    printf("| operation | least ratio | greatest ratio |\n|---|--:|--:|\n");
+    for (op = 0; op < OPS; op++)
+        if (worst[op].plain > 0)
+            printf("| %s | %.2f | %.2f |\n", op_names[op], best[op].product / best[op].plain, worst[op].product / worst[op].plain);
+}
+
+static int once(const char *side, const char *op, const char *shape)
+{
+    const struct side *s = strcmp(side, "product") == 0 ? &product : &plain;
+    int i;
+    for (i = 0; i < SHAPES && strcmp(shape, shape_names[i]) != 0; i++)
+        continue;
+    if (i == SHAPES)
+        return 2;
+    make_record(i, SIZES - 1, 0, &records[0]);
+    ask(&records[0]);
+    return call(s, &rooms[0], strcmp(op, "check") == 0 ? CHECK : BUILD, 0, 0) != 0;
+}
+
+int main(int argc, char **argv)
+{
+    int i;
+    if (argc == 5 && strcmp(argv[1], "once") == 0)
+        return once(argv[2], argv[3], argv[4]);
+    compare_all();
+    printf("The two sides gave %zu equal answers. Refusals among them:", answers);
+    for (i = 1; i < 14; i++)
+        printf(" %zu of %d%s", refusals[i], i, i < 13 ? "," : ".\n");
+    if (argc == 2 && strcmp(argv[1], "compare") == 0)
+        return 0;
+    printf("\n### Whole records: nanoseconds of the product per bit of the record, and product / plain\n\n");
+    print_whole();
+    printf("\n### Queries: nanoseconds of the product per call, and product / plain\n\n");
+    print_queries();
+    printf("\n### Strings: nanoseconds of the product per call and per word read, and product / plain\n\n");
+    print_strings();
+    printf("\n### Ratios\n\n");
+    print_ratios();
+    return 0;
+}

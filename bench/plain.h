@@ -1,0 +1,25 @@
+/* Every operation of document 01 in plain C: what the product is measured against. Arguments and answers are those of celduga.h. */
+#ifndef PLAIN_H
+#define PLAIN_H
+
+#include <stddef.h>
+#include <stdint.h>
+
+uint32_t plain_check(const uint8_t *record, size_t len);
+uint32_t plain_build(const uint8_t *record, size_t len, uint16_t *work, size_t work_len, uint8_t *index, size_t index_len);
+uint32_t plain_degree(const uint8_t *record, size_t len, size_t v);
+uint32_t plain_unpack(const uint8_t *record, size_t len, uint16_t *list, size_t list_len);
+uint32_t plain_loop_figure(const uint8_t *record, size_t len);
+
+uint32_t plain_parent(const uint8_t *record, size_t len, const uint8_t *index, size_t index_len, size_t v);
+uint32_t plain_head(const uint8_t *record, size_t len, const uint8_t *index, size_t index_len, size_t v);
+uint32_t plain_ancestor(const uint8_t *record, size_t len, const uint8_t *index, size_t index_len, size_t u, size_t v);
+uint32_t plain_children(const uint8_t *record, size_t len, const uint8_t *index, size_t index_len, size_t v);
+uint32_t plain_child(const uint8_t *record, size_t len, const uint8_t *index, size_t index_len, size_t v, size_t j);
+uint32_t plain_visit(const uint8_t *record, size_t len, const uint8_t *index, size_t index_len, size_t v);
+uint32_t plain_visited(const uint8_t *record, size_t len, const uint8_t *index, size_t index_len, size_t i);
+
+size_t plain_rank(const uint8_t *bytes, size_t len, size_t start, size_t places, size_t p);
+size_t plain_select(const uint8_t *bytes, size_t len, size_t start, size_t places, size_t k);
+
+#endif

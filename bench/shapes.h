@@ -1,0 +1,23 @@
+/* Accepted records of several shapes, the same in every run. */
+#ifndef SHAPES_H
+#define SHAPES_H
+
+#include <stddef.h>
+#include <stdint.h>
+
+enum { SHAPES = 8, SIZES = 5, MOST_RECORD_BYTES = 53764 };
+
+extern const char *const shape_names[SHAPES];
+
+/* A number below `limit`, which is over 0, and the next state. */
+uint64_t draw(uint64_t *state, uint64_t limit);
+
+struct record {
+    size_t n, m, len, index_len;
+    uint8_t bytes[MOST_RECORD_BYTES];
+};
+
+/* Makes a record of a shape at a size, 0 to SIZES - 1, the last being the largest the format has room for; each `copy` is another draw. */
+void make_record(int shape, int size, int copy, struct record *r);
+
+#endif
