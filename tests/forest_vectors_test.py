@@ -1,33 +1,12 @@
 """Compares the stored output of the program forest_vectors with a plain search, written from document 01's words alone.
 
-The stored output is what `rt ci` holds the proved program to. Here the index is plain.py's, where a wire is a bridge if taking it out leaves
-its ends unjoined; for the large trees and the ring that is told from the shape. With an argument it prints the lines instead.
+The stored output is what `rt ci` holds the proved program to. Here the index is plain.py's, where a wire is a bridge if taking it out
+leaves its ends unjoined; for the large trees and the ring that is told from the shape. With an argument it prints the lines instead.
 """
-from packing import SAMPLE, WIRE, bits_of, flipped, index_length, layout, record, whole
+from packing import SAMPLE, bits_of, flipped, index_length, layout, record, whole
 from plain import answer, bridges, build, check, index_of, is_bridge, sizes, wires
+from shapes import FIXED
 from stored import main, told
-
-# Records that are accepted, by their blocks
-SMALL = {
-    "sample": SAMPLE,
-    "empty": [],
-    "single": [[]],
-    "wire": WIRE,
-    # labels not in order; the hub last; two trees
-    "path": [[5, 3], [6, 5], [1], [6], [2, 1], [4, 2]],
-    "hub": [[6], [6], [6], [6], [6], [4, 1, 5, 3, 2]],
-    "trees": [[6, 3], [7, 4], [8, 1], [9, 2, 5], [4], [1], [2], [3], [4]],
-    # two triangles that share a terminal; two joined by a bridge
-    "bowtie": [[5, 3], [3, 4], [4, 1, 2, 5], [2, 3], [3, 1]],
-    "joined": [[6, 4], [5, 3], [5, 4, 2], [3, 1, 6], [2, 3], [4, 1]],
-    "ladder": [[3, 2], [4, 1], [5, 1, 4], [3, 6, 2], [6, 7, 3], [8, 4, 5], [8, 5], [7, 6]],
-    "clique": [[3, 4, 2], [4, 1, 3], [2, 1, 4], [1, 3, 2]],
-    # three ways between 2 and 5; a cycle with a chord and a tail; bridges and cycles in turn; isolated terminals between components
-    "theta": [[5, 2], [4, 1, 3], [2, 5], [6, 2], [3, 6, 1], [5, 4]],
-    "chord": [[4, 3], [6, 5, 4], [4, 6, 1], [2, 1, 3], [7, 2], [3, 2], [5]],
-    "mixed": [[7, 10], [3, 5], [4, 2, 5, 11], [11, 6, 9, 3], [2, 12, 3], [4], [8, 1], [9, 7], [4, 8], [1], [4, 12, 3], [11, 5]],
-    "apart": [[], [9, 6], [5], [], [3], [8, 2, 9], [], [6], [6, 2], []],
-}
 
 N = 4096
 OFFSETS = [3, -1, 4, -2, -4, 1, -3, 2]
@@ -43,7 +22,7 @@ def line(name, before, data, work, given):
 
 def accepted():
     """Each record with zeros in the work slice and in the buffer, with ones, and with ones and more work than is asked."""
-    for name, blocks in SMALL.items():
+    for name, blocks in FIXED.items():
         data = record(blocks)
         cells, length = 8 * len(blocks), index_length(*sizes(data))
         yield line(name, "zeros", data, cells, bytes(length))

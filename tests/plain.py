@@ -31,13 +31,19 @@ def rank(s, p):
     return s[:p].count("1")
 
 
+@kept
+def ones(s):
+    """The places of the ones."""
+    return [place for place, bit in enumerate(s, 1) if bit == "1"]
+
+
 def select(s, k):
-    ones = [place for place, bit in enumerate(s, 1) if bit == "1"]
-    return ones[k - 1] if 1 <= k <= len(ones) else 0
+    return ones(s)[k - 1] if 1 <= k <= len(ones(s)) else 0
 
 
 # Record
 
+@kept
 def sizes(data):
     """n and m."""
     bits = bits_of(data[:4])

@@ -1,11 +1,11 @@
 """Compares the stored output of the program queries_vectors with a plain reading of document 01's sentences.
 
-The stored output is what `rt ci` holds the proved program to. Here the answers are plain.py's. A refusal is shown as its number in brackets.
-With an argument it prints the lines instead.
+The stored output is what `rt ci` holds the proved program to. Here the answers are plain.py's, and a refusal is shown as its number in
+brackets. With an argument it prints the lines instead.
 """
-from forest_vectors_test import SMALL
-from packing import SAMPLE, WIRE, flipped, index_layout, layout, ones_at, packed, record, unary, whole
+from packing import SAMPLE, WIRE, flipped, index_layout, layout, ones_at, record, whole
 from plain import ancestor, answer, bridges, child, children, head, index_of, parent, visit, visited
+from shapes import FIXED, filled, places, with_ones
 from stored import main
 
 LARGEST = 2**64 - 1
@@ -52,33 +52,16 @@ def built(blocks):
     return index_of(blocks, bridges(blocks))
 
 
-def places(blocks):
-    return len(blocks) + sum(map(len, blocks))
-
-
 def made(blocks, e, p, b, numbers):
     """The index with marks at these places, which count from 1, and these stored numbers."""
     return index_layout(*(ones_at(places(blocks), chosen) for chosen in (e, p, b)), numbers)
-
-
-def filled(blocks):
-    """The index that Build writes, with every fill bit set."""
-    lengths = 3 * [places(blocks)] + [12 * len(blocks)]
-    fill = b"".join(packed("0" * k + "1" * (-k % 8)) for k in lengths)
-    return bytes(x | y for x, y in zip(built(blocks), fill))
-
-
-def with_ones(blocks):
-    """The index that Build writes, with E, P and B marked at the places of the ones of D too."""
-    ones = 3 * packed(unary(blocks)) + bytes(whole(12 * len(blocks)))
-    return bytes(x | y for x, y in zip(built(blocks), ones))
 
 
 # The pairs: name, record, index and last terminal asked for
 
 def as_built():
     for name in ("sample", "wire", "single", "empty", "path", "apart", "joined", "chord"):
-        blocks = SMALL[name]
+        blocks = FIXED[name]
         yield name, record(blocks), built(blocks), len(blocks) + 1
 
 
@@ -96,10 +79,10 @@ def on_sample():
         ("cycle", made(SAMPLE, SAMPLE_E, SAMPLE_P | {2}, SAMPLE_B, SAMPLE_NUMBERS)),
         ("cycle_bridge", made(SAMPLE, SAMPLE_E, SAMPLE_P | {2}, SAMPLE_B | {2}, SAMPLE_NUMBERS)),
         ("numbers", made(SAMPLE, SAMPLE_E, SAMPLE_P, SAMPLE_B, [0, 6, 0, 4095, 5, 5])),
-        ("ones_of_d", with_ones(SAMPLE)),
+        ("ones_of_d", with_ones(SAMPLE, built(SAMPLE))),
         ("clear", bytes(15)),
         ("full", b"\xff" * 15),
-        ("foreign", built(SMALL["path"])),
+        ("foreign", built(FIXED["path"])),
     ):
         yield name, record(SAMPLE), index, 7
 
@@ -108,15 +91,15 @@ def climbs():
     """A ring of parents, then with B at 4's; a path that is climbed to its root, with no mark in B."""
     yield "ring", record(RING), made(RING, {}, {2, 5, 8, 11}, {}, range(4)), 5
     yield "ring_bridge", record(RING), made(RING, {}, {2, 5, 8, 11}, {11}, range(4)), 5
-    path = SMALL["path"]
+    path = FIXED["path"]
     size = whole(places(path))
     index = built(path)
     yield "path_no_bridges", record(path), index[: 2 * size] + bytes(size) + index[3 * size :], 7
 
 
 def unaccepted():
-    """Records that Check refuses and order R does not: fields of n and more, a terminal's own number, a neighbour twice, a wire listed at one
-    end only, spare bits."""
+    """Records that Check refuses and order R does not: fields of n and more, a terminal's own number, a neighbour twice, a wire listed at
+    one end only, spare bits."""
     stray = [[3, 7], [1, 3], [2, 4, 1], [3], [7], [5]]
     yield "stray", record(stray), made(stray, SAMPLE_E, SAMPLE_P | {14}, {9, 12, 14}, SAMPLE_NUMBERS), 7
     far = [[3, 2], [1, 3], [2, 4096, 1], [4096], [6], [4096]]
@@ -134,7 +117,7 @@ def unaccepted():
 def fills():
     """Every fill bit set; then every bit of the index."""
     for name in ("single", "wire", "joined"):
-        yield f"{name}_filled", record(SMALL[name]), filled(SMALL[name]), len(SMALL[name]) + 1
+        yield f"{name}_filled", record(FIXED[name]), filled(FIXED[name], built(FIXED[name])), len(FIXED[name]) + 1
     yield "single_full", record([[]]), b"\xff" * 5, 2
     yield "wire_full", record(WIRE), b"\xff" * 6, 3
 
