@@ -1,8 +1,10 @@
 """Compares the stored output of the program bits_vectors with a plain computation, written from document 01's words alone.
 
-The stored output is what `rt ci` holds the proved program to. Here each of its lines is found again, a bit string being a list of
-bits that are looked at one by one. With an argument it prints the lines instead.
+The stored output is what `rt ci` holds the proved program to. Here each of its lines is found again, a bit string being a string of
+characters. With an argument it prints the lines instead.
 """
+from packing import binary, bits_of, number, packed
+from plain import rank, select, string
 from stored import main
 
 SAMPLE = bytes.fromhex("00300059 22A00200 10000020 01003000 00200500 40")
@@ -13,50 +15,27 @@ LARGEST = 2**64 - 1
 ASKED = [0, 1, 2, 3, 7, 8, 9, 15, 16, 17, 63, 64, 65, 72, 100, 128, 129, 200, 384, LARGEST]
 
 
-def bits(data):
-    """The bits of the bytes, most significant first."""
-    return [byte >> (7 - i) & 1 for byte in data for i in range(8)]
-
-
-def string(data, start, places):
-    """The bit string; empty where the bytes don't hold it in full."""
-    return bits(data)[start : start + places] if start + places <= 8 * len(data) else []
-
-
-def rank(s, p):
-    return sum(s[:p])
-
-
-def select(s, k):
-    ones = [place for place, bit in enumerate(s, 1) if bit]
-    return ones[k - 1] if 1 <= k <= len(ones) else 0
-
-
-def number(s):
-    return int("".join(map(str, s)) or "0", 2)
-
-
 def ask(data, start, places):
     s = string(data, start, places)
     yield f"string {start} {places}: " + " ".join(f"{rank(s, n)}/{select(s, n)}" for n in ASKED)
 
 
 def fields(data, start):
-    s = bits(data)[start:]
-    found = s[:1] + [number(s[:width]) for width in (12, 13, 15) if len(s) >= width]
+    s = bits_of(data)[start:]
+    found = [number(s[:width]) for width in (1, 12, 13, 15) if len(s) >= width]
     yield f"fields {start}: " + " ".join(map(str, found))
 
 
 def write(start, v, on):
-    s = bits(bytes(4) + bytes([255] * 4))
-    s[start : start + 12] = [int(c) for c in f"{v:012b}"]
-    yield f"field {start}: " + shown(s)
-    s[start] = on
-    yield f"bit {start}: " + shown(s)
+    s = put("0" * 32 + "1" * 32, start, binary(v, 12))
+    yield f"field {start}: " + packed(s).hex(" ")
+    s = put(s, start, binary(on, 1))
+    yield f"bit {start}: " + packed(s).hex(" ")
 
 
-def shown(s):
-    return " ".join(f"{number(s[i:i + 8]):02x}" for i in range(0, len(s), 8))
+def put(s, start, bits):
+    """The string with these bits from the start on."""
+    return s[:start] + bits + s[start + len(bits) :]
 
 
 def lines():

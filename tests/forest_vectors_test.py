@@ -1,127 +1,33 @@
 """Compares the stored output of the program forest_vectors with a plain search, written from document 01's words alone.
 
-The stored output is what `rt ci` holds the proved program to. Here the search looks through a whole block at each step, and a wire is a
-bridge where taking it out leaves its ends unjoined; for the large trees and the ring that is told from the shape. With an argument it prints
-the lines instead.
+The stored output is what `rt ci` holds the proved program to. Here the index is plain.py's, where a wire is a bridge if taking it out
+leaves its ends unjoined; for the large trees and the ring that is told from the shape. With an argument it prints the lines instead.
 """
-from packing import SAMPLE, WIRE, binary, bits_of, blocks_of, check, flipped, layout, packed, record, sizes, told
-from stored import main
-
-# Records that are accepted, by their blocks
-SMALL = {
-    "sample": SAMPLE,
-    "empty": [],
-    "single": [[]],
-    "wire": WIRE,
-    # labels not in order; the hub last; two trees
-    "path": [[5, 3], [6, 5], [1], [6], [2, 1], [4, 2]],
-    "hub": [[6], [6], [6], [6], [6], [4, 1, 5, 3, 2]],
-    "trees": [[6, 3], [7, 4], [8, 1], [9, 2, 5], [4], [1], [2], [3], [4]],
-    # two triangles that share a terminal; two joined by a bridge
-    "bowtie": [[5, 3], [3, 4], [4, 1, 2, 5], [2, 3], [3, 1]],
-    "joined": [[6, 4], [5, 3], [5, 4, 2], [3, 1, 6], [2, 3], [4, 1]],
-    "ladder": [[3, 2], [4, 1], [5, 1, 4], [3, 6, 2], [6, 7, 3], [8, 4, 5], [8, 5], [7, 6]],
-    "clique": [[3, 4, 2], [4, 1, 3], [2, 1, 4], [1, 3, 2]],
-    # three ways between 2 and 5; a cycle with a chord and a tail; bridges and cycles in turn; isolated terminals between components
-    "theta": [[5, 2], [4, 1, 3], [2, 5], [6, 2], [3, 6, 1], [5, 4]],
-    "chord": [[4, 3], [6, 5, 4], [4, 6, 1], [2, 1, 3], [7, 2], [3, 2], [5]],
-    "mixed": [[7, 10], [3, 5], [4, 2, 5, 11], [11, 6, 9, 3], [2, 12, 3], [4], [8, 1], [9, 7], [4, 8], [1], [4, 12, 3], [11, 5]],
-    "apart": [[], [9, 6], [5], [], [3], [8, 2, 9], [], [6], [6, 2], []],
-}
+from packing import SAMPLE, bits_of, flipped, index_length, layout, record, whole
+from plain import answer, bridges, build, check, index_of, is_bridge, sizes, wires
+from shapes import FIXED
+from stored import main, told
 
 N = 4096
 OFFSETS = [3, -1, 4, -2, -4, 1, -3, 2]
 
 
-# Joined terminals and bridges
-
-def joined_without(blocks, u, w):
-    """Whether u and w, two ends of a wire, are joined when it is taken out."""
-    reached, seen = [u], {u}
-    for v in reached:
-        for x in blocks[v - 1]:
-            if x not in seen and (v, x) not in ((u, w), (w, u)):
-                reached.append(x)
-                seen.add(x)
-        if w in seen:
-            return True
-    return False
-
-
-def bridge_by_trial(blocks):
-    return lambda v, w: not joined_without(blocks, v, w)
-
-
-# The search and the index
-
-def search(blocks):
-    """The terminals in order of first visit, and the parent of each, 0 for a root."""
-    order, parent = [], {}
-
-    def enter(v, above):
-        order.append(v)
-        parent[v] = above
-
-    for root in range(1, len(blocks) + 1):
-        if root not in parent:
-            enter(root, 0)
-            at = root
-            while at != 0:
-                child = next((w for w in blocks[at - 1] if w not in parent), 0)
-                if child:
-                    enter(child, at)
-                at = child or parent[at]
-    return order, parent
-
-
-def section(blocks, marked):
-    """A zero for each terminal, and a bit for each neighbour of its block."""
-    return [bit for v, block in enumerate(blocks, 1) for bit in [0] + [int(marked(v, w)) for w in block]]
-
-
-def sections(blocks, bridge):
-    order, parent = search(blocks)
-    number = {v: i for i, v in enumerate(order)}
-    return [
-        section(blocks, lambda v, w: parent[w] == v),
-        section(blocks, lambda v, w: parent[v] == w),
-        section(blocks, bridge),
-        [bit for v in range(1, len(blocks) + 1) for bit in binary(number[v], 12)],
-    ]
-
-
 # Build
 
-def build(data, work, given, bridge=None):
-    """The refusal, or 0, and the buffer afterwards."""
-    refusal = check(data)
-    if refusal:
-        return refusal, given
-    if work < 8 * sizes(data)[0]:
-        return 9, given
-    blocks = blocks_of(data)
-    index = b"".join(packed(bits) for bits in sections(blocks, bridge or bridge_by_trial(blocks)))
-    return (10, given) if len(given) != len(index) else (0, index)
-
-
 def line(name, before, data, work, given):
-    refusal, after = build(data, work, given)
-    shown = "".join(f" {byte:02x}" for byte in after)
+    refusal, index = answer(build, data, work, len(given))
+    shown = "".join(f" {byte:02x}" for byte in (given if refusal else index))
     return f"{name} {before} {work} {len(given)}: {told(refusal, 'accepted')},{shown}"
-
-
-def index_length(blocks):
-    marks = len(blocks) + sum(map(len, blocks))
-    return 3 * -(-marks // 8) + -(-12 * len(blocks) // 8)
 
 
 def accepted():
     """Each record with zeros in the work slice and in the buffer, with ones, and with ones and more work than is asked."""
-    for name, blocks in SMALL.items():
-        cells, length = 8 * len(blocks), index_length(blocks)
-        yield line(name, "zeros", record(blocks), cells, bytes(length))
-        yield line(name, "ones", record(blocks), cells, b"\xff" * length)
-        yield line(name, "ones", record(blocks), cells + 3, b"\xff" * length)
+    for name, blocks in FIXED.items():
+        data = record(blocks)
+        cells, length = 8 * len(blocks), index_length(*sizes(data))
+        yield line(name, "zeros", data, cells, bytes(length))
+        yield line(name, "ones", data, cells, b"\xff" * length)
+        yield line(name, "ones", data, cells + 3, b"\xff" * length)
 
 
 def refused():
@@ -132,7 +38,7 @@ def refused():
     for name, data, work, length in (
         # 1 to 8
         ("none", b"", 0, 0),
-        ("wide", layout(4097, 0, [], []), 64, 16),
+        ("wide", layout(4097, 0, "", []), 64, 16),
         ("short", sample[:-1], 48, 15),
         ("few_ones", flipped(sample, 43), 48, 15),
         ("spare", spare, 48, 15),
@@ -167,18 +73,22 @@ def around(v, step):
 
 
 def shapes():
-    """Name, blocks and whether a wire is a bridge, for v and its neighbour w."""
-    every, none = lambda v, w: True, lambda v, w: False
+    """Name, blocks and bridges."""
     terminals = range(1, N + 1)
     # in a tree a second way between the ends of a wire would close a circle, and there is none: every wire is a bridge
-    yield "path", [[w for w in (v + 1, v - 1) if 1 <= w <= N] for v in terminals], every
-    yield "star", [[N]] * (N - 1) + [list(range(N - 1, 0, -1))], every
+    path = [[w for w in (v + 1, v - 1) if 1 <= w <= N] for v in terminals]
+    star = [[N]] * (N - 1) + [list(range(N - 1, 0, -1))]
+    yield "path", path, wires(path)
+    yield "star", star, wires(star)
     # in a ring the way round the other side joins the ends of each wire
-    yield "ring", [[around(v, -1), around(v, 1)] for v in terminals], none
+    yield "ring", [[around(v, -1), around(v, 1)] for v in terminals], set()
     # here a way of a few wires, or the lack of one, is found at once, and every wire is tried
-    yield "circulant", [[around(v, OFFSETS[(5 * (v - 1) + 3 * j) % 8]) for j in range(8)] for v in terminals], None
-    yield "isolated", [[] for v in terminals], None
-    yield "pairs", [[v + 1 if v % 2 else v - 1] for v in terminals], None
+    for name, blocks in (
+        ("circulant", [[around(v, OFFSETS[(5 * (v - 1) + 3 * j) % 8]) for j in range(8)] for v in terminals]),
+        ("isolated", [[] for v in terminals]),
+        ("pairs", [[v + 1 if v % 2 else v - 1] for v in terminals]),
+    ):
+        yield name, blocks, bridges(blocks)
 
 
 def digest(data):
@@ -190,16 +100,15 @@ def digest(data):
 
 def large():
     """A line for each record, and one for its index with the ones of E, P and B."""
-    for name, blocks, bridge in shapes():
-        if bridge:
-            # what is said of the shape holds of a few wires that are tried
-            trial = bridge_by_trial(blocks)
-            assert all(bridge(v, w) == trial(v, w) for v in range(1, N + 1, 1000) for w in blocks[v - 1][:2])
+    for name, blocks, single in shapes():
+        # what is said of the shape holds of a few wires that are tried
+        assert all(((v, w) in single) == is_bridge(blocks, v, w) for v, w in sorted(wires(blocks))[::1000])
         data = record(blocks)
         yield f"{name} record {len(data)}: {digest(data)}"
-        refusal, index = build(data, 8 * N, b"\xff" * index_length(blocks), bridge)
-        size = len(packed(section(blocks, lambda v, w: False)))
-        ones = [sum(bits_of(index[i * size : i * size + size])) for i in range(3)]
+        refusal, _ = answer(check, data)
+        index = index_of(blocks, single)
+        size = whole(len(blocks) + sum(map(len, blocks)))
+        ones = [bits_of(index[i * size : i * size + size]).count("1") for i in range(3)]
         yield f"{name} ones {8 * N} {len(index)}: {told(refusal, 'accepted')}, {ones[0]} {ones[1]} {ones[2]}, {digest(index)}"
 
 

@@ -1,141 +1,24 @@
 """Compares the stored output of the program queries_vectors with a plain reading of document 01's sentences.
 
-The stored output is what `rt ci` holds the proved program to. Here marks and stored numbers are read from the bits of the index, and each
-query follows its sentence. A refusal is shown as its number in brackets. With an argument it prints the lines instead.
+The stored output is what `rt ci` holds the proved program to. Here the answers are plain.py's, and a refusal is shown as its number in
+brackets. With an argument it prints the lines instead.
 """
-from forest_vectors_test import SMALL, bridge_by_trial, sections
-from packing import SAMPLE, WIRE, binary, bits_of, blocks_of, flipped, layout, number, order_r, packed, parts, record, sizes, unary
+from packing import SAMPLE, WIRE, flipped, index_layout, layout, ones_at, record, whole
+from plain import ancestor, answer, bridges, child, children, head, index_of, parent, visit, visited
+from shapes import FIXED, filled, places, with_ones
 from stored import main
 
 LARGEST = 2**64 - 1
-E, P, B = range(3)
-
-
-# Refusals
-
-class Refused(Exception):
-    """A refusal, with its number."""
-
-
-def refuse(refusal, broken):
-    if broken:
-        raise Refused(refusal)
-
-
-def told(query, *given):
-    try:
-        return str(query(*given))
-    except Refused as refusal:
-        return f"({refusal})"
-
-
-def whole(bits):
-    """The bytes that so many bits take."""
-    return -(-bits // 8)
-
-
-def order_q(data, index, v):
-    refuse(order_r(data), order_r(data))
-    n, m = sizes(data)
-    refuse(10, len(index) != 3 * whole(n + 2 * m) + whole(12 * n))
-    refuse(11, v == 0 or v > n)
-
-
-# The parts of an index
-
-def marks(data, index, section, v):
-    """The bits of E, P or B at the places of v's block."""
-    n, m = sizes(data)
-    d = parts(data)[0]
-    bits = bits_of(index[section * whole(n + 2 * m) :])[: n + 2 * m]
-    ones = [i for i, bit in enumerate(d) if bit] + [len(d)]
-    return bits[ones[v - 1] + 1 : ones[v]]
-
-
-def marked(data, index, section, v):
-    """The positions of v's block, from 0, that the section marks."""
-    return [j for j, bit in enumerate(marks(data, index, section, v)) if bit]
-
-
-def stored(data, index):
-    """The stored numbers, terminal by terminal."""
-    n, m = sizes(data)
-    bits = bits_of(index[3 * whole(n + 2 * m) :])
-    return [number(bits[12 * i : 12 * i + 12]) for i in range(n)]
-
-
-# The queries
-
-def neighbour(data, v, j):
-    """The terminal at position j of v's block; 12 where the field is n or more."""
-    w = blocks_of(data)[v - 1][j]
-    refuse(12, w - 1 >= sizes(data)[0])
-    return w
-
-
-def step(data, index, v):
-    """The marked position of v's block of P and the parent there, both None at a root."""
-    at = marked(data, index, P, v)
-    refuse(12, len(at) > 1)
-    return (at[0], neighbour(data, v, at[0])) if at else (None, None)
-
-
-def parent(data, index, v):
-    order_q(data, index, v)
-    return step(data, index, v)[1] or 0
-
-
-def head(data, index, v):
-    order_q(data, index, v)
-    steps = 0
-    while True:
-        at, above = step(data, index, v)
-        if above is None or marks(data, index, B, v)[at]:
-            return v
-        refuse(12, steps == sizes(data)[0] - 1)
-        v, steps = above, steps + 1
-
-
-def ancestor(data, index, u, v):
-    order_q(data, index, u)
-    refuse(11, v == 0 or v > sizes(data)[0])
-    steps = 0
-    while v != u:
-        _, above = step(data, index, v)
-        if above is None:
-            return "n"
-        refuse(12, steps == sizes(data)[0] - 1)
-        v, steps = above, steps + 1
-    return "y"
-
-
-def children(data, index, v):
-    order_q(data, index, v)
-    return len(marked(data, index, E, v))
-
-
-def child(data, index, v, j):
-    order_q(data, index, v)
-    at = marked(data, index, E, v)
-    refuse(13, j == 0 or j > len(at))
-    return neighbour(data, v, at[j - 1])
-
-
-def visit(data, index, v):
-    order_q(data, index, v)
-    i = stored(data, index)[v - 1]
-    refuse(12, i >= sizes(data)[0])
-    return i + 1
-
-
-def visited(data, index, i):
-    order_q(data, index, i)
-    with_it = [v for v, k in enumerate(stored(data, index), 1) if k == i - 1]
-    refuse(12, not with_it)
-    return with_it[0]
 
 
 # The lines of a pair
+
+def told(query, *given):
+    refusal, value = answer(query, *given)
+    if refusal:
+        return f"({refusal})"
+    return "ny"[value] if query is ancestor else str(value)
+
 
 def asked(name, title, query, *given):
     """A line with the answers for each number of the last of the arguments."""
@@ -166,34 +49,19 @@ def largest(name, data, index):
 # Indexes
 
 def built(blocks):
-    return b"".join(packed(bits) for bits in sections(blocks, bridge_by_trial(blocks)))
+    return index_of(blocks, bridges(blocks))
 
 
 def made(blocks, e, p, b, numbers):
     """The index with marks at these places, which count from 1, and these stored numbers."""
-    places = len(blocks) + sum(map(len, blocks))
-    rows = [[int(i in chosen) for i in range(1, places + 1)] for chosen in (e, p, b)]
-    return b"".join(map(packed, rows)) + packed([bit for k in numbers for bit in binary(k, 12)])
-
-
-def filled(blocks):
-    """The index that Build writes, with every fill bit set."""
-    lengths = [len(bits) for bits in sections(blocks, bridge_by_trial(blocks))]
-    fill = b"".join(packed([0] * k + [1] * (-k % 8)) for k in lengths)
-    return bytes(x | y for x, y in zip(built(blocks), fill))
-
-
-def with_ones(blocks):
-    """The index that Build writes, with E, P and B marked at the places of the ones of D too."""
-    ones = 3 * packed(unary(blocks)) + bytes(whole(12 * len(blocks)))
-    return bytes(x | y for x, y in zip(built(blocks), ones))
+    return index_layout(*(ones_at(places(blocks), chosen) for chosen in (e, p, b)), numbers)
 
 
 # The pairs: name, record, index and last terminal asked for
 
 def as_built():
     for name in ("sample", "wire", "single", "empty", "path", "apart", "joined", "chord"):
-        blocks = SMALL[name]
+        blocks = FIXED[name]
         yield name, record(blocks), built(blocks), len(blocks) + 1
 
 
@@ -211,10 +79,10 @@ def on_sample():
         ("cycle", made(SAMPLE, SAMPLE_E, SAMPLE_P | {2}, SAMPLE_B, SAMPLE_NUMBERS)),
         ("cycle_bridge", made(SAMPLE, SAMPLE_E, SAMPLE_P | {2}, SAMPLE_B | {2}, SAMPLE_NUMBERS)),
         ("numbers", made(SAMPLE, SAMPLE_E, SAMPLE_P, SAMPLE_B, [0, 6, 0, 4095, 5, 5])),
-        ("ones_of_d", with_ones(SAMPLE)),
+        ("ones_of_d", with_ones(SAMPLE, built(SAMPLE))),
         ("clear", bytes(15)),
         ("full", b"\xff" * 15),
-        ("foreign", built(SMALL["path"])),
+        ("foreign", built(FIXED["path"])),
     ):
         yield name, record(SAMPLE), index, 7
 
@@ -223,15 +91,15 @@ def climbs():
     """A ring of parents, then with B at 4's; a path that is climbed to its root, with no mark in B."""
     yield "ring", record(RING), made(RING, {}, {2, 5, 8, 11}, {}, range(4)), 5
     yield "ring_bridge", record(RING), made(RING, {}, {2, 5, 8, 11}, {11}, range(4)), 5
-    path = SMALL["path"]
-    size = whole(len(path) + sum(map(len, path)))
+    path = FIXED["path"]
+    size = whole(places(path))
     index = built(path)
     yield "path_no_bridges", record(path), index[: 2 * size] + bytes(size) + index[3 * size :], 7
 
 
 def unaccepted():
-    """Records that Check refuses and order R does not: fields of n and more, a terminal's own number, a neighbour twice, a wire listed at one
-    end only, spare bits."""
+    """Records that Check refuses and order R does not: fields of n and more, a terminal's own number, a neighbour twice, a wire listed at
+    one end only, spare bits."""
     stray = [[3, 7], [1, 3], [2, 4, 1], [3], [7], [5]]
     yield "stray", record(stray), made(stray, SAMPLE_E, SAMPLE_P | {14}, {9, 12, 14}, SAMPLE_NUMBERS), 7
     far = [[3, 2], [1, 3], [2, 4096, 1], [4096], [6], [4096]]
@@ -249,7 +117,7 @@ def unaccepted():
 def fills():
     """Every fill bit set; then every bit of the index."""
     for name in ("single", "wire", "joined"):
-        yield f"{name}_filled", record(SMALL[name]), filled(SMALL[name]), len(SMALL[name]) + 1
+        yield f"{name}_filled", record(FIXED[name]), filled(FIXED[name], built(FIXED[name])), len(FIXED[name]) + 1
     yield "single_full", record([[]]), b"\xff" * 5, 2
     yield "wire_full", record(WIRE), b"\xff" * 6, 3
 
@@ -260,8 +128,8 @@ def refusals():
         # 1 to 4, and before 10
         ("none", b"", b""),
         ("three_bytes", bytes(3), b""),
-        ("wide", layout(4097, 0, [], []), b""),
-        ("wired", layout(0, 16385, [], []), b""),
+        ("wide", layout(4097, 0, "", []), b""),
+        ("wired", layout(0, 16385, "", []), b""),
         ("short", sample[:-1], index),
         ("long", sample + b"\x00", index),
         ("few_ones", flipped(sample, 43), index),

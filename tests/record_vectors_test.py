@@ -1,50 +1,13 @@
 """Compares the stored output of the program record_vectors with a plain computation, written from document 01's words alone.
 
 The stored output is what `rt ci` holds the proved program to. Here each record is packed from its blocks, damaged where it must be, and
-asked by counting over lists of bits and numbers. With an argument it prints the lines instead.
+asked by plain.py. With an argument it prints the lines instead.
 """
-from packing import SAMPLE, WIRE, blocks_of, check, flipped, layout, order_r, record, sizes, told
-from stored import main
+from packing import SAMPLE, WIRE, flipped, layout, record
+from plain import answer, check, degree, loop_figure, neighbours, unpack
+from stored import main, told
 
 TRIANGLE = [[2, 3], [1, 3], [1, 2]]
-
-
-# Refusals: the number, or 0 where nothing is refused
-
-def degree_refusal(data, v):
-    return order_r(data) or (0 if 1 <= v <= sizes(data)[0] else 11)
-
-
-def unpack_refusal(data, length):
-    return check(data) or (0 if length == 2 * sizes(data)[1] else 10)
-
-
-# Operations
-
-def degree(data, v):
-    refusal = degree_refusal(data, v)
-    return told(refusal, None if refusal else len(blocks_of(data)[v - 1]))
-
-
-def unpacked(data, given):
-    """The list after Unpack."""
-    if unpack_refusal(data, len(given)):
-        return given
-    return [w for block in blocks_of(data) for w in block]
-
-
-def neighbours(data, given, v):
-    if degree_refusal(data, v) or len(given) != 2 * sizes(data)[1]:
-        return []
-    blocks = blocks_of(data)
-    start = sum(len(block) for block in blocks[: v - 1])
-    return given[start : start + len(blocks[v - 1])]
-
-
-def loop_figure(data):
-    refusal = check(data)
-    n, m = (0, 0) if refusal else sizes(data)
-    return told(refusal, m - n + 1)
 
 
 # The lines
@@ -55,22 +18,23 @@ def row(start, numbers):
 
 def ask_list(name, data, length, vertices):
     given = [901 + i for i in range(length)]
-    after = unpacked(data, given)
-    yield row(f"{name} unpack {length}: {told(unpack_refusal(data, length), 'accepted')},", after)
+    refusal, written = answer(unpack, data, length)
+    after = given if refusal else written
+    yield row(f"{name} unpack {length}: {told(refusal, 'accepted')},", after)
     for v in vertices:
         yield row(f"{name} neighbours {length} {v}:", neighbours(data, after, v))
 
 
 def ask(name, data, n, m):
     """All calls on one record, n and m being the sizes to ask with."""
-    yield f"{name} check: {told(check(data), 'accepted')}"
+    yield f"{name} check: {told(answer(check, data)[0], 'accepted')}"
     for v in range(n + 2):
-        yield f"{name} degree {v}: {degree(data, v)}"
+        yield f"{name} degree {v}: {told(*answer(degree, data, v))}"
     yield from ask_list(name, data, 2 * m, range(n + 2))
     if m > 0:
         yield from ask_list(name, data, 2 * m - 1, [1])
     yield from ask_list(name, data, 2 * m + 1, [1])
-    yield f"{name} loops: {loop_figure(data)}"
+    yield f"{name} loops: {told(*answer(loop_figure, data))}"
 
 
 def records():
@@ -95,10 +59,10 @@ def records():
     yield "two_bytes", record(SAMPLE)[:2], 1, 1
     yield "three_bytes", record([])[:3], 0, 0
     # 2, and the limits themselves, which only have a wrong length
-    yield "wide", layout(4097, 0, [], []), 1, 0
-    yield "wide_limit", layout(4096, 0, [], []), 1, 0
-    yield "wired", layout(0, 16385, [], []), 0, 1
-    yield "wired_limit", layout(0, 16384, [], []), 0, 1
+    yield "wide", layout(4097, 0, "", []), 1, 0
+    yield "wide_limit", layout(4096, 0, "", []), 1, 0
+    yield "wired", layout(0, 16385, "", []), 0, 1
+    yield "wired_limit", layout(0, 16384, "", []), 0, 1
     yield "all_ones", b"\xff" * 4, 1, 1
     # 3
     yield "sample_short", record(SAMPLE)[:-1], 6, 5
@@ -108,7 +72,7 @@ def records():
     yield "few_ones", flipped(record(SAMPLE), 43), 6, 5
     yield "many_ones", flipped(record(SAMPLE), 44), 6, 5
     yield "zero_first", flipped(record(WIRE), 29, 30), 2, 1
-    yield "no_ones", layout(0, 1, [0, 0], [0, 0]), 0, 1
+    yield "no_ones", layout(0, 1, "00", [0, 0]), 0, 1
     # 5
     yield "spare_last", flipped(record(SAMPLE), -1), 6, 5
     yield "spare_first", flipped(record(TRIANGLE), -3), 3, 3
@@ -139,7 +103,7 @@ def lines():
     widest = record([[]] * 4096)
     yield from ask("widest", widest, 0, 0)
     for v in (4096, 4097):
-        yield f"widest degree {v}: {degree(widest, v)}"
+        yield f"widest degree {v}: {told(*answer(degree, widest, v))}"
 
 
 if __name__ == "__main__":

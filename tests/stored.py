@@ -26,3 +26,8 @@ def main(crate, lines):
         print("\n".join(lines))
     else:
         sys.exit(compare(crate, lines))
+
+
+def told(refusal, value):
+    """A refusal in words, or the value."""
+    return f"refused {refusal}" if refusal else str(value)

@@ -1,0 +1,296 @@
+"""Compares every function of the C header with plain.py: on accepted and damaged records, on indexes that Build wrote and on others.
+
+The numbers passed in vary, and so do the lengths of the lent slices and what they hold before. A refusal leaves the buffer for the result
+as it was, and nothing is written outside what is lent.
+"""
+import subprocess
+import sys
+import tempfile
+from array import array
+from itertools import combinations, product
+from random import Random
+
+import shapes
+from families import fail, tally
+from header import ARCHIVE, FUNCTIONS, Compared, exported, load, shared
+from packing import WIRE, bits_of, index_layout, index_length, layout, packed, record
+from plain import MOST_TERMINALS, MOST_WIRES, answer, blocks_of, build, built, check, children, head, joined, order_r, sizes, unpack, wires
+from plain import without
+
+LARGE = [65536, 65537, 2**32 + 1, 2**63, 2**64 - 1]
+
+
+# The numbers and the slices of a call
+
+def terminals(rng, n, most):
+    """0 to n + 1, or some of them."""
+    return sorted({0, 1, n, n + 1, *rng.sample(range(1, n + 1), min(n, most))})
+
+
+def junk(rng, size):
+    return rng.choice([bytes(size), b"\xff" * size, rng.randbytes(size)])
+
+
+def asked_sizes(data):
+    """The n and m to ask with, also where the record says more than it may."""
+    n, m = sizes(data)
+    return min(n, MOST_TERMINALS), min(m, MOST_WIRES)
+
+
+# A record
+
+def alone(data):
+    """The operations that take no index."""
+    rng, compared = Random(data), Compared(data)
+    n, m = asked_sizes(data)
+    compared.ask("check")
+    compared.ask("loop_figure")
+    for v in terminals(rng, n, 40) + LARGE:
+        compared.ask("degree", v)
+    for room in sorted({0, m, 2 * m, 2 * m + 1, 2 * m + 2, abs(2 * m - 1)}):
+        refusal, numbers = answer(unpack, data, room)
+        compared.write("unpack", (refusal, array("H", numbers or []).tobytes()), junk(rng, 2 * room))
+    return compared.result()
+
+
+def building(data):
+    """Build, with a work slice and a buffer of the right lengths and of others."""
+    rng, compared = Random(data), Compared(data)
+    n, m = asked_sizes(data)
+    cells, length = 8 * n, index_length(n, m)
+    short = abs(cells - 1)
+    fitting = product((cells, cells + rng.randint(1, 99), short, 0), [length])
+    other = product((cells, short), (length + 1, abs(length - 1), 0))
+    for work, room in [*fitting, *other]:
+        compared.write("build", answer(build, data, work, room), junk(rng, 2 * work), junk(rng, room))
+    return compared.result()
+
+
+def summed(results):
+    """Of several comparisons, the calls and the differences."""
+    pairs = list(results)
+    return sum(count for count, _ in pairs), [difference for _, found in pairs for difference in found]
+
+
+# A record and an index
+
+def asking(pair, most=14, large=LARGE):
+    """Every query, for all terminals or for some; for some children where there are more; and for the large numbers."""
+    data, index = pair
+    rng, compared = Random(data + index), Compared(data, index)
+    numbers = terminals(rng, asked_sizes(data)[0], most) + large
+    for v in numbers:
+        for name in ("parent", "head", "children", "visit", "visited"):
+            compared.query(name, v)
+        for u in numbers:
+            compared.query("ancestor", u, v)
+        _, count = answer(children, data, index, v)
+        for j in terminals(rng, count or 0, most) + large:
+            compared.query("child", v, j)
+    return compared.result()
+
+
+def as_built(data):
+    return asking((data, built(data)))
+
+
+def largest(data):
+    """Every operation on a record of the largest size, and the queries on its index."""
+    refusal, _ = answer(check, data)
+    queries = [] if refusal else [asking((data, built(data)), most=8)]
+    return summed([alone(data), building(data)] + queries)
+
+
+def sections(data):
+    """Heads are equal exactly where two terminals are joined, and stay so whichever wire is taken out."""
+    compared, blocks = Compared(data, built(data)), blocks_of(data)
+    looms = [blocks] + [without(blocks, u, w) for u, w in wires(blocks)]
+    for u, v in combinations(range(1, len(blocks) + 1), 2):
+        together = all(joined(loom, u, v) for loom in looms)
+        heads = [compared.call("head", *compared.both, x) for x in (u, v)]
+        compared.settle((heads[0] == heads[1]) == together, f"heads of {u} and {v}: {heads}")
+    return compared.result()
+
+
+def on_altered(data):
+    return summed(asking((data, index)) for index in shapes.altered(Random(data), blocks_of(data), built(data)))
+
+
+def on_unbuilt(data):
+    """Indexes that nobody built, for a record that order R lets pass."""
+    most = 14 if len(data) < 1000 else 3
+    return summed(asking((data, index), most) for index in shapes.unbuilt(Random(data), blocks_of(data)))
+
+
+def on_foreign(case):
+    """Of two records with one n and m, each with the other's index."""
+    here, there = case
+    return summed(asking(pair) for pair in ((here, built(there)), (there, built(here))))
+
+
+def on_climbs(n):
+    blocks, indexes = shapes.climbs(n)
+    return summed(asking((record(blocks), index)) for index in indexes)
+
+
+def on_every_mark(blocks):
+    """Every set of marks in P and B, at the places of D's ones too, with as many marks in E."""
+    places = ["".join(bits) for bits in product("01", repeat=shapes.places(blocks))]
+    numbers = [0] * len(blocks)
+    return summed(asking((record(blocks), index_layout(p, p, b, numbers)), large=[]) for p, b in product(places, repeat=2))
+
+
+def on_other_lengths(data):
+    """Indexes that are too short or too long, and for a record that order R refuses any index."""
+    n, m = asked_sizes(data)
+    size = index_length(n, m)
+    return summed(asking((data, bytes(length)), most=2) for length in sorted({0, 1, size, size + 1, size + 2, 2 * size, abs(size - 1)}))
+
+
+# Document 01's own words
+
+# a record that is accepted, its index and its heads
+STATED = [
+    ("00 30 00 59 22 A0 02 00 10 00 00 20 01 00 30 00 00 20 05 00 40", "41 84 04 51 00 95 00 00 02 00 10 03 00 40 05", [1, 1, 1, 4, 5, 6]),
+    ("00 00 00 00", "", []),
+    ("00 08 00 08", "00 00 00 00 00", [1]),
+    ("00 10 00 1A 00 10 00", "40 10 50 00 00 01", [1, 2]),
+]
+# a record that is refused, and the number
+STATED_REFUSALS = [
+    (bytes.fromhex("00 30 00 59 22 A0 02 00 10 00 00 20 01 00 30 00 00 20 05 00 41"), 5),
+    (bytes.fromhex("00 30 00"), 1),
+    (layout(4097, 0, "", []), 2),
+    (record([[2, 2], [1, 1]]), 7),
+    (record([[2, 3], [1], [2]]), 8),
+]
+
+
+def stated(case):
+    """The functions, and plain.py too, against the bytes and numbers that document 01 gives."""
+    data, index, heads = bytes.fromhex(case[0]), bytes.fromhex(case[1]), case[2]
+    compared, terminals = Compared(data, index), range(1, len(heads) + 1)
+    compared.settle(answer(build, data, 8 * len(heads), len(index)) == (0, index), "plain.py builds another index")
+    compared.settle([head(data, index, v) for v in terminals] == heads, "plain.py finds other heads")
+    compared.write("build", (0, index), bytes(16 * len(heads)), bytes(len(index)))
+    found = [compared.call("head", *compared.both, v) for v in terminals]
+    compared.settle(found == heads, "heads", found)
+    return compared.result()
+
+
+def stated_refusal(case):
+    data, number = case
+    compared = Compared(data)
+    compared.settle(answer(check, data) == (number, None), "plain.py refuses otherwise")
+    compared.ask("check")
+    return compared.result()
+
+
+# Bits
+
+def counting(case):
+    data, strings, numbers = case
+    compared = Compared(data)
+    for start, places in strings:
+        compared.rank_and_select(start, places, numbers)
+    return compared.result()
+
+
+def short_strings():
+    """Every string in three bytes."""
+    rng = Random("short strings")
+    return [(data, list(product(range(27), repeat=2)), [*range(27), 2**64 - 1]) for data in (b"\0\0\0", b"\xff\xff\xff", rng.randbytes(3))]
+
+
+def dotted(rng, size, share):
+    """Bytes with about this share of ones."""
+    return packed("".join("01"[rng.random() < share] for _ in range(8 * size)))
+
+
+def strings(name, sizes, count):
+    """Strings that start and end anywhere, for bytes of these sizes, and numbers up to the places and up to the ones that there are."""
+    rng = Random(name)
+    found = []
+    for size in sizes:
+        data = dotted(rng, size, rng.choice([0.01, 0.1, 0.5, 0.9, 1]))
+        places, ones = 8 * size, bits_of(data).count("1")
+        starts = [1, 7, 8] + [rng.randrange(places) for _ in range(count)]
+        bounds = [(0, places)] + [(start, rng.choice([places - start, rng.randint(0, places - start)])) for start in starts]
+        numbers = [0, 1, 64, ones, ones + 1, places, 2**64 - 1] + [rng.randint(1, most) for most in (ones, places) for _ in range(count)]
+        found.append((data, bounds, numbers))
+    return found
+
+
+def not_held():
+    rng = Random("not held")
+    found = []
+    for size in (0, 1, 8, 9, 64, 500):
+        end, top = 8 * size, 2**64
+        bounds = [(0, end + 1), (end, 1), (end + 1, 0), (1, end), (end, 0), (0, end)]
+        bounds += [(1, top - 1), (0, top - 1), (top - 1, 0), (top - 1, top - 1), (top // 2, top // 2), (8, top - 8)]
+        bounds += [(top - k, k + j) for k in (1, 8, 64) for j in (0, 1, 8, end)]
+        found.append((rng.randbytes(size), bounds, [0, 1, 2, 8, 9, 64, end, end + 1, *LARGE]))
+    return found
+
+
+# All of it
+
+def records(*families):
+    return [data for cases in families for _, data in cases]
+
+
+def some(rng, given, most, count):
+    """Some of the records that order R lets pass and that have from 1 to so many terminals."""
+    return rng.sample([data for data in given if not answer(order_r, data)[0] and 1 <= sizes(data)[0] <= most], count)
+
+
+def twins(rng):
+    """Two records with one n and m."""
+    n = rng.randint(2, 14)
+    m = rng.randint(1, min(20, n * (n - 1) // 2))
+    return tuple(record(shapes.shuffled(rng, shapes.sparse(rng, n, m))) for _ in range(2))
+
+
+def families():
+    rng = Random("header")
+    every, large, large_damaged = (records(family) for family in (shapes.every(4), shapes.largest(), shapes.largest_damaged()))
+    small, medium, damaged = (records(*named.values()) for named in (shapes.small(), shapes.medium(), shapes.damaged()))
+    marked = [[[1, 1]], WIRE, [[3], [1]], [[2], [1], []], [[2, 2], [1, 1]]]
+    return {
+        "document 01's records": (stated, STATED),
+        "document 01's refusals": (stated_refusal, STATED_REFUSALS),
+        "largest": (largest, large),
+        "largest damaged": (largest, large_damaged),
+        "largest, indexes that nobody built": (on_unbuilt, large_damaged[3:6]),
+        "without an index": (alone, every + small + medium + damaged),
+        "Build": (building, every + small + medium + damaged),
+        "built indexes": (as_built, every[::8] + small[::3] + medium[::4]),
+        "altered indexes": (on_altered, some(rng, small, 14, 150)),
+        "indexes of other records": (on_foreign, [twins(rng) for _ in range(150)]),
+        "indexes that nobody built": (on_unbuilt, some(rng, small, 14, 60) + some(rng, damaged, 14, 120)),
+        "climbs": (on_climbs, range(3, 15)),
+        "every set of marks": (on_every_mark, marked),
+        "indexes of other lengths": (on_other_lengths, some(rng, small, 40, 60) + rng.sample(damaged, 300)),
+        "sections": (sections, some(rng, small, 12, 400)),
+        "short strings": (counting, short_strings()),
+        "strings": (counting, strings("strings", range(8, 200, 3), 20)),
+        "long strings": (counting, strings("long strings", (1000, 6720, 53764, 100000), 4)),
+        "strings that are not held": (counting, not_held()),
+    }
+
+
+def main():
+    if not ARCHIVE.is_file():
+        return fail(f"the archive is missing: {ARCHIVE}")
+    with tempfile.TemporaryDirectory() as room:
+        try:
+            library = shared(ARCHIVE, room)
+        except (OSError, subprocess.CalledProcessError) as error:
+            return fail(f"no shared library could be made of the archive: {error}")
+        if exported(library) != set(FUNCTIONS):
+            return fail(f"exported: {sorted(exported(library))}, compared here: {sorted(FUNCTIONS)}")
+        return tally(families(), "calls", load, [library])
+
+
+if __name__ == "__main__":
+    sys.exit(main())

@@ -1,0 +1,379 @@
+"""A plain program for document 01, in its order and from its sentences: bits, record, forest, operations, listing.
+
+It shares no idea with the product: a bit string is a string of characters, the search is a recursion, and a wire has its marks in B where
+taking it out leaves its ends unjoined. An operation returns its answer, or raises Refused with the refusal's number.
+"""
+import re
+import sys
+from collections import Counter
+from functools import lru_cache
+from itertools import cycle
+
+from packing import bits_of, fields_of, index_layout, index_length, number, record_length, whole
+
+MOST_TERMINALS, MOST_WIRES = 4096, 16384
+
+# the search enters the terminals of a path one inside the other
+sys.setrecursionlimit(2 * MOST_TERMINALS)
+
+# what is found in a record or an index is kept for the next questions about it
+kept = lru_cache(maxsize=16)
+
+
+# Bits
+
+def string(data, start, places):
+    """The bit string; empty where the bytes don't hold it in full."""
+    return bits_of(data)[start : start + places] if start + places <= 8 * len(data) else ""
+
+
+def rank(s, p):
+    return s[:p].count("1")
+
+
+@kept
+def ones(s):
+    """The places of the ones."""
+    return [place for place, bit in enumerate(s, 1) if bit == "1"]
+
+
+def select(s, k):
+    return ones(s)[k - 1] if 1 <= k <= len(ones(s)) else 0
+
+
+# Record
+
+@kept
+def sizes(data):
+    """n and m."""
+    bits = bits_of(data[:4])
+    return number(bits[:13]), number(bits[13:28])
+
+
+@kept
+def parts(data):
+    """D, the neighbour fields and the bits after them."""
+    n, m = sizes(data)
+    bits = bits_of(data)[28:]
+    return bits[: n + 2 * m], fields_of(bits[n + 2 * m : n + 26 * m]), bits[n + 26 * m :]
+
+
+@kept
+def places_of(data):
+    """The places of each terminal's block, counted from 0: those of the zeros after its one in D."""
+    d, _, _ = parts(data)
+    return [range(found.start() + 1, found.end()) for found in re.finditer("10*", d)]
+
+
+@kept
+def blocks_of(data):
+    """The neighbours of each terminal. The fields follow the zeros in order."""
+    _, fields, _ = parts(data)
+    neighbours = (field + 1 for field in fields)
+    return [[next(neighbours) for _ in places] for places in places_of(data)]
+
+
+# Forest
+
+def search(blocks):
+    """The terminals in order of first visit, and the parent of each, 0 for a root."""
+    order, parent = [], {}
+
+    def enter(v, above):
+        order.append(v)
+        parent[v] = above
+        for w in blocks[v - 1]:
+            if w not in parent:
+                enter(w, v)
+
+    for v in range(1, len(blocks) + 1):
+        if v not in parent:
+            enter(v, 0)
+    return order, parent
+
+
+def without(blocks, u, w):
+    """The blocks with the wire between u and w taken out: its two listings are left out and nothing else."""
+    left = list(blocks)
+    for here, there in (u, w), (w, u):
+        left[here - 1] = list(blocks[here - 1])
+        left[here - 1].remove(there)
+    return left
+
+
+def reached(blocks, start):
+    """The terminals that chains of wires lead to from this one, one after the other, itself first."""
+    found, seen = [start], {start}
+    yield start
+    for v in found:
+        for w in blocks[v - 1]:
+            if w not in seen:
+                found.append(w)
+                seen.add(w)
+                yield w
+
+
+def joined(blocks, u, w):
+    """Whether a chain of wires, possibly of none, leads from u to w. It is looked for from both ends in turn; there is none once nothing
+    more is reached from one of them."""
+    walks, met = (reached(blocks, u), reached(blocks, w)), (set(), set())
+    for side in cycle((0, 1)):
+        x = next(walks[side], None)
+        if x is None:
+            return False
+        if x in met[1 - side]:
+            return True
+        met[side].add(x)
+
+
+def wire(v, w):
+    return min(v, w), max(v, w)
+
+
+def wires(blocks):
+    return {wire(v, w) for v, block in enumerate(blocks, 1) for w in block}
+
+
+def is_bridge(blocks, v, w):
+    """Whether the removal of the wire between v and w leaves them unjoined."""
+    return not joined(without(blocks, v, w), v, w)
+
+
+def bridges(blocks):
+    return {(v, w) for v, w in wires(blocks) if is_bridge(blocks, v, w)}
+
+
+def marks(blocks, marked):
+    """The bits of E, P or B: a zero for a terminal's own one, and for each neighbour of its block whether it is marked."""
+    return "".join("0" + "".join("01"[marked(v, w)] for w in block) for v, block in enumerate(blocks, 1))
+
+
+def index_of(blocks, single):
+    """The index of a record with these blocks, for the set of its bridges."""
+    order, parent = search(blocks)
+    visits = {v: i for i, v in enumerate(order, 1)}
+    return index_layout(
+        marks(blocks, lambda v, w: parent[w] == v),
+        marks(blocks, lambda v, w: parent[v] == w),
+        marks(blocks, lambda v, w: wire(v, w) in single),
+        [visits[v] - 1 for v in range(1, len(blocks) + 1)],
+    )
+
+
+@kept
+def built(data):
+    """The index of an accepted record."""
+    return index_of(blocks_of(data), bridges(blocks_of(data)))
+
+
+@kept
+def sections_of(data, index):
+    """E, P, B and the stored numbers, as they stand in an index of the right length."""
+    n, m = sizes(data)
+    size = whole(n + 2 * m)
+    e, p, b = (bits_of(index[i * size : i * size + size]) for i in range(3))
+    return e, p, b, fields_of(bits_of(index[3 * size :])[: 12 * n])
+
+
+# Refusals
+
+class Refused(Exception):
+    """A refusal, with its number."""
+
+    def __init__(self, number):
+        super().__init__(number)
+        self.number = number
+
+
+def refuse(number, broken):
+    if broken:
+        raise Refused(number)
+
+
+def answer(operation, *given):
+    """The number of the refusal, 0 where nothing is refused, and the value, None where there is none."""
+    try:
+        return 0, operation(*given)
+    except Refused as refusal:
+        return refusal.number, None
+
+
+def order_r(data):
+    refuse(1, len(data) < 4)
+    n, m = sizes(data)
+    refuse(2, n > MOST_TERMINALS or m > MOST_WIRES)
+    refuse(3, len(data) != record_length(n, m))
+    d, _, _ = parts(data)
+    refuse(4, d.count("1") != n or d.startswith("0"))
+
+
+def order_q(data, index, v):
+    order_r(data)
+    refuse(10, len(index) != index_length(*sizes(data)))
+    refuse_11(data, v)
+
+
+def refuse_11(data, v):
+    n, _ = sizes(data)
+    refuse(11, v == 0 or v > n)
+
+
+# Operations on a record, and Build
+
+def check(data):
+    order_r(data)
+    n, _ = sizes(data)
+    _, _, spare = parts(data)
+    blocks = blocks_of(data)
+    listings = [(v, w) for v, block in enumerate(blocks, 1) for w in block]
+    refuse(5, "1" in spare)
+    refuse(6, any(w > n or w == v for v, w in listings))
+    refuse(7, any(len(set(block)) < len(block) for block in blocks))
+    refuse(8, not {(w, v) for v, w in listings} <= set(listings))
+
+
+def build(data, work, room):
+    """The index, for the lengths of the work slice and of the index buffer."""
+    check(data)
+    n, m = sizes(data)
+    refuse(9, work < 8 * n)
+    refuse(10, room != index_length(n, m))
+    return built(data)
+
+
+def degree(data, v):
+    order_r(data)
+    refuse_11(data, v)
+    return len(blocks_of(data)[v - 1])
+
+
+def unpack(data, room):
+    """The neighbour numbers, for the length of the list."""
+    check(data)
+    _, m = sizes(data)
+    refuse(10, room != 2 * m)
+    return [w for block in blocks_of(data) for w in block]
+
+
+def neighbours(data, unpacked, v):
+    """The part of the list that belongs to v's block; empty where Degree refuses or the list is not 2·m long."""
+    refusal, count = answer(degree, data, v)
+    if refusal or len(unpacked) != 2 * sizes(data)[1]:
+        return []
+    before = sum(len(block) for block in blocks_of(data)[: v - 1])
+    return unpacked[before : before + count]
+
+
+def loop_figure(data):
+    check(data)
+    n, m = sizes(data)
+    return m - n + 1
+
+
+# Queries, on any index
+
+def marked_in(section, places):
+    """The positions in the block, from 0, of the places that the section marks."""
+    return [j for j, place in enumerate(places) if section[place] == "1"]
+
+
+def neighbour(data, v, j):
+    """The neighbour at position j of v's block; 12 where the field is n or more."""
+    n, _ = sizes(data)
+    w = blocks_of(data)[v - 1][j]
+    refuse(12, w > n)
+    return w
+
+
+def step(data, index, v):
+    """The parent, 0 for a root, and whether the marked place of P is also marked in B."""
+    _, p, b, _ = sections_of(data, index)
+    places = places_of(data)[v - 1]
+    found = marked_in(p, places)
+    refuse(12, len(found) > 1)
+    return (neighbour(data, v, found[0]), b[places[found[0]]] == "1") if found else (0, False)
+
+
+def parent(data, index, v):
+    order_q(data, index, v)
+    above, _ = step(data, index, v)
+    return above
+
+
+def head(data, index, v):
+    order_q(data, index, v)
+    n, _ = sizes(data)
+    for _ in range(n):
+        above, single = step(data, index, v)
+        if above == 0 or single:
+            return v
+        v = above
+    raise Refused(12)
+
+
+def ancestor(data, index, u, v):
+    order_q(data, index, u)
+    refuse_11(data, v)
+    n, _ = sizes(data)
+    for _ in range(n):
+        if v == u:
+            return True
+        v, _ = step(data, index, v)
+        if v == 0:
+            return False
+    raise Refused(12)
+
+
+def children(data, index, v):
+    order_q(data, index, v)
+    e, _, _, _ = sections_of(data, index)
+    return len(marked_in(e, places_of(data)[v - 1]))
+
+
+def child(data, index, v, j):
+    order_q(data, index, v)
+    e, _, _, _ = sections_of(data, index)
+    found = marked_in(e, places_of(data)[v - 1])
+    refuse(13, j == 0 or j > len(found))
+    return neighbour(data, v, found[j - 1])
+
+
+def visit(data, index, v):
+    order_q(data, index, v)
+    n, _ = sizes(data)
+    _, _, _, stored = sections_of(data, index)
+    refuse(12, stored[v - 1] >= n)
+    return stored[v - 1] + 1
+
+
+def visited(data, index, i):
+    order_q(data, index, i)
+    _, _, _, stored = sections_of(data, index)
+    refuse(12, i - 1 not in stored)
+    return stored.index(i - 1) + 1
+
+
+# Listing
+
+def rows(blocks):
+    """The forest's own answers for each terminal: its number, visit number, parent, count of children and head."""
+    order, parent = search(blocks)
+    visits = {v: i for i, v in enumerate(order, 1)}
+    heads = {}
+    # a parent is visited before its children
+    for v in order:
+        stops = parent[v] == 0 or is_bridge(blocks, v, parent[v])
+        heads[v] = v if stops else heads[parent[v]]
+    counts = Counter(parent.values())
+    return [(v, visits[v], parent[v], counts[v], heads[v]) for v in range(1, len(blocks) + 1)]
+
+
+def listing(data):
+    """What loomlist prints."""
+    refusal, figure = answer(loop_figure, data)
+    if refusal:
+        return f"refused {refusal}\n"
+    lines = ["terminal visit parent children head"]
+    lines += [" ".join(map(str, row)) for row in rows(blocks_of(data))]
+    lines += [f"loops {figure}"]
+    return "".join(line + "\n" for line in lines)
