@@ -69,13 +69,31 @@ fn write_sections(bytes: &[u8], n: usize, m: usize, work: &[u16], index: &mut [u
     write_rest(bytes, n, m, work, index, k);
 }
 
+// Searches the record and writes its index, with room for the fields.
+fn write_from(
+    bytes: &[u8],
+    n: usize,
+    m: usize,
+    work: &mut [u16],
+    index: &mut [u8],
+    nbrs: &mut [u16],
+)
+    requires { ⌜ (Sound (now bytes) n m) × (Accepted (now bytes)) × (0 < n) × (8 * n ≤ length (now work)) × (length (now index) ≡ indexLength n m) × (length (now nbrs) ≡ 2 * m) ⌝ }
+    ensures { λ _. ⌜ now (index .exit) ≡ indexOf (blocks (now (bytes .entry))) ⌝ }
+{
+    super::fields::fill_fields(bytes, n, m, nbrs);
+    record::starts::fill_starts(bytes, n, m, &mut work[..n + 1]);
+    super::search::search(bytes, nbrs, n, m, work);
+    super::lows::lowpoints(bytes, nbrs, n, m, work);
+    write_sections(bytes, n, m, work, index);
+}
+
 // Searches the record and writes its index.
 pub fn write_index(bytes: &[u8], n: usize, m: usize, work: &mut [u16], index: &mut [u8])
     requires { ⌜ (Sound (now bytes) n m) × (Accepted (now bytes)) × (0 < n) × (8 * n ≤ length (now work)) × (length (now index) ≡ indexLength n m) ⌝ }
     ensures { λ _. ⌜ now (index .exit) ≡ indexOf (blocks (now (bytes .entry))) ⌝ }
 {
-    record::starts::fill_starts(bytes, n, m, &mut work[..n + 1]);
-    super::search::search(bytes, n, m, work);
-    super::lows::lowpoints(bytes, n, m, work);
-    write_sections(bytes, n, m, work, index);
+    let mut nbrs = [0u16; 32768];
+    let fields = 2 * m;
+    write_from(bytes, n, m, work, index, &mut nbrs[..fields]);
 }

@@ -6,6 +6,7 @@ use record::Refusal;
 use record::Shape;
 use record::Verdict;
 
+mod fields; // fields.rt: the neighbour fields as a list
 mod clear; // clear.rt: a section of zeros
 mod search; // search.rt: the depth-first search
 mod lows; // lows.rt: lowpoints

@@ -4,7 +4,9 @@ ghost use mathlib.Core.Path.{_≡_};
 ghost use Prim.Native.Nat.{_+_, _*_, _-_, _<_, min};
 ghost use lib.ListN.{length, getD};
 ghost use Rattle.forest.specs.Steps.{Searched};
+ghost use Rattle.record.specs.Record.{fields};
 ghost use Rattle.forest.specs.Lows.{LowAt, OwnLow, Lifting};
+use super::fields::field;
 use record::cells::get;
 use record::cells::put;
 
@@ -31,6 +33,7 @@ fn lower(work: &[u16], i: usize, low: usize) -> usize
 // The place p of vertex c is looked at.
 fn next_low(
     bytes: &[u8],
+    nbrs: &[u16],
     n: usize,
     m: usize,
     work: &[u16],
@@ -39,10 +42,10 @@ fn next_low(
     low: usize,
     back: usize,
 ) -> Low
-    requires { ⌜ (LowAt (now bytes) (now work) n m c p low back) × (p < getD (now work) (c + 1) 0) ⌝ }
+    requires { ⌜ (LowAt (now bytes) (now work) n m c p low back) × (p < getD (now work) (c + 1) 0) × (now nbrs ≡ fields (now bytes)) ⌝ }
     ensures { λ r. ⌜ LowAt (now (bytes .entry)) (now (work .entry)) n m c (p + 1) (r .low) (r .back) ⌝ }
 {
-    let v = record::fields::field(bytes, n, m, p);
+    let v = field(bytes, nbrs, n, m, p);
     let x = lower(work, 4 * n + v, low);
     if v + 1 == get(work, 3 * n + c) {
         if back == 0 {
@@ -54,8 +57,8 @@ fn next_low(
 }
 
 // The least number over all places of vertex c, and its way back.
-fn own_low(bytes: &[u8], n: usize, m: usize, work: &[u16], c: usize) -> Low
-    requires { ⌜ (Searched (now bytes) (now work) n m) × (c < n) ⌝ }
+fn own_low(bytes: &[u8], nbrs: &[u16], n: usize, m: usize, work: &[u16], c: usize) -> Low
+    requires { ⌜ (Searched (now bytes) (now work) n m) × (c < n) × (now nbrs ≡ fields (now bytes)) ⌝ }
     ensures { λ r. ⌜ OwnLow (now (bytes .entry)) n (getD (now (work .entry)) c 0) c (r .low) (r .back) ⌝ }
 {
     let end = get(work, c + 1);
@@ -63,7 +66,7 @@ fn own_low(bytes: &[u8], n: usize, m: usize, work: &[u16], c: usize) -> Low
     let mut low = get(work, 4 * n + c) - 1;
     let mut back: usize = 0;
     while p < end {
-        let l = next_low(bytes, n, m, work, c, p, low, back);
+        let l = next_low(bytes, nbrs, n, m, work, c, p, low, back);
         low = l.low;
         back = l.back;
         p += 1;
@@ -72,13 +75,13 @@ fn own_low(bytes: &[u8], n: usize, m: usize, work: &[u16], c: usize) -> Low
 }
 
 // The least number over its own places, and the way back, for every vertex.
-fn own_lows(bytes: &[u8], n: usize, m: usize, work: &mut [u16])
-    requires { ⌜ Searched (now bytes) (now work) n m ⌝ }
+fn own_lows(bytes: &[u8], nbrs: &[u16], n: usize, m: usize, work: &mut [u16])
+    requires { ⌜ (Searched (now bytes) (now work) n m) × (now nbrs ≡ fields (now bytes)) ⌝ }
     ensures { λ _. ⌜ Lifting (now (bytes .entry)) (now (work .exit)) n m n ⌝ }
 {
     let mut c = 0;
     while c < n {
-        let l = own_low(bytes, n, m, work, c);
+        let l = own_low(bytes, nbrs, n, m, work, c);
         put(work, 7 * n + c, l.low);
         put(work, 2 * n + c, l.back);
         c += 1;
@@ -100,11 +103,11 @@ fn lift(bytes: &[u8], n: usize, m: usize, work: &mut [u16], k: usize)
 }
 
 // The lowpoints, from the last visited vertex back.
-pub fn lowpoints(bytes: &[u8], n: usize, m: usize, work: &mut [u16])
-    requires { ⌜ Searched (now bytes) (now work) n m ⌝ }
+pub fn lowpoints(bytes: &[u8], nbrs: &[u16], n: usize, m: usize, work: &mut [u16])
+    requires { ⌜ (Searched (now bytes) (now work) n m) × (now nbrs ≡ fields (now bytes)) ⌝ }
     ensures { λ _. ⌜ Lifting (now (bytes .entry)) (now (work .exit)) n m 0 ⌝ }
 {
-    own_lows(bytes, n, m, work);
+    own_lows(bytes, nbrs, n, m, work);
     let mut k = n;
     while 0 < k {
         k -= 1;

@@ -5,7 +5,9 @@ ghost use Prim.Native.Nat.{_+_, _*_, _-_, _≤_, _<_};
 ghost use lib.Dec.{ltb};
 ghost use lib.ListN.{length};
 ghost use Rattle.graph.specs.Laws.Loop.Arrays.{Enters};
+ghost use Rattle.record.specs.Record.{fields};
 ghost use Rattle.forest.specs.Steps.{cellsOf, Holding, Searching, StartsStay, Unvisited, Searched};
+use super::fields::field;
 use record::cells::get;
 use record::cells::put;
 
@@ -59,6 +61,7 @@ fn try_start(
 // Vertex `cur - 1` is at hand: its next neighbour is entered if it is unvisited; where none is left, the parent comes to hand.
 fn try_next(
     bytes: &[u8],
+    nbrs: &[u16],
     n: usize,
     m: usize,
     work: &mut [u16],
@@ -67,7 +70,7 @@ fn try_next(
     cur: usize,
     k: usize,
 ) -> At
-    requires { ⌜ (Searching (now bytes) (now work) n m left i cur k) × (0 < cur) ⌝ }
+    requires { ⌜ (Searching (now bytes) (now work) n m left i cur k) × (0 < cur) × (now nbrs ≡ fields (now bytes)) ⌝ }
     ensures { λ r. ⌜ Searching (now (bytes .entry)) (now (work .exit)) n m (left - 1) (r .i) (r .cur) (r .k) ⌝ }
 {
     let u = cur - 1;
@@ -78,7 +81,7 @@ fn try_next(
         let p = get(work, 3 * n + u);
         return At { i, cur: p, k };
     }
-    let v = record::fields::field(bytes, n, m, a + j);
+    let v = field(bytes, nbrs, n, m, a + j);
     put(work, 2 * n + u, j + 1);
     if get(work, 4 * n + v) == 0 {
         enter(work, n, v, k, cur, j);
@@ -101,6 +104,7 @@ fn busy(n: usize, i: usize, cur: usize) -> bool
 // One step of the search.
 fn step(
     bytes: &[u8],
+    nbrs: &[u16],
     n: usize,
     m: usize,
     work: &mut [u16],
@@ -109,11 +113,11 @@ fn step(
     cur: usize,
     k: usize,
 ) -> At
-    requires { ⌜ (Searching (now bytes) (now work) n m left i cur k) × ((ltb 0 cur || ltb i n) ≡ true) ⌝ }
+    requires { ⌜ (Searching (now bytes) (now work) n m left i cur k) × ((ltb 0 cur || ltb i n) ≡ true) × (now nbrs ≡ fields (now bytes)) ⌝ }
     ensures { λ r. ⌜ Searching (now (bytes .entry)) (now (work .exit)) n m (left - 1) (r .i) (r .cur) (r .k) ⌝ }
 {
     if 0 < cur {
-        return try_next(bytes, n, m, work, left, i, cur, k);
+        return try_next(bytes, nbrs, n, m, work, left, i, cur, k);
     }
     try_start(bytes, n, m, work, left, i, k)
 }
@@ -131,8 +135,8 @@ fn unvisit(work: &mut [u16], n: usize)
 }
 
 // The search of all vertices in order. What the work slice held behind the starts does not matter.
-pub fn search(bytes: &[u8], n: usize, m: usize, work: &mut [u16])
-    requires { ⌜ Holding (now bytes) (now work) n m ⌝ }
+pub fn search(bytes: &[u8], nbrs: &[u16], n: usize, m: usize, work: &mut [u16])
+    requires { ⌜ (Holding (now bytes) (now work) n m) × (now nbrs ≡ fields (now bytes)) ⌝ }
     ensures { λ _. ⌜ Searched (now (bytes .entry)) (now (work .exit)) n m ⌝ }
 {
     unvisit(work, n);
@@ -141,7 +145,7 @@ pub fn search(bytes: &[u8], n: usize, m: usize, work: &mut [u16])
     let mut cur: usize = 0;
     let mut k: usize = 0;
     while busy(n, i, cur) {
-        let at = step(bytes, n, m, work, left, i, cur, k);
+        let at = step(bytes, nbrs, n, m, work, left, i, cur, k);
         left -= 1;
         i = at.i;
         cur = at.cur;

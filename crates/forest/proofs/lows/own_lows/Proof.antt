@@ -8,16 +8,16 @@ use Rattle.forest.proofs.lows.own_lows.Statement.{statement}
 use Rattle.forest.proofs.lows.own_lows.Tie as tie
 
 abbrev Inv-loop : tie.InvT-loop
-Inv-loop bytes n m work₀ c₀ work c = (Filled bytes work n m c) × (length work ≡ length work₀)
+Inv-loop bytes nbrs n m work₀ c₀ work c = (Filled bytes work n m c) × (length work ≡ length work₀)
 
 abbrev μ-loop : tie.MeasureT-loop
-μ-loop bytes n m work₀ c₀ work c = n - c
+μ-loop bytes nbrs n m work₀ c₀ work c = n - c
 
 loop-holds : tie.Need-loop-holds Inv-loop μ-loop
-loop-holds c = (filled-begin (c .before .before .pre), refl)
+loop-holds c = (filled-begin (c .before .before .before .pre .0), refl)
 
 own-low-requires : tie.Need-own-low-requires Inv-loop μ-loop
-own-low-requires c κs = (c .before .before .loop .inv .0 .searched, c .before .loop-test .taken)
+own-low-requires c κs = (c .before .before .loop .inv .0 .searched, c .before .loop-test .taken, c .before .before .before .before .before .before .pre .1)
 
 mul-put : tie.Need-mul-put Inv-loop μ-loop
 mul-put c = let s = c .before .before .before .before .loop .inv .0 .searched .holds in let o = s .sound .n-fits in let q = s .size in omega arith

@@ -9,39 +9,39 @@ use Rattle.forest.proofs.search.search.Statement.{statement}
 use Rattle.forest.proofs.search.search.Tie as tie
 
 abbrev Inv-loop : tie.InvT-loop
-Inv-loop bytes n m work₀ left₀ i₀ cur₀ k₀ work left i cur k = (Searching bytes work n m left i cur k) × (length work ≡ length work₀)
+Inv-loop bytes nbrs n m work₀ left₀ i₀ cur₀ k₀ work left i cur k = (Searching bytes work n m left i cur k) × (length work ≡ length work₀)
 
 abbrev μ-loop : tie.MeasureT-loop
-μ-loop bytes n m work₀ left₀ i₀ cur₀ k₀ work left i cur k = left
+μ-loop bytes nbrs n m work₀ left₀ i₀ cur₀ k₀ work left i cur k = left
 
 unvisit-requires : tie.Need-unvisit-requires Inv-loop μ-loop
 unvisit-requires c κs =
-    let pre = c .before .before .before .pre in
+    let pre = c .before .before .before .before .pre .0 in
     let o = pre .sound .n-fits in let p = pre .sound .m-fits in let q = pre .size in let s = pre .some in (omega arith, omega arith, omega arith)
 
 mul-left : tie.Need-mul-left Inv-loop μ-loop
 mul-left c =
-    let pre = c .before .before .before .before .before .before .pre in
+    let pre = c .before .before .before .before .before .before .before .pre .0 in
     let o = pre .sound .n-fits in let p = pre .sound .m-fits in omega arith
 
 mul-left-2 : tie.Need-mul-left-2 Inv-loop μ-loop
 mul-left-2 c =
-    let pre = c .before .before .before .before .before .before .pre in
+    let pre = c .before .before .before .before .before .before .before .pre .0 in
     let o = pre .sound .n-fits in let p = pre .sound .m-fits in omega arith
 
 add-left : tie.Need-add-left Inv-loop μ-loop
 add-left c =
-    let pre = c .before .before .before .before .before .before .pre in
+    let pre = c .before .before .before .before .before .before .before .pre .0 in
     let o = pre .sound .n-fits in let p = pre .sound .m-fits in omega arith
 
 loop-holds : tie.Need-loop-holds Inv-loop μ-loop
-loop-holds c = (search-begun (c .before .before .before .before .before .before .pre) (c .before .before .unvisit .ensures), refl)
+loop-holds c = (search-begun (c .before .before .before .before .before .before .before .pre .0) (c .before .before .unvisit .ensures), refl)
 
 busy-requires : tie.Need-busy-requires Inv-loop μ-loop
 busy-requires c κs = search needs
 
 step-requires : tie.Need-step-requires Inv-loop μ-loop
-step-requires c κs = (c .before .before .before .loop .inv .0, sym (c .before .before .busy .ensures) ∙ c .before .if1 .taken)
+step-requires c κs = (c .before .before .before .loop .inv .0, sym (c .before .before .busy .ensures) ∙ c .before .if1 .taken, c .before .before .before .before .before .before .before .before .before .before .before .pre .1)
 
 sub-left : tie.Need-sub-left Inv-loop μ-loop
 sub-left c = searching-busy (c .before .before .before .before .before .before .loop .inv .0) (sym (c .before .before .before .before .before .busy .ensures) ∙ c .before .before .before .before .if1 .taken)

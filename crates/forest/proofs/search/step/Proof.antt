@@ -19,8 +19,8 @@ returns c = search needs
 
 try-start-requires : tie.Need-try-start-requires
 try-start-requires c κs =
-    let pre = c .before .before .before .before .pre in
-    let a = c .before .before .before .before .args in
+    let pre = c .before .before .before .before .before .pre in
+    let a = c .before .before .before .before .before .args in
     (subst (λ (x : ℕ). Searching (a .bytes .now) (a .work .now) (a .n) (a .m) (a .left) (a .i) x (a .k)) (omega arith) (pre .0), busy-start (pre .1) (c .before .if1 .left))
 
 same-length-2 : tie.Need-same-length-2

@@ -14,17 +14,17 @@ mul-get c = search needs
 
 add-get : tie.Need-add-get
 add-get c =
-    let pre = c .before .before .before .pre in
+    let pre = c .before .before .before .before .pre in
     let o = pre .0 .holds .sound .n-fits in let q = pre .0 .holds .size in let u = hand-vertex (pre .0) (pre .1) in omega arith
 
 get-requires : tie.Need-get-requires
 get-requires c κs =
-    let pre = c .before .before .before .pre in
+    let pre = c .before .before .before .before .pre in
     let o = pre .0 .holds .sound .n-fits in let q = pre .0 .holds .size in let u = hand-vertex (pre .0) (pre .1) in omega arith
 
 get-requires-2 : tie.Need-get-requires-2
 get-requires-2 c κs =
-    let pre = c .before .before .before .before .before .pre in
+    let pre = c .before .before .before .before .before .before .pre in
     let o = pre .0 .holds .sound .n-fits in let q = pre .0 .holds .size in let u = hand-vertex (pre .0) (pre .1) in omega arith
 
 add-get-2 : tie.Need-add-get-2
@@ -32,12 +32,12 @@ add-get-2 c = search needs
 
 get-requires-3 : tie.Need-get-requires-3
 get-requires-3 c κs =
-    let pre = c .before .before .before .before .before .before .before .pre in
+    let pre = c .before .before .before .before .before .before .before .before .pre in
     let o = pre .0 .holds .sound .n-fits in let q = pre .0 .holds .size in let u = hand-vertex (pre .0) (pre .1) in omega arith
 
 sub-if1 : tie.Need-sub-if1
 sub-if1 c =
-    let pre = c .before .before .before .before .before .before .before .before .pre in
+    let pre = c .before .before .before .before .before .before .before .before .before .pre in
     let o = pre .0 .holds .sound .n-fits in let q = pre .0 .holds .size in let u = hand-vertex (pre .0) (pre .1) in let r = next-rises (pre .0) (pre .1) (c .before .before .get2 .ensures .0) (c .get3 .ensures .0) (c .before .before .before .before .get .ensures .0) in omega arith
 
 mul-get-2 : tie.Need-mul-get-2
@@ -45,12 +45,12 @@ mul-get-2 c = search needs
 
 add-get-3 : tie.Need-add-get-3
 add-get-3 c =
-    let pre = c .before .before .before .before .before .before .before .before .before .before .pre in
+    let pre = c .before .before .before .before .before .before .before .before .before .before .before .pre in
     let o = pre .0 .holds .sound .n-fits in let q = pre .0 .holds .size in let u = hand-vertex (pre .0) (pre .1) in omega arith
 
 get-requires-4 : tie.Need-get-requires-4
 get-requires-4 c κs =
-    let pre = c .before .before .before .before .before .before .before .before .before .before .pre in
+    let pre = c .before .before .before .before .before .before .before .before .before .before .before .pre in
     let o = pre .0 .holds .sound .n-fits in let q = pre .0 .holds .size in let u = hand-vertex (pre .0) (pre .1) in omega arith
 
 same-length : tie.Need-same-length
@@ -58,7 +58,7 @@ same-length c = search needs
 
 returns : tie.Need-returns
 returns c =
-    let pre = c .before .before .before .before .before .before .before .before .before .before .before .pre in
+    let pre = c .before .before .before .before .before .before .before .before .before .before .before .before .pre in
     let get = c .before .before .before .before .before .before .before .get in
     next-returned (pre .0) (pre .1) (c .before .before .before .before .before .get2 .ensures .0) (c .before .before .before .get3 .ensures .0) (get .ensures .0) (c .before .before .if1 .taken) (c .get4 .ensures .0)
 
@@ -67,15 +67,15 @@ add-field c = search needs
 
 field-requires : tie.Need-field-requires
 field-requires c κs =
-    let pre = c .before .before .before .before .before .before .before .before .before .pre in
-    let o = pre .0 .holds .sound .n-fits in let q = pre .0 .holds .size in let u = hand-vertex (pre .0) (pre .1) in let r = next-rises (pre .0) (pre .1) (c .before .before .before .get2 .ensures .0) (c .before .get3 .ensures .0) (c .before .before .before .before .before .get .ensures .0) in (pre .0 .holds .sound, omega arith)
+    let pre = c .before .before .before .before .before .before .before .before .before .before .pre in
+    let o = pre .0 .holds .sound .n-fits in let q = pre .0 .holds .size in let u = hand-vertex (pre .0) (pre .1) in let r = next-rises (pre .0) (pre .1) (c .before .before .before .get2 .ensures .0) (c .before .get3 .ensures .0) (c .before .before .before .before .before .get .ensures .0) in (pre .0 .holds .sound, omega arith, pre .2)
 
 mul-put : tie.Need-mul-put
 mul-put c = search needs
 
 add-put : tie.Need-add-put
 add-put c =
-    let pre = c .before .before .before .before .before .before .before .before .before .before .before .pre in
+    let pre = c .before .before .before .before .before .before .before .before .before .before .before .before .pre in
     let o = pre .0 .holds .sound .n-fits in let q = pre .0 .holds .size in let u = hand-vertex (pre .0) (pre .1) in omega arith
 
 add-put-2 : tie.Need-add-put-2
@@ -83,7 +83,7 @@ add-put-2 c = search needs
 
 put-requires : tie.Need-put-requires
 put-requires c κs =
-    let pre = c .before .before .before .before .before .before .before .before .before .before .before .pre in
+    let pre = c .before .before .before .before .before .before .before .before .before .before .before .before .pre in
     let get = c .before .before .before .before .before .before .before .get in
     let o = pre .0 .holds .sound .n-fits in let q = pre .0 .holds .size in let u = hand-vertex (pre .0) (pre .1) in let r = next-rises (pre .0) (pre .1) (c .before .before .before .before .before .get2 .ensures .0) (c .before .before .before .get3 .ensures .0) (get .ensures .0) in (omega arith, omega arith)
 
@@ -95,7 +95,7 @@ add-get-4 c = search needs
 
 get-requires-5 : tie.Need-get-requires-5
 get-requires-5 c κs =
-    let pre = c .before .before .before .before .before .before .before .before .before .before .before .before .before .before .before .pre in
+    let pre = c .before .before .before .before .before .before .before .before .before .before .before .before .before .before .before .before .pre in
     let get = c .before .before .before .before .before .before .before .before .before .before .before .get in
     let get2 = c .before .before .before .before .before .before .before .before .before .get2 in
     let get3 = c .before .before .before .before .before .before .before .get3 in
@@ -105,7 +105,7 @@ get-requires-5 c κs =
 
 enter-requires : tie.Need-enter-requires
 enter-requires c κs =
-    let pre = c .before .before .before .before .before .before .before .before .before .before .before .before .before .before .before .before .before .before .pre in
+    let pre = c .before .before .before .before .before .before .before .before .before .before .before .before .before .before .before .before .before .before .before .pre in
     let get = c .before .before .before .before .before .before .before .before .before .before .before .before .before .before .get in
     let get2 = c .before .before .before .before .before .before .before .before .before .before .before .before .get2 in
     let get3 = c .before .before .before .before .before .before .before .before .before .before .get3 in
@@ -116,12 +116,12 @@ enter-requires c κs =
     let w = pre .0 .holds .some in
     (omega arith, omega arith, omega arith, omega arith, omega arith, omega arith, omega arith)
 
-add-t37 : tie.Need-add-t37
-add-t37 c = search needs
-
 add-t38 : tie.Need-add-t38
-add-t38 c =
-    let pre = c .before .before .before .before .before .before .before .before .before .before .before .before .before .before .before .before .before .before .before .before .before .pre in
+add-t38 c = search needs
+
+add-t39 : tie.Need-add-t39
+add-t39 c =
+    let pre = c .before .before .before .before .before .before .before .before .before .before .before .before .before .before .before .before .before .before .before .before .before .before .pre in
     let get = c .before .before .before .before .before .before .before .before .before .before .before .before .before .before .before .before .before .get in
     let get2 = c .before .before .before .before .before .before .before .before .before .before .before .before .before .before .before .get2 in
     let get3 = c .before .before .before .before .before .before .before .before .before .before .before .before .before .get3 in
@@ -135,7 +135,7 @@ same-length-2 c = search needs
 
 returns-2 : tie.Need-returns-2
 returns-2 c =
-    let pre = c .before .before .before .before .before .before .before .before .before .before .before .before .before .before .before .before .before .before .before .before .before .pre in
+    let pre = c .before .before .before .before .before .before .before .before .before .before .before .before .before .before .before .before .before .before .before .before .before .before .pre in
     let get = c .before .before .before .before .before .before .before .before .before .before .before .before .before .before .before .before .before .get in
     let get2 = c .before .before .before .before .before .before .before .before .before .before .before .before .before .before .before .get2 in
     let get3 = c .before .before .before .before .before .before .before .before .before .before .before .before .before .get3 in
@@ -150,7 +150,7 @@ same-length-3 c = search needs
 
 returns-3 : tie.Need-returns-3
 returns-3 c =
-    let pre = c .before .before .before .before .before .before .before .before .before .before .before .before .before .before .before .before .before .pre in
+    let pre = c .before .before .before .before .before .before .before .before .before .before .before .before .before .before .before .before .before .before .pre in
     let get = c .before .before .before .before .before .before .before .before .before .before .before .before .before .get in
     let get2 = c .before .before .before .before .before .before .before .before .before .before .before .get2 in
     let get3 = c .before .before .before .before .before .before .before .before .before .get3 in
@@ -185,8 +185,8 @@ try-next-spec =
     add-get-4
     get-requires-5
     enter-requires
-    add-t37
     add-t38
+    add-t39
     same-length-2
     returns-2
     same-length-3
