@@ -7,7 +7,7 @@ use lib.ListN.{length, getD}
 use Rattle.graph.specs.Search.{countUp, forest}
 use Rattle.graph.specs.Laws.Loop.Arrays.{Cells, Kept}
 use Rattle.graph.specs.Laws.Loop.Invariant.{Loop}
-use Rattle.record.specs.Record.{unary, blocks}
+use Rattle.record.specs.Record.{unary, fields, blocks}
 use Rattle.record.specs.Starts.{startsOf}
 use Rattle.record.specs.Steps.{Sound}
 use Rattle.record.specs.Operations.{Accepted}
@@ -38,6 +38,11 @@ pub record Searching (bytes work : List ℕ) (n m left i cur k : ℕ) : Type 0 w
 -- the first n + 1 numbers stay
 abbrev pub StartsStay : ℕ → List ℕ → List ℕ → Type 0
 StartsStay n work next = (u : ℕ) → u ≤ n → getD next u 0 ≡ getD work u 0
+
+-- place p of vertex u leads to a visited vertex
+pub record Passable (bytes work : List ℕ) (n u p : ℕ) : Type 0 where
+  pub inside : p < getD work (u + 1) 0
+  pub visited : getD work (4 * n + getD (fields bytes) p 0) 0 ≡ 0 → ⊥
 
 -- the visit cells of the first v vertices are 0, and the starts stay
 pub record Unvisited (n v : ℕ) (work next : List ℕ) : Type 0 where

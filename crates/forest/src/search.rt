@@ -3,10 +3,10 @@ ghost use mathlib.Core.Path.{_≡_};
 ghost use mathlib.Core.Bool.{true, _||_};
 ghost use Prim.Native.Nat.{_+_, _*_, _-_, _≤_, _<_};
 ghost use lib.Dec.{ltb};
-ghost use lib.ListN.{length};
+ghost use lib.ListN.{length, getD};
 ghost use Rattle.graph.specs.Laws.Loop.Arrays.{Enters};
 ghost use Rattle.record.specs.Record.{fields};
-ghost use Rattle.forest.specs.Steps.{cellsOf, Holding, Searching, StartsStay, Unvisited, Searched};
+ghost use Rattle.forest.specs.Steps.{cellsOf, Holding, Searching, StartsStay, Passable, Unvisited, Searched};
 use super::fields::field;
 use record::cells::get;
 use record::cells::put;
@@ -94,6 +94,49 @@ fn try_next(
     At { i, cur, k }
 }
 
+// Whether place p, in the block of vertex u or at its end, leads to a visited vertex.
+fn visited_at(
+    bytes: &[u8],
+    nbrs: &[u16],
+    n: usize,
+    m: usize,
+    work: &[u16],
+    u: usize,
+    p: usize,
+) -> bool
+    requires { ⌜ (Holding (now bytes) (now work) n m) × (u < n) × (getD (now work) u 0 ≤ p) × (now nbrs ≡ fields (now bytes)) ⌝ }
+    ensures { λ r. ⌜ (r ≡ true → Passable (now (bytes .entry)) (now (work .entry)) n u p) ⌝ }
+{
+    if p < get(work, u + 1) {
+        return get(work, 4 * n + field(bytes, nbrs, n, m, p)) != 0;
+    }
+    false
+}
+
+// The visited neighbours of the vertex at hand, up to the next that is not, are passed over, with one store for all of them.
+fn pass_visited(
+    bytes: &[u8],
+    nbrs: &[u16],
+    n: usize,
+    m: usize,
+    work: &mut [u16],
+    left: usize,
+    i: usize,
+    cur: usize,
+    k: usize,
+)
+    requires { ⌜ (Searching (now bytes) (now work) n m left i cur k) × (0 < cur) × (now nbrs ≡ fields (now bytes)) ⌝ }
+    ensures { λ _. ⌜ Searching (now (bytes .entry)) (now (work .exit)) n m left i cur k ⌝ }
+{
+    let u = cur - 1;
+    let a = get(work, u);
+    let mut p = a + get(work, 2 * n + u);
+    while visited_at(bytes, nbrs, n, m, work, u, p) {
+        p += 1;
+    }
+    put(work, 2 * n + u, p - a);
+}
+
 // A vertex is at hand, or a start is left to try.
 fn busy(n: usize, i: usize, cur: usize) -> bool
     ensures { λ r. ⌜ r ≡ (ltb 0 cur || ltb i n) ⌝ }
@@ -117,6 +160,7 @@ fn step(
     ensures { λ r. ⌜ Searching (now (bytes .entry)) (now (work .exit)) n m (left - 1) (r .i) (r .cur) (r .k) ⌝ }
 {
     if 0 < cur {
+        pass_visited(bytes, nbrs, n, m, work, left, i, cur, k);
         return try_next(bytes, nbrs, n, m, work, left, i, cur, k);
     }
     try_start(bytes, n, m, work, left, i, k)

@@ -1,20 +1,26 @@
 -- The steps of the search over the work slice.
 use mathlib.Core.Path.{_≡_, refl, sym, ap, ap₂, subst, _∙_}
+use mathlib.Core.Bool.{true, not}
 use mathlib.Core.List.{List, _∷_}
 use Prim.Native.Nat.{ℕ, suc, _+_, _-_, _*_, _≤_, _<_}
 use native.Mathlib.Numerals.{add-one}
 use native.Mathlib.Omega.{arith}
+use borrow.Author.Tests.{eq-eqb}
+use lib.Dec.{eqb}
 use lib.ListN.{length, getD, set}
+use lib.Seq.{set-getD, set-set}
 use Rattle.graph.specs.Graph.{block, target}
 use Rattle.graph.specs.Search.{countUp, forest}
+use Rattle.graph.specs.Laws.Places.Basics.{clash}
 use Rattle.graph.specs.Laws.Joined.Spanning.{count-more}
 use Rattle.graph.specs.Laws.Bridges.Stores.{Stored}
 use Rattle.graph.specs.Laws.Loop.Arrays.{Cells, Enters, Same}
 use Rattle.graph.specs.Laws.Loop.Invariant.{Loop, loop-room, loop-vertex, loop-busy, loop-busy-start, loop-pass-start, loop-enter-start, loop-pass, loop-enter, loop-return}
 use Rattle.record.specs.Record.{fields, blocks}
 use Rattle.record.specs.Laws.Sound.{accepted-well-formed}
+use Rattle.record.proofs.Laws.Arrays.Stores.{cell-same, cell-other}
 use Rattle.record.proofs.Laws.Reading.Sounded.{sound-vertices}
-use Rattle.forest.specs.Steps.{cellsOf, Holding, Searching, StartsStay}
+use Rattle.forest.specs.Steps.{cellsOf, Holding, Searching, StartsStay, Passable}
 use Rattle.forest.proofs.Laws.Rows.{row-rises, row-ends, row-size, row-neighbour}
 use Rattle.forest.proofs.Laws.Entering.{Put, put-length, put-other, put-here}
 
@@ -213,3 +219,94 @@ module _ {bytes work : List ℕ} {n m left i cur k : ℕ} (s : Searching bytes w
           → StartsStay n mid next → length next ≡ length mid → Searching bytes next n m (left - 1) i (v + 1) (k + 1)
       next-entered {next} z e t l =
           hand-entered s h below the-field moved-on (sym visit-stays ∙ z) (subst (λ (y : ℕ). Enters n (cellsOf n mid) (cellsOf n next) (cellsOf n mid .nexts) v k cur y) is-j e) t l
+
+-- ---- visited neighbours are passed over, with one store for all of them
+
+-- a place of a block leads to a vertex
+pub row-inside : {bytes work : List ℕ} {n m u p : ℕ} → Holding bytes work n m → u < n → getD work u 0 ≤ p → p < getD work (u + 1) 0 → getD (fields bytes) p 0 < n
+row-inside {bytes} {work} {u = u} {p = p} o h f l =
+    let j : ℕ = p - getD work u 0 in
+    let r = row-rises o h in
+    let e = row-size o h in
+    let t = row-neighbour o h j (omega arith) in
+    let z : getD (fields bytes) (getD work u 0 + j) 0 ≡ getD (fields bytes) p 0 = ap (λ (x : ℕ). getD (fields bytes) x 0) (omega arith) in
+    let q = accepted-well-formed (o .accepted) .in-range u j (target (blocks bytes) u j) (record { fits = omega arith; leads = refl }) in
+    let k = as-many o in
+    omega arith
+
+-- from what the code reads there
+pub place-passable : {bytes work : List ℕ} {n u p b v c : ℕ} → b ≡ getD work (u + 1) 0 → p < b → v ≡ getD (fields bytes) p 0 → c ≡ getD work (4 * n + v) 0
+    → not (eqb c 0) ≡ true → Passable bytes work n u p
+place-passable {work = work} {n = n} {c = c} eb l ev ec q = record {
+  inside = omega arith;
+  visited = λ z. clash q (ap not (eq-eqb c 0 (ec ∙ ap (λ (x : ℕ). getD work (4 * n + x) 0) ev ∙ z)));
+}
+
+searching-longer : {bytes work : List ℕ} {n m left more i cur k : ℕ} → left ≤ more → Searching bytes work n m left i cur k → Searching bytes work n m more i cur k
+searching-longer h s =
+    let l = s .loop in
+    let e = l .enough in
+    record {
+      holds = s .holds;
+      begun = s .begun;
+      loop = record {
+        soFar = l .soFar;
+        frames = l .frames;
+        built = l .built;
+        within = l .within;
+        kept = l .kept;
+        going = l .going;
+        stack = l .stack;
+        count = l .count;
+        enough = omega arith;
+      };
+    }
+
+-- the search, if the next position of the vertex at hand were place p
+pub record Passing (bytes work : List ℕ) (n m left i cur k p : ℕ) : Type 0 where
+  pub from : getD work (cur - 1) 0 ≤ p
+  pub short : p - getD work (cur - 1) 0 < 65536
+  pub state : Searching bytes (set work (2 * n + (cur - 1)) (p - getD work (cur - 1) 0)) n m left i cur k
+
+-- the position is stored
+pub passing-state : {bytes work next : List ℕ} {n m left i cur k p a : ℕ} → Passing bytes work n m left i cur k p → a ≡ getD work (cur - 1) 0
+    → next ≡ set work (2 * n + (cur - 1)) (p - a) → Searching bytes next n m left i cur k
+passing-state {bytes} {work} {n = n} {m} {left} {i} {cur} {k} {p} t ea e =
+    subst (λ (w : List ℕ). Searching bytes w n m left i cur k) (sym (e ∙ ap (λ (x : ℕ). set work (2 * n + (cur - 1)) (p - x)) ea)) (t .state)
+
+module _ {bytes work : List ℕ} {n m left i cur k : ℕ} (s : Searching bytes work n m left i cur k) (h : 0 < cur) where
+  pub passing-begin : {a j p : ℕ} → a ≡ getD work (cur - 1) 0 → j ≡ getD work (2 * n + (cur - 1)) 0 → j < 65536 → p ≡ a + j → Passing bytes work n m left i cur k p
+  passing-begin {p = p} ea ej b ep =
+      let e : p - getD work (cur - 1) 0 ≡ getD work (2 * n + (cur - 1)) 0 = omega arith in
+      record {
+        from = omega arith;
+        short = omega arith;
+        state = subst (λ (w : List ℕ). Searching bytes w n m left i cur k) (sym (ap (set work (2 * n + (cur - 1))) e ∙ set-getD work (2 * n + (cur - 1)) 0)) s;
+      }
+
+  pub passing-more : {p : ℕ} → Passing bytes work n m left i cur k p → Passable bytes work n (cur - 1) p → Passing bytes work n m left i cur k (p + 1)
+  passing-more {p} t v =
+      let u : ℕ = cur - 1 in
+      let at : ℕ = 2 * n + (cur - 1) in
+      let a : ℕ = getD work (cur - 1) 0 in
+      let w : List ℕ = set work at (p - a) in
+      let uv = hand-vertex s h in
+      let o = s .holds in
+      let z = o .size in
+      let some = o .some in
+      let ends = row-ends o uv in
+      let f = t .from in
+      let l = v .inside in
+      let mf = o .sound .m-fits in
+      let ea : a ≡ getD w (cur - 1) 0 = sym (cell-other work (p - a) (λ q. omega arith)) in
+      let eb : getD work (cur - 1 + 1) 0 ≡ getD w (cur - 1 + 1) 0 = sym (cell-other work (p - a) (λ q. omega arith)) in
+      let ej : p - a ≡ getD w at 0 = sym (cell-same work (p - a) refl (omega arith)) in
+      let inside = row-inside o uv f l in
+      let x : getD (fields bytes) p 0 ≡ getD (fields bytes) (a + (p - a)) 0 = ap (λ (y : ℕ). getD (fields bytes) y 0) (omega arith) in
+      let e : set work at (p + 1 - a) ≡ set w at (p - a + 1) = ap (set work at) (omega arith) ∙ sym (set-set work at (p - a) (p - a + 1)) in
+      let c : getD (set work at (p + 1 - a)) (4 * n + getD (fields bytes) p 0) 0 ≡ getD work (4 * n + getD (fields bytes) p 0) 0 = cell-other work (p + 1 - a) (λ q. omega arith) in
+      record {
+        from = omega arith;
+        short = omega arith;
+        state = searching-longer (omega arith) (next-passed (t .state) h ea eb ej (omega arith) x e (λ q. v .visited (sym c ∙ q)));
+      }

@@ -2,11 +2,14 @@
 use mathlib.Core.Path.{subst}
 use Prim.Native.Nat.{ℕ}
 use native.Mathlib.Omega.{arith}
-use borrow.Author.Needs.{needs}
 use Rattle.forest.proofs.Laws.Bounds.{busy-start}
 use Rattle.forest.specs.Steps.{Searching}
+use borrow.Author.Needs.{needs}
 use Rattle.forest.proofs.search.step.Statement.{statement}
 use Rattle.forest.proofs.search.step.Tie as tie
+
+pass-visited-requires : tie.Need-pass-visited-requires
+pass-visited-requires c κs = search needs
 
 try-next-requires : tie.Need-try-next-requires
 try-next-requires c κs = search needs
@@ -32,4 +35,11 @@ returns-2 c = search needs
 pub step-spec : {M : Type 1} → statement M
 step-spec =
     tie.close
-    (tie.spec try-next-requires same-length returns try-start-requires same-length-2 returns-2)
+    (tie.spec
+    pass-visited-requires
+    try-next-requires
+    same-length
+    returns
+    try-start-requires
+    same-length-2
+    returns-2)
