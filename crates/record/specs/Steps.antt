@@ -1,9 +1,9 @@
 -- What contracts inside this crate, and in the crates above, say of a record that has passed some rules.
 use mathlib.Core.Path.{_≡_}
-use mathlib.Core.Bool.{Bool, true, false}
+use mathlib.Core.Bool.{Bool}
 use mathlib.Core.List.{List, _++_}
 use Prim.Native.Nat.{ℕ, _+_, _-_, _*_, _≤_}
-use lib.ListN.{length, take, drop, set}
+use lib.ListN.{length, take, drop}
 use Rattle.bits.specs.Bits.{count}
 use Rattle.record.specs.Record.{terminals, wires, recordLength}
 use Rattle.record.specs.Starts.{startsFrom, startsOf}
@@ -26,11 +26,6 @@ pub record Sound (bytes : List ℕ) (n m : ℕ) : Type 0 where
   pub m-fits : m ≤ 16384
   pub held : 28 + (n + 2 * m) + 12 * (2 * m) ≤ 8 * length bytes
   pub short : length bytes ≤ 53764
-
--- a one of D enters the zeros before it, z, as start k; a zero enters nothing
-abbrev pub noted : Bool → List ℕ → ℕ → ℕ → List ℕ
-noted true starts k z = set starts k z
-noted false starts k z = starts
 
 -- the first i bits of D are read, k of them are ones, and their starts are entered
 pub record Filling (d : List Bool) (starts : List ℕ) (i k : ℕ) : Type 0 where

@@ -5,22 +5,17 @@ ghost use lib.ListN.{length, getD};
 ghost use Rattle.bits.specs.Bits.{bit};
 ghost use Rattle.record.specs.Record.{unary};
 ghost use Rattle.record.specs.Starts.{startsOf};
-ghost use Rattle.record.specs.Steps.{Sound, noted};
+ghost use Rattle.record.specs.Steps.{Sound};
 use super::cells::put;
 
-// One bit of D: a one enters the zeros before it, z, as start k. Returns how many starts are entered.
-fn note(starts: &mut [u16], one: bool, k: usize, z: usize) -> usize
-    requires { ⌜ (k < length (now starts)) × (k < 65536) × (z < 65536) ⌝ }
-    ensures { λ r. ⌜ (r ≡ k + bit one) × (now (starts .exit) ≡ noted one (now (starts .entry)) k z) ⌝ }
+fn one(on: bool) -> usize
+    ensures { λ r. ⌜ (r ≡ bit on) × (r < 2) ⌝ }
 {
-    if one {
-        put(starts, k, z);
-        return k + 1;
-    }
-    k
+    if on { 1 } else { 0 }
 }
 
-// The starts of all blocks, and the end of the last one, by one pass over D.
+// The starts of all blocks, and the end of the last one, by one pass over D. Each bit enters the zeros before it as the next start, and what a
+// zero enters is written over by the bits after it.
 pub fn fill_starts(bytes: &[u8], n: usize, m: usize, starts: &mut [u16])
     requires { ⌜ (Sound (now bytes) n m) × (length (now starts) ≡ n + 1) ⌝ }
     ensures { λ _. ⌜ now (starts .exit) ≡ startsOf (unary (now (bytes .entry))) ⌝ }
@@ -29,7 +24,8 @@ pub fn fill_starts(bytes: &[u8], n: usize, m: usize, starts: &mut [u16])
     let mut i = 0;
     let mut k = 0;
     while i < places {
-        k = note(starts, bits::fields::read_bit(bytes, 28 + i), k, i - k);
+        put(starts, k, i - k);
+        k += one(bits::fields::read_bit(bytes, 28 + i));
         i += 1;
     }
     put(starts, k, i - k);

@@ -6,11 +6,11 @@ use Prim.Native.Nat.{ℕ, suc, _+_, _-_, _≤_, _<_}
 use native.Mathlib.Numerals.{add-one}
 use native.Mathlib.Omega.{arith}
 use lib.ListN.{length, take, drop, getD, set, length-set, drop-of-length-le}
-use lib.Seq.{take-suc, take-suc-set, take-all, drop-cons, set-split}
+use lib.Seq.{take-suc, take-suc-set, take-set-le, take-all, drop-cons, set-split}
 use Rattle.bits.specs.Bits.{bit, count, rank}
 use Rattle.bits.specs.Laws.Rank.{count-append, count-take-le, rank-le}
 use Rattle.record.specs.Starts.{startsFrom, startsOf}
-use Rattle.record.specs.Steps.{Filling, noted}
+use Rattle.record.specs.Steps.{Filling}
 
 pub filling-start : (d : List Bool) (starts : List ℕ) → length starts ≡ count d + 1 → Filling d starts 0 0
 unfolding count
@@ -51,10 +51,14 @@ module _ {d : List Bool} {starts : List ℕ} {i k : ℕ} (f : Filling d starts i
         filled = rw (z, add-one i) (ap (λ (x : List Bool). take k starts ++ startsFrom (i - k) x) (sym c) ∙ f .filled);
       })
 
-  pub filling-more : {next : List ℕ} {r : ℕ} (b : Bool) → i < length d → b ≡ getD d i false → r ≡ k + bit b → next ≡ noted b starts k (i - k)
-      → Filling d next (i + 1) r
-  filling-more true h e er en = rw (er, en) (filling-one h (sym e))
-  filling-more false h e er en = rw (er, en) (filling-zero h (sym e))
+  -- what stands in the cell of the next start does not matter
+  filling-over : (x : ℕ) → Filling d (set starts k x) i k
+  filling-over x = record {
+    upto = f .upto;
+    ones = f .ones;
+    size = length-set starts k x ∙ f .size;
+    filled = rw (take-set-le k starts k x (omega arith)) (f .filled);
+  }
 
   pub filling-end : {next : List ℕ} → length d ≤ i → next ≡ set starts k (i - k) → next ≡ startsOf d
   unfolding startsFrom
@@ -67,3 +71,9 @@ module _ {d : List Bool} {starts : List ℕ} {i k : ℕ} (f : Filling d starts i
       let m : drop i d ≡ [] = drop-of-length-le d {i = i} l in
       e ∙ set-split starts k (i - k) (omega arith) ∙ ap (λ (x : List ℕ). take k starts ++ ((i - k) ∷ x)) n
       ∙ sym (ap (λ (x : List Bool). take k starts ++ startsFrom (i - k) x) m) ∙ f .filled
+
+-- the next bit: a one leaves the zeros before it as the next start, and a zero leaves a cell that is written again
+pub filling-more : {d : List Bool} {starts next : List ℕ} {i k r : ℕ} → Filling d starts i k → (b : Bool) → i < length d → b ≡ getD d i false
+    → next ≡ set starts k (i - k) → r ≡ k + bit b → Filling d next (i + 1) r
+filling-more f true h e en er = rw (er, en) (filling-one f h (sym e))
+filling-more {i} {k} f false h e en er = rw (er, en) (filling-zero (filling-over f (i - k)) h (sym e))
