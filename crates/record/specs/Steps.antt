@@ -1,11 +1,11 @@
 -- What contracts inside this crate, and in the crates above, say of a record that has passed some rules.
 use mathlib.Core.Path.{_≡_}
 use mathlib.Core.Bool.{Bool}
-use mathlib.Core.List.{List, _++_}
+use mathlib.Core.List.{List, _++_, map}
 use Prim.Native.Nat.{ℕ, _+_, _-_, _*_, _≤_}
 use lib.ListN.{length, take, drop}
 use Rattle.bits.specs.Bits.{count}
-use Rattle.record.specs.Record.{terminals, wires, recordLength}
+use Rattle.record.specs.Record.{terminals, wires, recordLength, fieldsFrom}
 use Rattle.record.specs.Starts.{startsFrom, startsOf}
 use Rattle.record.specs.Rules.{firstBroken, orderR}
 
@@ -33,3 +33,9 @@ pub record Filling (d : List Bool) (starts : List ℕ) (i k : ℕ) : Type 0 wher
   pub ones : k ≡ count (take i d)
   pub size : length starts ≡ count d + 1
   pub filled : take k starts ++ startsFrom (i - k) (drop i d) ≡ startsOf d
+
+-- the first i of k fields are read into a list, each with `more` added
+pub record Reading (s : List Bool) (start more k : ℕ) (list : List ℕ) (i : ℕ) : Type 0 where
+  pub upto : i ≤ k
+  pub size : length list ≡ k
+  pub same : take i list ≡ take i (map (λ x. x + more) (fieldsFrom s start k))
