@@ -4,7 +4,7 @@ use mathlib.Core.Bool.{Bool}
 use mathlib.Core.List.{List, [], _∷_, _++_}
 use Prim.Native.Nat.{ℕ, zero, suc, _+_, _-_, _*_, _/_, _%_, _^_, _≤_, _<_}
 use native.Mathlib.Decide.{decLe}
-use native.Mathlib.Nat.{add-mul, add-zero, div-one, mul-assoc, mod-eq-of-lt, one-mul}
+use native.Mathlib.Nat.{add-mul, add-zero, mul-assoc, mod-eq-of-lt, one-mul}
 use native.Mathlib.Numerals.{add-one, add-two, towards-suc}
 use native.Mathlib.Omega.{arith}
 use lib.Dec.{lit<}
@@ -15,7 +15,7 @@ use Rattle.bits.specs.Bits.{toBits, bits, value, field}
 use Rattle.bits.specs.Laws.Digits.{length-toBits, value-append, value-toBits}
 use Rattle.bits.specs.Laws.Bytes.{AreBytes, take-bytes, drop-bytes, length-bits, bits-append, part-bits, byte-on}
 use Rattle.bits.specs.Steps.{IsByte, FourAt}
-use Rattle.bits.specs.Laws.Fields.{field-inside, field-front, field-append}
+use Rattle.bits.specs.Laws.Fields.{field-inside, field-front, field-back, field-append}
 
 -- the bytes, one below the other, below the number a
 abbrev pub joined : ℕ → List ℕ → ℕ
@@ -128,12 +128,8 @@ shifted-one w h = rw (one-mul (2 ^ w)) (mod-eq-of-lt (pow-lt h))
 pub field-masked : (bytes : List ℕ) (start w : ℕ) → start + w ≤ 8 * length bytes
     → field (start % 8 + w) (bits bytes) (8 * (start / 8)) % 2 ^ w ≡ field w (bits bytes) start
 field-masked bytes start w h =
-    let f : ℕ = start / 8 in
-    let r : ℕ = start % 8 in
-    let s : 8 * f + r ≡ start = omega arith in
-    let z : r + w + 0 ≡ r + w = omega arith in
-    let i = field-inside (bits bytes) (8 * f) r w 0 (rw (length-bits bytes) (omega arith)) in
-    sym (rw (s, z, div-one (field (r + w) (bits bytes) (8 * f))) at i)
+    let s : 8 * (start / 8) + start % 8 ≡ start = omega arith in
+    sym (rw s at (field-back (bits bytes) (8 * (start / 8)) (start % 8) w (rw (length-bits bytes) (omega arith))))
 
 -- four fields of 12 bits in a row
 pub four-cut : (s : List Bool) (start : ℕ) {x a b c d : ℕ} → start + 48 ≤ length s → x ≡ field 48 s start

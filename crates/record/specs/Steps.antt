@@ -4,7 +4,7 @@ use mathlib.Core.Bool.{Bool}
 use mathlib.Core.List.{List, _++_, map}
 use Prim.Native.Nat.{ℕ, _+_, _-_, _*_, _≤_}
 use lib.ListN.{length, take, drop}
-use Rattle.bits.specs.Bits.{count}
+use Rattle.bits.specs.Bits.{count, field}
 use Rattle.record.specs.Record.{terminals, wires, recordLength, fieldsFrom}
 use Rattle.record.specs.Starts.{startsFrom, startsOf}
 use Rattle.record.specs.Rules.{firstBroken, orderR}
@@ -33,6 +33,14 @@ pub record Filling (d : List Bool) (starts : List ℕ) (i k : ℕ) : Type 0 wher
   pub ones : k ≡ count (take i d)
   pub size : length starts ≡ count d + 1
   pub filled : take k starts ++ startsFrom (i - k) (drop i d) ≡ startsOf d
+
+-- the bits of D up to some place are read, k of them are ones, and their starts are entered; the bits from there to `end` are the number w
+pub record Entering (d : List Bool) (starts : List ℕ) (w end k : ℕ) : Type 0 where
+  pub place : ℕ
+  pub before : place ≤ end
+  pub inside : end ≤ length d
+  pub filling : Filling d starts place k
+  pub left : w ≡ field (end - place) d place
 
 -- the first i of k fields are read into a list, each with `more` added
 pub record Reading (s : List Bool) (start more k : ℕ) (list : List ℕ) (i : ℕ) : Type 0 where

@@ -1,13 +1,12 @@
 -- `starts::fill_starts` meets its contract: the starts of the blocks whose ones were read are entered.
 use mathlib.Core.Path.{ap, _∙_}
-use Prim.Native.Nat.{_+_, _-_}
+use Prim.Native.Nat.{_-_}
 use native.Mathlib.Omega.{arith}
-use borrow.Author.Needs.{needs}
 use lib.ListN.{length, length-set}
 use Rattle.record.specs.Record.{unary}
 use Rattle.record.specs.Steps.{Filling}
-use Rattle.record.proofs.Laws.Reading.Filled.{filling-start, filling-bounds, filling-more, filling-end}
-use Rattle.record.proofs.Laws.Reading.Sounded.{sound-places, sound-ones, sound-bit}
+use Rattle.record.proofs.Laws.Reading.Filled.{filling-start, filling-bounds, filling-end, entering-start}
+use Rattle.record.proofs.Laws.Reading.Sounded.{sound-places, sound-ones, sound-part}
 use Rattle.record.proofs.starts.fill_starts.Statement.{statement}
 use Rattle.record.proofs.starts.fill_starts.Tie as tie
 
@@ -29,46 +28,37 @@ loop-holds c =
     let pre = c .before .before .pre in
     filling-start (unary (args .bytes .now)) (args .starts .now) (let e = sound-ones (pre .0) in let f = pre .1 in omega arith)
 
-sub-put : tie.Need-sub-put Inv-loop μ-loop
-sub-put c = let b = filling-bounds (c .before .before .loop .inv) in omega arith
+part-end-requires : tie.Need-part-end-requires Inv-loop μ-loop
+part-end-requires c κs = omega arith
 
-put-requires : tie.Need-put-requires Inv-loop μ-loop
-put-requires c κs =
-    let loop = c .before .before .loop in
-    let b = filling-bounds (loop .inv) in
-    let s = loop .inv .size in
-    let e = sound-ones (c .before .before .before .before .before .pre .0) in
-    omega arith
+add-read-long : tie.Need-add-read-long Inv-loop μ-loop
+add-read-long c = omega arith
 
-add-read-bit : tie.Need-add-read-bit Inv-loop μ-loop
-add-read-bit c = omega arith
+sub-read-long : tie.Need-sub-read-long Inv-loop μ-loop
+sub-read-long c = omega arith
 
-read-bit-requires : tie.Need-read-bit-requires Inv-loop μ-loop
-read-bit-requires c κs = omega arith
+read-long-requires : tie.Need-read-long-requires Inv-loop μ-loop
+read-long-requires c κs = omega arith
 
-one-requires : tie.Need-one-requires Inv-loop μ-loop
-one-requires c κs = search needs
-
-add-k : tie.Need-add-k Inv-loop μ-loop
-add-k c = let b = filling-bounds (c .before .before .before .before .before .before .before .loop .inv) in omega arith
-
-add-i : tie.Need-add-i Inv-loop μ-loop
-add-i c = omega arith
+enter-ones-requires : tie.Need-enter-ones-requires Inv-loop μ-loop
+enter-ones-requires c κs =
+    let pre = c .before .before .before .before .before .before .before .pre in
+    let loop = c .before .before .before .before .loop in
+    let e = sound-places (pre .0) in
+    let end = c .before .before .part-end .result in
+    (omega arith, entering-start end (loop .inv) (omega arith) (omega arith) (c .read-long .ensures ∙ sound-part (pre .0) (end - loop .i) (loop .i) (omega arith)))
 
 loop-less : tie.Need-loop-less Inv-loop μ-loop
 loop-less c = omega arith
 
 loop-again : tie.Need-loop-again Inv-loop μ-loop
-loop-again c =
-    let pre = c .before .before .before .before .before .before .before .before .before .before .pre in
-    let loop = c .before .before .before .before .before .before .before .loop in
-    filling-more (loop .inv) (c .before .read-bit .result) (let e = sound-places (pre .0) in omega arith) (c .before .read-bit .ensures ∙ sound-bit (pre .0) (loop .i) (c .before .before .before .before .before .before .loop-test .taken)) (c .before .before .before .before .put .ensures) (ap (λ x. loop .k + x) (c .one .ensures .0))
+loop-again c = c .before .before .enter-ones .ensures
 
-sub-put-2 : tie.Need-sub-put-2 Inv-loop μ-loop
-sub-put-2 c = let b = filling-bounds (c .before .before .loop .inv) in omega arith
+sub-put : tie.Need-sub-put Inv-loop μ-loop
+sub-put c = let b = filling-bounds (c .before .before .loop .inv) in omega arith
 
-put-requires-2 : tie.Need-put-requires-2 Inv-loop μ-loop
-put-requires-2 c κs =
+put-requires : tie.Need-put-requires Inv-loop μ-loop
+put-requires c κs =
     let loop = c .before .before .loop in
     let b = filling-bounds (loop .inv) in
     let s = loop .inv .size in
@@ -80,14 +70,14 @@ same-length : tie.Need-same-length Inv-loop μ-loop
 same-length c =
     let pre = c .before .before .before .before .before .before .before .before .pre in
     let loop = c .before .before .before .before .before .loop in
-    let l = ap length (c .before .before .put2 .ensures) ∙ length-set (loop .starts) (loop .k) _ in
+    let l = ap length (c .before .before .put .ensures) ∙ length-set (loop .starts) (loop .k) _ in
     let s = loop .inv .size in
     let e = sound-ones (pre .0) in
     let p = pre .1 in
     omega arith
 
 returns : tie.Need-returns Inv-loop μ-loop
-returns c = filling-end (c .before .before .before .before .before .loop .inv) (let e = sound-places (c .before .before .before .before .before .before .before .before .pre .0) in let h = c .before .before .before .before .loop-test .left in omega arith) (c .before .before .put2 .ensures)
+returns c = filling-end (c .before .before .before .before .before .loop .inv) (let e = sound-places (c .before .before .before .before .before .before .before .before .pre .0) in let h = c .before .before .before .before .loop-test .left in omega arith) (c .before .before .put .ensures)
 
 pub fill-starts-spec : {M : Type 1} → statement M
 fill-starts-spec =
@@ -98,16 +88,14 @@ fill-starts-spec =
     mul-places
     add-places
     loop-holds
-    sub-put
-    put-requires
-    add-read-bit
-    read-bit-requires
-    one-requires
-    add-k
-    add-i
+    part-end-requires
+    add-read-long
+    sub-read-long
+    read-long-requires
+    enter-ones-requires
     loop-less
     loop-again
-    sub-put-2
-    put-requires-2
+    sub-put
+    put-requires
     same-length
     returns)
