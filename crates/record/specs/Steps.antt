@@ -1,4 +1,5 @@
--- What contracts inside this crate, and in the crates above, say of a record that has passed some rules.
+-- What contracts inside this crate, and in the crates above, say of a record that has passed some rules, and of the two arrays while they are
+-- filled.
 use mathlib.Core.Path.{_≡_}
 use mathlib.Core.Bool.{Bool}
 use mathlib.Core.List.{List, _++_, map}
