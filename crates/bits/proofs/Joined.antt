@@ -1,9 +1,10 @@
 -- Bytes joined to a number are a field of their bits; shifts and masks cut smaller fields out of it.
 use mathlib.Core.Path.{_≡_, refl, sym, ap, _∙_}
+use mathlib.Core.Bool.{Bool}
 use mathlib.Core.List.{List, [], _∷_, _++_}
 use Prim.Native.Nat.{ℕ, zero, suc, _+_, _-_, _*_, _/_, _%_, _^_, _≤_, _<_}
 use native.Mathlib.Decide.{decLe}
-use native.Mathlib.Nat.{add-mul, mul-assoc, mod-eq-of-lt, one-mul}
+use native.Mathlib.Nat.{add-mul, add-zero, mul-assoc, mod-eq-of-lt, one-mul}
 use native.Mathlib.Numerals.{add-one, add-two, towards-suc}
 use native.Mathlib.Omega.{arith}
 use lib.Dec.{lit<}
@@ -13,8 +14,8 @@ use lib.Seq.{drop-cons, take-at}
 use Rattle.bits.specs.Bits.{toBits, bits, value, field}
 use Rattle.bits.specs.Laws.Digits.{length-toBits, value-append, value-toBits}
 use Rattle.bits.specs.Laws.Bytes.{AreBytes, take-bytes, drop-bytes, length-bits, bits-append, part-bits, byte-on}
-use Rattle.bits.specs.Steps.{IsByte}
-use Rattle.bits.specs.Laws.Fields.{field-inside, field-front, field-append}
+use Rattle.bits.specs.Steps.{IsByte, FourAt}
+use Rattle.bits.specs.Laws.Fields.{field-inside, field-front, field-back, field-append}
 
 -- the bytes, one below the other, below the number a
 abbrev pub joined : ℕ → List ℕ → ℕ
@@ -94,6 +95,10 @@ eight bytes f =
 pub word-field : (bytes : List ℕ) (f : ℕ) → f + 8 ≤ length bytes → value (bits (eight bytes f)) ≡ field 64 (bits bytes) (8 * f)
 word-field bytes f h = sym (field-bytes bytes f 8 ∙ ap (λ (l : List ℕ). value (bits l)) (eight-bytes bytes f h))
 
+-- the first n of these bits
+pub word-front : (bytes : List ℕ) (f n k : ℕ) → n + k ≡ 64 → f + 8 ≤ length bytes → field 64 (bits bytes) (8 * f) / 2 ^ k ≡ field n (bits bytes) (8 * f)
+word-front bytes f n k e h = let l = length-bits bytes in rw (← e) (sym (field-front (bits bytes) (8 * f) n k (omega arith)))
+
 zeros-at : (n i : ℕ) → _≡_ {A = ℕ} (getD (replicate n 0) i 0) 0
 zeros-at zero i = refl
 zeros-at (suc n) zero = refl
@@ -104,22 +109,42 @@ padded-at [] n i = zeros-at n i
 padded-at (b ∷ bytes) n zero = refl
 padded-at (b ∷ bytes) n (suc i) = padded-at bytes n i
 
--- the first n of these 64 bits, where the bytes hold them
+-- the same with zeros past the end, where the bytes hold these n
 pub short-field : (bytes : List ℕ) (f n k : ℕ) → n + k ≡ 64 → 8 * f + n ≤ 8 * length bytes → f ≤ length bytes
     → value (bits (eight bytes f)) / 2 ^ k ≡ field n (bits bytes) (8 * f)
 short-field bytes f n k e h l =
     let padded : List ℕ = bytes ++ replicate 8 0 in
     let lp : length padded ≡ length bytes + 8 = length-append bytes (replicate 8 0) in
-    let lb : length (bits padded) ≡ 8 * length padded = length-bits padded in
     let w : value (bits (eight bytes f)) ≡ field 64 (bits padded) (8 * f) = simp (padded-at bytes 8) at (word-field padded f (omega arith)) in
-    let t : field n (bits padded) (8 * f) ≡ field (n + k) (bits padded) (8 * f) / 2 ^ k = field-front (bits padded) (8 * f) n k (omega arith) in
-    rw (w, ← e, ← t, bits-append bytes (replicate 8 0)) (field-append n (bits bytes) (bits (replicate 8 0)) (8 * f) (rw (length-bits bytes) h))
+    rw (w, word-front padded f n k e (omega arith), bits-append bytes (replicate 8 0)) (field-append n (bits bytes) (bits (replicate 8 0)) (8 * f) (rw (length-bits bytes) h))
 
 -- ---- fields by shifts and masks
 
 -- the mask (1 << w) - 1, at 64 bits
 pub shifted-one : (w : ℕ) → w < 64 → 1 * 2 ^ w % 2 ^ 64 ≡ 2 ^ w
 shifted-one w h = rw (one-mul (2 ^ w)) (mod-eq-of-lt (pow-lt h))
+
+-- a field at the end of bits that start with its first byte
+pub field-masked : (bytes : List ℕ) (start w : ℕ) → start + w ≤ 8 * length bytes
+    → field (start % 8 + w) (bits bytes) (8 * (start / 8)) % 2 ^ w ≡ field w (bits bytes) start
+field-masked bytes start w h =
+    let s : 8 * (start / 8) + start % 8 ≡ start = omega arith in
+    sym (rw s at (field-back (bits bytes) (8 * (start / 8)) (start % 8) w (rw (length-bits bytes) (omega arith))))
+
+-- four fields of 12 bits in a row
+pub four-cut : (s : List Bool) (start : ℕ) {x a b c d : ℕ} → start + 48 ≤ length s → x ≡ field 48 s start
+    → a ≡ x / 2 ^ 36 % 2 ^ 12 → b ≡ x / 2 ^ 24 % 2 ^ 12 → c ≡ x / 2 ^ 12 % 2 ^ 12 → d ≡ x / 2 ^ 0 % 2 ^ 12
+    → (a < 4096) × (b < 4096) × (c < 4096) × (d < 4096) → FourAt s start a b c d
+four-cut s start {x} h e ea eb ec ed small = record {
+  first = ea ∙ cut 0 36 refl ∙ ap (field 12 s) (add-zero start);
+  second = eb ∙ cut 12 24 refl;
+  third = ec ∙ cut 24 12 refl;
+  fourth = ed ∙ cut 36 0 refl;
+  small = small;
+}
+  where
+    cut : (r k : ℕ) → r + 12 + k ≡ 48 → x / 2 ^ k % 2 ^ 12 ≡ field 12 s (start + r)
+    cut r k w = rw (e, ← w) (sym (field-inside s start r 12 k (omega arith)))
 
 -- a field inside n bytes, with k bits below it
 field-in-bytes : (bytes : List ℕ) (start w k n : ℕ) → AreBytes bytes → start / 8 + n ≤ length bytes → start % 8 + w + k ≡ 8 * n

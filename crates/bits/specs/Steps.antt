@@ -1,6 +1,6 @@
--- What contracts inside this crate say of a byte, of a search for ones, and of a number with a field replaced. No caller outside sees them.
+-- What contracts inside this crate say of a byte, of a search for ones, and of a number with a field replaced, and what callers are told of four fields.
 use mathlib.Core.Path.{_≡_}
-use mathlib.Core.Bool.{true, false}
+use mathlib.Core.Bool.{Bool, true, false}
 use mathlib.Core.List.{List}
 use Prim.Native.Nat.{ℕ, _+_, _-_, _*_, _/_, _%_, _^_, _≤_, _<_}
 use lib.Dec.{leb}
@@ -28,6 +28,14 @@ pub record Passed (bytes : List ℕ) (k at left : ℕ) : Type 0 where
 -- the place p, or 0 where it is past the limit
 unfoldable pub within : ℕ → ℕ → ℕ
 within limit p = elim (leb p limit) [ true ↦ p | false ↦ 0 ]
+
+-- a, b, c and d are the four fields of 12 bits from bit `start` on
+pub record FourAt (s : List Bool) (start a b c d : ℕ) : Type 0 where
+  pub first : a ≡ field 12 s start
+  pub second : b ≡ field 12 s (start + 12)
+  pub third : c ≡ field 12 s (start + 24)
+  pub fourth : d ≡ field 12 s (start + 36)
+  pub small : (a < 4096) × (b < 4096) × (c < 4096) × (d < 4096)
 
 -- the number x with v in the w bits above its k lowest
 abbrev pub replace : ℕ → ℕ → ℕ → ℕ → ℕ

@@ -1,12 +1,13 @@
 // Bits and fields, read and written by shifts and masks at any starting bit. Here bits count from 0 for the first bit of the first byte.
 ghost use mathlib.Core.Path.{_≡_};
 ghost use mathlib.Core.Bool.{false};
-ghost use Prim.Native.Nat.{_+_, _*_, _%_, _^_, _<_, _≤_};
+ghost use Prim.Native.Nat.{_+_, _*_, _/_, _%_, _^_, _<_, _≤_};
 ghost use lib.ListN.{length, getD, set};
 ghost use Rattle.bits.specs.Bits.{bits, bit as bitOf, field, put};
-ghost use Rattle.bits.specs.Steps.{replace};
+ghost use Rattle.bits.specs.Steps.{FourAt, replace};
 use super::words::byte_at;
 use super::words::join;
+use super::words::short_word;
 
 // The bit `index`.
 pub fn read_bit(bytes: &[u8], index: usize) -> bool
@@ -51,6 +52,44 @@ pub fn read15(bytes: &[u8], start: usize) -> usize
     ensures { λ r. ⌜ (r ≡ field 15 (bits (now (bytes .entry))) start) × (r < 32768) ⌝ }
 {
     read_field(bytes, start, 15)
+}
+
+// The field of `width` bits from bit `start` on, at most 56: a word holds it, wherever in its first byte it starts.
+pub fn read_long(bytes: &[u8], start: usize, width: usize) -> u64
+    requires { ⌜ (1 ≤ width) × (width ≤ 56) × (start + width ≤ 8 * length (now bytes)) ⌝ }
+    ensures { λ r. ⌜ r ≡ field width (bits (now (bytes .entry))) start ⌝ }
+{
+    short_word(bytes, start / 8, start % 8 + width) & ((1 << width) - 1)
+}
+
+// Four fields of 12 bits in a row.
+pub struct Four {
+    pub a: usize,
+    pub b: usize,
+    pub c: usize,
+    pub d: usize,
+}
+
+// The 12 bits of x above its `low` lowest.
+fn cut12(x: u64, low: usize) -> usize
+    requires { ⌜ low < 64 ⌝ }
+    ensures { λ r. ⌜ (r ≡ x / 2 ^ low % 2 ^ 12) × (r < 4096) ⌝ }
+{
+    ((x >> low) & 0xFFF) as usize
+}
+
+// The four fields of 12 bits from bit `start` on.
+pub fn read_four(bytes: &[u8], start: usize) -> Four
+    requires { ⌜ start + 48 ≤ 8 * length (now bytes) ⌝ }
+    ensures { λ r. ⌜ FourAt (bits (now (bytes .entry))) start (r .a) (r .b) (r .c) (r .d) ⌝ }
+{
+    let x = read_long(bytes, start, 48);
+    Four {
+        a: cut12(x, 36),
+        b: cut12(x, 24),
+        c: cut12(x, 12),
+        d: cut12(x, 0),
+    }
 }
 
 // The lowest byte of x.

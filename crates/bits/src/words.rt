@@ -53,11 +53,14 @@ fn byte_or_zero(bytes: &[u8], at: usize) -> u8
     if at < bytes.len() { bytes[at] } else { 0 }
 }
 
-// The n bits from byte `at` on, at most 64, where the slice may end before a whole word does.
-fn short_word(bytes: &[u8], at: usize, n: usize) -> u64
+// The n bits from byte `at` on, at most 64: of a whole word, or of zeros after the bytes where the slice ends before a whole word does.
+pub fn short_word(bytes: &[u8], at: usize, n: usize) -> u64
     requires { ⌜ (1 ≤ n) × (n ≤ 64) × (8 * at + n ≤ 8 * length (now bytes)) ⌝ }
     ensures { λ r. ⌜ r ≡ field n (bits (now (bytes .entry))) (8 * at) ⌝ }
 {
+    if at + 8 <= bytes.len() {
+        return word(bytes, at) >> (64 - n);
+    }
     let w = join8(
         byte_or_zero(bytes, at),
         byte_or_zero(bytes, at + 1),

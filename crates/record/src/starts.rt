@@ -1,26 +1,57 @@
 // Where the blocks start in the list of fields.
 ghost use mathlib.Core.Path.{_≡_};
-ghost use Prim.Native.Nat.{_+_, _≤_, _<_};
+ghost use Prim.Native.Nat.{_+_, _-_, _^_, _≤_, _<_};
 ghost use lib.ListN.{length, getD};
-ghost use Rattle.bits.specs.Bits.{bit};
 ghost use Rattle.record.specs.Record.{unary};
 ghost use Rattle.record.specs.Starts.{startsOf};
-ghost use Rattle.record.specs.Steps.{Sound, noted};
+ghost use Rattle.record.specs.Steps.{Sound, Filling, Entering};
 use super::cells::put;
 
-// One bit of D: a one enters the zeros before it, z, as start k. Returns how many starts are entered.
-fn note(starts: &mut [u16], one: bool, k: usize, z: usize) -> usize
-    requires { ⌜ (k < length (now starts)) × (k < 65536) × (z < 65536) ⌝ }
-    ensures { λ r. ⌜ (r ≡ k + bit one) × (now (starts .exit) ≡ noted one (now (starts .entry)) k z) ⌝ }
+// The place of the highest one of x, from 0 for the lowest bit.
+fn top(x: u64) -> usize
+    requires { ⌜ 1 ≤ x ⌝ }
+    ensures { λ r. ⌜ (r < 64) × (2 ^ r ≤ x) × (x < 2 ^ (r + 1)) ⌝ }
 {
-    if one {
-        put(starts, k, z);
-        return k + 1;
-    }
-    k
+    63 - u64::leading_zeros(x) as usize
 }
 
-// The starts of all blocks, and the end of the last one, by one pass over D.
+// x without its one at place h.
+fn without(x: u64, h: usize) -> u64
+    requires { ⌜ (h < 64) × (2 ^ h ≤ x) ⌝ }
+    ensures { λ r. ⌜ r ≡ x - 2 ^ h ⌝ }
+{
+    x - (1 << h)
+}
+
+// The ones of w, the bits of D before place `end` that are still to be read: each enters the zeros before it as the next start. Returns how
+// many starts are entered. The record's bytes are here for the contract alone.
+fn enter_ones(bytes: &[u8], starts: &mut [u16], w: u64, end: usize, k: usize) -> usize
+    requires { ⌜ (end ≤ 65536) × (Entering (unary (now bytes)) (now starts) w end k) ⌝ }
+    ensures { λ r. ⌜ Filling (unary (now (bytes .entry))) (now (starts .exit)) end r ⌝ }
+{
+    let mut left = w;
+    let mut next = k;
+    while left != 0 {
+        let h = top(left);
+        put(starts, next, end - (h + 1) - next);
+        left = without(left, h);
+        next += 1;
+    }
+    next
+}
+
+// Where the next part of D ends, of at most 56 bits from place i on.
+fn part_end(i: usize, places: usize) -> usize
+    requires { ⌜ (i < places) × (places ≤ 65536) ⌝ }
+    ensures { λ r. ⌜ (i < r) × (r ≤ i + 56) × (r ≤ places) ⌝ }
+{
+    if places - i < 56 {
+        return places;
+    }
+    i + 56
+}
+
+// The starts of all blocks, and the end of the last one, by one pass over D: part by part, and in each part from one to one.
 pub fn fill_starts(bytes: &[u8], n: usize, m: usize, starts: &mut [u16])
     requires { ⌜ (Sound (now bytes) n m) × (length (now starts) ≡ n + 1) ⌝ }
     ensures { λ _. ⌜ now (starts .exit) ≡ startsOf (unary (now (bytes .entry))) ⌝ }
@@ -29,8 +60,15 @@ pub fn fill_starts(bytes: &[u8], n: usize, m: usize, starts: &mut [u16])
     let mut i = 0;
     let mut k = 0;
     while i < places {
-        k = note(starts, bits::fields::read_bit(bytes, 28 + i), k, i - k);
-        i += 1;
+        let end = part_end(i, places);
+        k = enter_ones(
+            bytes,
+            starts,
+            bits::fields::read_long(bytes, 28 + i, end - i),
+            end,
+            k,
+        );
+        i = end;
     }
     put(starts, k, i - k);
 }

@@ -3,7 +3,7 @@ use mathlib.Core.Path.{_≡_, refl, sym, ap, _∙_}
 use mathlib.Core.Bool.{Bool, false}
 use mathlib.Core.List.{List, [], _∷_, _++_, append-assoc}
 use Prim.Native.Nat.{ℕ, zero, suc, _+_, _/_, _%_, _^_, _≤_, _<_}
-use native.Mathlib.Nat.{lt-of-lt-of-le, min-le-left, mod-eq-of-lt}
+use native.Mathlib.Nat.{div-one, lt-of-lt-of-le, min-le-left, mod-eq-of-lt}
 use native.Mathlib.Omega.{arith}
 use lib.ListN.{length, take, drop, getD, length-take, length-drop, take-append-drop}
 use lib.Pow.{pow-mono, high, low, shr-lt}
@@ -66,6 +66,12 @@ field-front s g w k h =
     let z : g + 0 ≡ g = omega arith in
     let f : field w s g ≡ field (w + k) s g / 2 ^ k % 2 ^ w = rw (e, z) at (field-inside s g 0 w k (omega arith)) in
     f ∙ mod-eq-of-lt (shr-lt w k (field-lt (w + k) s g))
+
+-- its last w bits need no shift
+pub field-back : (s : List Bool) (g r w : ℕ) → g + (r + w) ≤ length s → field w s (g + r) ≡ field (r + w) s g % 2 ^ w
+field-back s g r w h =
+    let e : r + w + 0 ≡ r + w = omega arith in
+    rw (e, div-one (field (r + w) s g)) at (field-inside s g r w 0 (omega arith))
 
 -- bits after a field's end do not matter
 pub field-append : (w : ℕ) (s t : List Bool) (start : ℕ) → start + w ≤ length s → field w (s ++ t) start ≡ field w s start

@@ -3,6 +3,7 @@ pub mod Headers
 pub mod Sounded
 pub mod InOrder
 pub mod Unpacked
+pub mod Tops
 pub mod Filled
 pub mod Spans
 pub mod OneBlock

@@ -1,12 +1,29 @@
--- `words::short_word` meets its contract: bits of zero past the end are shifted out.
-use mathlib.Core.Path.{_∙_, _≡_, ap}
+-- `words::short_word` meets its contract: the first bits of a word, or of one whose bits of zero past the end are shifted out.
+use mathlib.Core.Path.{_≡_, ap, _∙_}
 use Prim.Native.Nat.{ℕ, _-_, _/_, _^_}
 use native.Mathlib.Omega.{arith}
-use borrow.Author.Needs.{needs}
 use Rattle.bits.specs.Bits.{bits, value}
-use Rattle.bits.proofs.Joined.{eight, short-field}
+use Rattle.bits.proofs.Joined.{eight, word-front, short-field}
+use borrow.Author.Needs.{needs}
 use Rattle.bits.proofs.words.short_word.Statement.{statement}
 use Rattle.bits.proofs.words.short_word.Tie as tie
+
+add-if1 : tie.Need-add-if1
+add-if1 c = search needs
+
+word-requires : tie.Need-word-requires
+word-requires c κs = search needs
+
+sub-result : tie.Need-sub-result
+sub-result c = search needs
+
+shr-result : tie.Need-shr-result
+shr-result c = search needs
+
+returns : tie.Need-returns
+returns c =
+    let a = c .before .before .before .args in
+    ap (λ (x : ℕ). x / 2 ^ (64 - a .n)) (c .word .ensures) ∙ word-front (a .bytes .now) (a .at) (a .n) (64 - a .n) (omega arith) (omega arith)
 
 byte-or-zero-requires : tie.Need-byte-or-zero-requires
 byte-or-zero-requires c κs = search needs
@@ -56,19 +73,18 @@ byte-or-zero-requires-8 c κs = search needs
 join8-requires : tie.Need-join8-requires
 join8-requires c κs = search needs
 
-sub-result : tie.Need-sub-result
-sub-result c = search needs
+sub-result-2 : tie.Need-sub-result-2
+sub-result-2 c = search needs
 
-shr-result : tie.Need-shr-result
-shr-result c = search needs
+shr-result-2 : tie.Need-shr-result-2
+shr-result-2 c = search needs
 
-returns : tie.Need-returns
-returns c =
-    let args = c .before .before .before .before .before .before .before .before .before .before .args in
+returns-2 : tie.Need-returns-2
+returns-2 c =
+    let a = c .before .before .before .before .before .before .before .before .before .before .before .args in
     let byte-or-zero = c .before .before .before .before .before .before .before .before .byte-or-zero in
     let byte-or-zero2 = c .before .before .before .before .before .before .before .byte-or-zero2 in
     let byte-or-zero3 = c .before .before .before .before .before .before .byte-or-zero3 in
-    let a = args in
     let e : c .join8 .result ≡ value (bits (eight (a .bytes .now) (a .at))) =
     rw (← byte-or-zero .ensures, ← byte-or-zero2 .ensures, ← byte-or-zero3 .ensures, ← c .before .before .before .before .before .byte-or-zero4 .ensures, ← c .before .before .before .before .byte-or-zero5 .ensures, ← c .before .before .before .byte-or-zero6 .ensures, ← c .before .before .byte-or-zero7 .ensures, ← c .before .byte-or-zero8 .ensures) (c .join8 .ensures) in
     ap (λ (x : ℕ). x / 2 ^ (64 - a .n)) e ∙ short-field (a .bytes .now) (a .at) (a .n) (64 - a .n) (omega arith) (omega arith) (omega arith)
@@ -77,6 +93,11 @@ pub short-word-spec : {M : Type 1} → statement M
 short-word-spec =
     tie.close
     (tie.spec
+    add-if1
+    word-requires
+    sub-result
+    shr-result
+    returns
     byte-or-zero-requires
     add-byte-or-zero
     byte-or-zero-requires-2
@@ -93,6 +114,6 @@ short-word-spec =
     add-byte-or-zero-7
     byte-or-zero-requires-8
     join8-requires
-    sub-result
-    shr-result
-    returns)
+    sub-result-2
+    shr-result-2
+    returns-2)

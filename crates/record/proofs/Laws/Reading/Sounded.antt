@@ -1,16 +1,17 @@
 -- A record that order R lets pass, by the n and m that the code holds.
 use mathlib.Core.Path.{_≡_, sym, ap, _∙_}
-use mathlib.Core.Bool.{false, not}
+use mathlib.Core.Bool.{not}
 use mathlib.Core.List.{List, flatten}
-use Prim.Native.Nat.{ℕ, _+_, _-_, _*_, _<_}
+use Prim.Native.Nat.{ℕ, _+_, _-_, _*_, _≤_, _<_}
 use native.Mathlib.Omega.{arith}
 use lib.Dec.{eqb}
 use lib.ListN.{length, take, drop, getD, length-drop}
 use lib.Seq.{take-all}
 use borrow.Author.Tests.{le-leb}
 use Rattle.bits.specs.Bits.{bits, field, string, count, rank, select}
-use Rattle.bits.specs.Laws.Rank.{bit-held, rank-inside}
+use Rattle.bits.specs.Laws.Rank.{held, rank-inside}
 use Rattle.bits.specs.Laws.Bytes.{length-bits}
+use Rattle.bits.specs.Laws.Fields.{field-part}
 use Rattle.record.specs.Record.{terminals, wires, usedBits, recordLength, unary, fields, blocks}
 use Rattle.record.specs.Starts.{startsOf}
 use Rattle.record.specs.Rules.{firstBroken, orderR, spareSet}
@@ -63,9 +64,11 @@ module _ {bytes : List ℕ} {n m : ℕ} (s : Sound bytes n m) where
   pub sound-all : length (flatten (blocks bytes)) ≡ 2 * m
   sound-all = ap length (flatten-blocks sound-shaped) ∙ length-fields bytes ∙ ap (λ (x : ℕ). 2 * x) (sym (s .is-m))
 
-  -- a bit of D
-  pub sound-bit : (i : ℕ) → i < n + 2 * m → getD (bits bytes) (28 + i) false ≡ getD (unary bytes) i false
-  sound-bit i h = rw unary-is (sym (bit-held bytes 28 (n + 2 * m) (let f = s .held in omega arith) i h))
+  -- a part of D
+  pub sound-part : (w i : ℕ) → i + w ≤ n + 2 * m → field w (bits bytes) (28 + i) ≡ field w (unary bytes) i
+  sound-part w i h =
+      let d = unary-is ∙ held bytes 28 (n + 2 * m) (le-leb (28 + (n + 2 * m)) (8 * length bytes) (let f = s .held in omega arith)) in
+      rw d (sym (field-part w i (n + 2 * m) 28 (bits bytes) h))
 
   -- the end of the last block, and where another starts
   pub sound-end : {v : ℕ} → v ≡ n → 2 * m ≡ getD (startsOf (unary bytes)) v 0

@@ -1,10 +1,11 @@
--- `fields::read_fields` meets its contract: the list is filled from the front.
-use mathlib.Core.Path.{ap, _∙_, refl}
+-- `fields::read_fields` meets its contract: the list is filled on to its end.
+use mathlib.Core.Path.{ap, _∙_}
 use Prim.Native.Nat.{_+_, _-_}
 use native.Mathlib.Omega.{arith}
 use lib.ListN.{length, length-set}
 use Rattle.bits.specs.Bits.{bits}
-use Rattle.record.proofs.Laws.Reading.Unpacked.{Reading, reads-start, reads-more, reads-end}
+use Rattle.record.specs.Steps.{Reading}
+use Rattle.record.proofs.Laws.Reading.Unpacked.{reads-more, reads-end}
 use Rattle.record.proofs.fields.read_fields.Statement.{statement}
 use Rattle.record.proofs.fields.read_fields.Tie as tie
 
@@ -14,10 +15,13 @@ Inv-loop bytes start more list₀ i₀ list i = Reading (bits bytes) start more 
 abbrev μ-loop : tie.MeasureT-loop
 μ-loop bytes start more list₀ i₀ list i = length list - i
 
+read-fours-requires : tie.Need-read-fours-requires Inv-loop μ-loop
+read-fours-requires c κs = c .before .before .before .pre
+
 loop-holds : tie.Need-loop-holds Inv-loop μ-loop
 loop-holds c =
-    let list = c .before .before .args .list .now in
-    reads-start (bits (c .before .before .args .bytes .now)) (c .before .before .args .start) (c .before .before .args .more) (length list) list refl
+    let read-fours = c .before .before .read-fours in
+    rw (read-fours .ensures .size) (read-fours .ensures)
 
 mul-read12 : tie.Need-mul-read12 Inv-loop μ-loop
 mul-read12 c = omega arith
@@ -39,9 +43,8 @@ add-i c = omega arith
 
 loop-less : tie.Need-loop-less Inv-loop μ-loop
 loop-less c =
-    let more = c .before .before .before .before .before .before .before .before .before .args .more in
     let loop = c .before .before .before .before .before .before .loop in
-    let e = ap length (c .before .before .put .ensures) ∙ length-set (loop .list) (loop .i) (c .before .before .before .read12 .result + more) in omega arith
+    let e = ap length (c .before .before .put .ensures) ∙ length-set (loop .list) (loop .i) (c .before .before .before .read12 .result + c .before .before .before .before .before .before .before .before .before .before .before .before .before .args .more) in omega arith
 
 loop-again : tie.Need-loop-again Inv-loop μ-loop
 loop-again c =
@@ -49,10 +52,10 @@ loop-again c =
     reads-more (c .before .before .before .before .before .before .loop .inv) (read12 .result) (omega arith) (read12 .ensures .0) (c .before .before .put .ensures)
 
 same-length : tie.Need-same-length Inv-loop μ-loop
-same-length c = c .before .loop .inv .size
+same-length c = c .before .loop .inv .size ∙ c .before .before .before .before .read-fours .ensures .size
 
 returns : tie.Need-returns Inv-loop μ-loop
-returns c = reads-end (c .before .loop .inv) (omega arith)
+returns c = rw (c .before .before .before .before .read-fours .ensures .size) at (reads-end (c .before .loop .inv) (omega arith))
 
 pub read-fields-spec : {M : Type 1} → statement M
 read-fields-spec =
@@ -60,6 +63,7 @@ read-fields-spec =
     (tie.spec
     Inv-loop
     μ-loop
+    read-fours-requires
     loop-holds
     mul-read12
     add-read12

@@ -5,8 +5,8 @@ use native.Mathlib.Omega.{arith}
 use lib.ListN.{length, length-set}
 use Rattle.record.specs.Record.{unary}
 use Rattle.record.specs.Steps.{Filling}
-use Rattle.record.proofs.Laws.Reading.Filled.{filling-start, filling-bounds, filling-more, filling-end}
-use Rattle.record.proofs.Laws.Reading.Sounded.{sound-places, sound-ones, sound-bit}
+use Rattle.record.proofs.Laws.Reading.Filled.{filling-start, filling-bounds, filling-end, entering-start}
+use Rattle.record.proofs.Laws.Reading.Sounded.{sound-places, sound-ones, sound-part}
 use Rattle.record.proofs.starts.fill_starts.Statement.{statement}
 use Rattle.record.proofs.starts.fill_starts.Tie as tie
 
@@ -23,38 +23,36 @@ add-places : tie.Need-add-places Inv-loop μ-loop
 add-places c = omega arith
 
 loop-holds : tie.Need-loop-holds Inv-loop μ-loop
-loop-holds c = filling-start (unary (c .before .before .args .bytes .now)) (c .before .before .args .starts .now) (let e = sound-ones (c .before .before .pre .0) in let f = c .before .before .pre .1 in omega arith)
+loop-holds c =
+    let args = c .before .before .args in
+    let pre = c .before .before .pre in
+    filling-start (unary (args .bytes .now)) (args .starts .now) (let e = sound-ones (pre .0) in let f = pre .1 in omega arith)
 
-add-read-bit : tie.Need-add-read-bit Inv-loop μ-loop
-add-read-bit c = omega arith
+part-end-requires : tie.Need-part-end-requires Inv-loop μ-loop
+part-end-requires c κs = omega arith
 
-read-bit-requires : tie.Need-read-bit-requires Inv-loop μ-loop
-read-bit-requires c κs = omega arith
+add-read-long : tie.Need-add-read-long Inv-loop μ-loop
+add-read-long c = omega arith
 
-sub-note : tie.Need-sub-note Inv-loop μ-loop
-sub-note c = let b = filling-bounds (c .before .before .before .loop .inv) in omega arith
+sub-read-long : tie.Need-sub-read-long Inv-loop μ-loop
+sub-read-long c = omega arith
 
-note-requires : tie.Need-note-requires Inv-loop μ-loop
-note-requires c κs =
-    let loop = c .before .before .before .loop in
-    let b = filling-bounds (loop .inv) in
-    let e = sound-ones (c .before .before .before .before .before .before .pre .0) in
-    let s = loop .inv .size in
-    omega arith
+read-long-requires : tie.Need-read-long-requires Inv-loop μ-loop
+read-long-requires c κs = omega arith
 
-add-i : tie.Need-add-i Inv-loop μ-loop
-add-i c = omega arith
+enter-ones-requires : tie.Need-enter-ones-requires Inv-loop μ-loop
+enter-ones-requires c κs =
+    let pre = c .before .before .before .before .before .before .before .pre in
+    let loop = c .before .before .before .before .loop in
+    let e = sound-places (pre .0) in
+    let end = c .before .before .part-end .result in
+    (omega arith, entering-start end (loop .inv) (omega arith) (omega arith) (c .read-long .ensures ∙ sound-part (pre .0) (end - loop .i) (loop .i) (omega arith)))
 
 loop-less : tie.Need-loop-less Inv-loop μ-loop
 loop-less c = omega arith
 
 loop-again : tie.Need-loop-again Inv-loop μ-loop
-loop-again c =
-    let pre = c .before .before .before .before .before .before .before .before .before .pre in
-    let loop = c .before .before .before .before .before .before .loop in
-    let read-bit = c .before .before .before .read-bit in
-    let h = c .before .before .before .before .before .loop-test .taken in
-    filling-more (loop .inv) (read-bit .result) (let e = sound-places (pre .0) in omega arith) (read-bit .ensures ∙ sound-bit (pre .0) (loop .i) h) (c .before .before .note .ensures .0) (c .before .before .note .ensures .1)
+loop-again c = c .before .before .enter-ones .ensures
 
 sub-put : tie.Need-sub-put Inv-loop μ-loop
 sub-put c = let b = filling-bounds (c .before .before .loop .inv) in omega arith
@@ -79,9 +77,7 @@ same-length c =
     omega arith
 
 returns : tie.Need-returns Inv-loop μ-loop
-returns c =
-    let pre = c .before .before .before .before .before .before .before .before .pre in
-    filling-end (c .before .before .before .before .before .loop .inv) (let e = sound-places (pre .0) in let h = c .before .before .before .before .loop-test .left in omega arith) (c .before .before .put .ensures)
+returns c = filling-end (c .before .before .before .before .before .loop .inv) (let e = sound-places (c .before .before .before .before .before .before .before .before .pre .0) in let h = c .before .before .before .before .loop-test .left in omega arith) (c .before .before .put .ensures)
 
 pub fill-starts-spec : {M : Type 1} → statement M
 fill-starts-spec =
@@ -92,11 +88,11 @@ fill-starts-spec =
     mul-places
     add-places
     loop-holds
-    add-read-bit
-    read-bit-requires
-    sub-note
-    note-requires
-    add-i
+    part-end-requires
+    add-read-long
+    sub-read-long
+    read-long-requires
+    enter-ones-requires
     loop-less
     loop-again
     sub-put

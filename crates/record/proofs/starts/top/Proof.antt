@@ -1,0 +1,17 @@
+-- `starts::top` meets its contract: the zeros above a number's highest one give its place.
+use native.Mathlib.Omega.{arith}
+use Rattle.record.proofs.Laws.Reading.Tops.{top-of}
+use Rattle.record.proofs.starts.top.Statement.{statement}
+use Rattle.record.proofs.starts.top.Tie as tie
+
+cast-result : tie.Need-cast-result
+cast-result c = let t = top-of (c .args .x) (c .pre) (c .fits .x .fits) in omega arith
+
+sub-result : tie.Need-sub-result
+sub-result c = let t = top-of (c .args .x) (c .pre) (c .fits .x .fits) in omega arith
+
+returns : tie.Need-returns
+returns c = let t = top-of (c .args .x) (c .pre) (c .fits .x .fits) in (t .1, t .2, t .3)
+
+pub top-spec : {M : Type 1} → statement M
+top-spec = tie.close (tie.spec cast-result sub-result returns)
