@@ -4,6 +4,7 @@ pub mod Starts
 pub mod Flat
 pub mod Tally
 pub mod Rules
+pub mod Reverse
 pub mod Answers
 pub mod Operations
 pub mod Laws

@@ -11,6 +11,7 @@ use super::Shape;
 use super::Sizes;
 use super::doubles::some_doubled;
 use super::fields::read_fields;
+use super::reverse::all_mutual;
 use super::sides::some_one_sided;
 use super::starts::fill_starts;
 use super::strays::some_stray;
@@ -25,13 +26,16 @@ fn spare_set(bytes: &[u8], n: usize, m: usize) -> bool
     bits::rank(bytes, used, spare, spare) != 0
 }
 
-// Rules 6 to 8, with room for the starts of the blocks and for the fields.
+// Rules 6 to 8, with room for the starts of the blocks and for the fields: at once, or else in turn, which tells the first broken one.
 fn places(bytes: &[u8], n: usize, m: usize, starts: &mut [u16], nbrs: &mut [u16]) -> Shape
     requires { ⌜ (Sound (now bytes) n m) × (spareSet (now bytes) ≡ false) × (length (now starts) ≡ n + 1) × (length (now nbrs) ≡ 2 * m) ⌝ }
     ensures { λ r. ⌜ shape r ≡ tried (checkRules (now (bytes .entry))) (sizesOf (now (bytes .entry))) ⌝ }
 {
     fill_starts(bytes, n, m, starts);
     read_fields(bytes, 28 + (n + 2 * m), 0, nbrs);
+    if all_mutual(starts, nbrs) {
+        return Shape::Passed(Sizes { n, m });
+    }
     if some_stray(starts, nbrs) {
         return Shape::Refused(Refusal::StrayNeighbour);
     }

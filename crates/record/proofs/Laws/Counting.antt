@@ -6,4 +6,8 @@ pub mod Lists
 pub mod Tallies
 pub mod Walks
 pub mod OneSided
+pub mod Nexts
+pub mod Turned
+pub mod Matched
+pub mod Mutual
 pub mod Contents

@@ -8,7 +8,7 @@ use native.Mathlib.Numerals.{add-one}
 use lib.ListN.{getD}
 use borrow.Author.Tests.{eq-eqb, ne-eqb}
 use Rattle.graph.specs.Graph.{mentions}
-use Rattle.record.specs.Flat.{Input, upTo, latest}
+use Rattle.record.specs.Flat.{Divided, upTo, latest}
 use Rattle.record.proofs.Laws.Arrays.Counts.{count-miss}
 
 module _ (v : ℕ) (nbrs : List ℕ) where
@@ -46,7 +46,7 @@ latest-leads v nbrs p e = go (ℕ-discrete v (getD nbrs p 0))
     go (no n) = let h = latest-miss v nbrs p n in let l = latest-link v nbrs p .below in absurd (omega arith)
 
 -- no mention of u stands after the latest
-pub count-latest : {starts nbrs : List ℕ} → Input starts nbrs → (s u p : ℕ) → mentions u (upTo starts nbrs s (latest u nbrs p)) ≡ mentions u (upTo starts nbrs s p)
+pub count-latest : {starts nbrs : List ℕ} → Divided starts nbrs → (s u p : ℕ) → mentions u (upTo starts nbrs s (latest u nbrs p)) ≡ mentions u (upTo starts nbrs s p)
 count-latest {starts} {nbrs} i s u zero = ap (λ x. mentions u (upTo starts nbrs s x)) (latest-zero u nbrs)
 count-latest {starts} {nbrs} i s u (suc p) = rw (← add-one p) (go (ℕ-discrete u (getD nbrs p 0)) (count-latest i s u p))
   where

@@ -6,9 +6,33 @@ use native.Mathlib.Omega.{arith}
 use lib.ListN.{length, getD}
 use Rattle.graph.specs.Graph.{block, mentions}
 use Rattle.record.specs.Starts.{cut}
-use Rattle.record.specs.Flat.{Input, At, Holds, upTo}
+use Rattle.record.specs.Flat.{Divided, Input, At, Holds, upTo}
 use Rattle.record.proofs.Laws.Arrays.Parts.{starts-fit, upto-past}
 use Rattle.record.proofs.Laws.Arrays.Counts.{count-hit, count-miss}
+
+-- ---- all terminals
+
+-- u is one of n terminals, or n
+pub record Round (starts : List ℕ) (n u : ℕ) : Type 0 where
+  pub number : n + 1 ≡ length starts
+  pub upto : u ≤ n
+
+module _ {starts : List ℕ} {n u : ℕ} where
+  pub round-start : 0 < length starts → n ≡ length starts - 1 → u ≡ 0 → Round starts n u
+  round-start h e z = record { number = omega arith; upto = omega arith }
+
+  module _ (r : Round starts n u) where
+    pub round-inside : u < n → u + 1 < length starts
+    round-inside l = let e = r .number in omega arith
+
+    pub round-more : u < n → Round starts n (u + 1)
+    round-more l = record { number = r .number; upto = omega arith }
+
+    pub round-end : n ≤ u → u ≡ length starts - 1
+    round-end l = let e = r .number in let h = r .upto in omega arith
+
+    pub round-last : {nbrs : List ℕ} → Divided starts nbrs → n ≤ u → getD starts u 0 ≡ length nbrs
+    round-last i l = ap (λ (j : ℕ). getD starts j 0) (round-end l) ∙ i .last
 
 -- there are n terminals
 pub record Sized (starts nbrs : List ℕ) (n : ℕ) : Type 0 where
@@ -23,38 +47,52 @@ module _ {starts nbrs : List ℕ} {n : ℕ} where
   pub sized-at : Sized starts nbrs n → {u : ℕ} → u < n → At starts nbrs u
   sized-at t h = record { input = t .input; inside = let e = t .number in omega arith }
 
+-- ---- one block
+
 -- p is a place of u's block, or its end
-pub record Span (starts nbrs : List ℕ) (u end p : ℕ) : Type 0 where
-  pub at : At starts nbrs u
+pub record Along (starts : List ℕ) (u end p : ℕ) : Type 0 where
+  pub inside : u + 1 < length starts
   pub ends : end ≡ getD starts (u + 1) 0
   pub low : getD starts u 0 ≤ p
   pub high : p ≤ end
+
+module _ {starts : List ℕ} {u end p : ℕ} where
+  pub along-start : {nbrs : List ℕ} → Divided starts nbrs → u + 1 < length starts → end ≡ getD starts (u + 1) 0 → p ≡ getD starts u 0 → Along starts u end p
+  along-start i k e s = let r = i .rising u k in record { inside = k; ends = e; low = omega arith; high = omega arith }
+
+  module _ (a : Along starts u end p) where
+    pub along-holds : p < end → Holds starts u p
+    along-holds l = record { inside = a .inside; low = a .low; high = omega arith }
+
+    pub along-more : p < end → Along starts u end (p + 1)
+    along-more l = record { inside = a .inside; ends = a .ends; low = omega arith; high = omega arith }
+
+    pub along-end : end ≤ p → p ≡ getD starts (u + 1) 0
+    along-end l = omega arith
+
+-- the same, in arrays whose neighbours are terminals
+pub record Span (starts nbrs : List ℕ) (u end p : ℕ) : Type 0 where
+  pub at : At starts nbrs u
+  pub along : Along starts u end p
   pub fits : end ≤ length nbrs
 
 module _ {starts nbrs : List ℕ} {u end p : ℕ} where
   pub span-start : At starts nbrs u → end ≡ getD starts (u + 1) 0 → p ≡ getD starts u 0 → Span starts nbrs u end p
   span-start at e f =
-      let h = at .input .divided .rising u (at .inside) in
       let l = starts-fit (at .input .divided) (u + 1) (at .inside) in
-      record { at = at; ends = e; low = omega arith; high = omega arith; fits = omega arith }
+      record { at = at; along = along-start (at .input .divided) (at .inside) e f; fits = omega arith }
 
   module _ (s : Span starts nbrs u end p) where
-    pub span-end : end ≤ p → p ≡ getD starts (u + 1) 0
-    span-end l = omega arith
-
     -- the block is passed
     pub span-whole : end ≤ p → (v : ℕ) → mentions v (upTo starts nbrs u p) ≡ mentions v (block (cut starts nbrs) u)
-    span-whole l v = ap (mentions v) (upto-past (s .at .input) u p (s .at .inside) (omega arith))
+    span-whole l v = let e = along-end (s .along) l in ap (mentions v) (upto-past (s .at .input .divided) u p (s .at .inside) (omega arith))
 
     module _ (l : p < end) where
       pub span-place : (p < length nbrs) × (length nbrs ≤ 32768)
-      span-place = omega arith
-
-      pub span-holds : Holds starts u p
-      span-holds = let k = s .at .inside in omega arith
+      span-place = let f = s .fits in (omega arith, s .at .input .divided .few-places)
 
       pub span-more : Span starts nbrs u end (p + 1)
-      span-more = record { at = s .at; ends = s .ends; low = omega arith; high = omega arith; fits = s .fits }
+      span-more = record { at = s .at; along = along-more (s .along) l; fits = s .fits }
 
       -- v stands there
       module _ {v : ℕ} (e : v ≡ getD nbrs p 0) where
@@ -62,7 +100,7 @@ module _ {starts nbrs : List ℕ} {u end p : ℕ} where
         span-known = let k = s .at .input .known p (span-place .0) in omega arith
 
         pub span-hit : {w : ℕ} → w ≡ v → mentions w (upTo starts nbrs u (p + 1)) ≡ mentions w (upTo starts nbrs u p) + 1
-        span-hit {w} q = count-hit (s .at .input) u p w span-holds (q ∙ e)
+        span-hit {w} q = count-hit (s .at .input .divided) u p w (along-holds (s .along) l) (q ∙ e)
 
         pub span-miss : {w : ℕ} → (w ≡ v → ⊥) → mentions w (upTo starts nbrs u (p + 1)) ≡ mentions w (upTo starts nbrs u p)
-        span-miss {w} n = count-miss (s .at .input) u p w (λ q. n (q ∙ sym e))
+        span-miss {w} n = count-miss (s .at .input .divided) u p w (λ q. n (q ∙ sym e))

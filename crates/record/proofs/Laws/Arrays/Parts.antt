@@ -8,7 +8,7 @@ use lib.ListN.{length, getD, take, drop, length-drop, List·getD-eq-default}
 use lib.Seq.{length-take-le, take-all, take-suc, getD-take, getD-drop}
 use Rattle.graph.specs.Graph.{block, target, Place}
 use Rattle.record.specs.Starts.{cut}
-use Rattle.record.specs.Flat.{Divided, Input, At, Holds, upTo}
+use Rattle.record.specs.Flat.{Divided, At, Holds, upTo}
 use Rattle.record.specs.Laws.Parts.{length-cut, cut-block}
 
 -- ---- the starts rise
@@ -29,7 +29,7 @@ module _ {starts nbrs : List ℕ} (i : Divided starts nbrs) where
   starts-fit u h = rw (← i .last) (starts-mono u (length starts - 1) (omega arith) (let s = i .some in omega arith))
 
   -- a place is in one block
-  one-block : {u w p : ℕ} → Holds starts u p → Holds starts w p → u ≡ w
+  pub one-block : {u w p : ℕ} → Holds starts u p → Holds starts w p → u ≡ w
   one-block {u} {w} a b = go (decLt u w) (decLt w u)
     where
       go : Dec (u < w) → Dec (w < u) → u ≡ w
@@ -37,33 +37,44 @@ module _ {starts nbrs : List ℕ} (i : Divided starts nbrs) where
       go (no l) (yes d) = absurd (omega (arith, starts-mono (w + 1) u (omega arith) (omega arith)))
       go (no l) (no d) = omega arith
 
+-- a row of the same length is divided by the same starts
+pub divided-too : {starts nbrs other : List ℕ} → Divided starts nbrs → length other ≡ length nbrs → Divided starts other
+divided-too i e = record {
+  some = i .some;
+  first = i .first;
+  rising = i .rising;
+  last = i .last ∙ sym e;
+  few-blocks = i .few-blocks;
+  few-places = let f = i .few-places in omega arith;
+}
+
 -- ---- blocks
 
-module _ {starts nbrs : List ℕ} {u : ℕ} (at : At starts nbrs u) where
+module _ {starts nbrs : List ℕ} (i : Divided starts nbrs) (u : ℕ) (k : u + 1 < length starts) where
   block-is : block (cut starts nbrs) u ≡ take (getD starts (u + 1) 0 - getD starts u 0) (drop (getD starts u 0) nbrs)
-  block-is = cut-block starts nbrs u (at .inside)
+  block-is = cut-block starts nbrs u k
 
   length-block : length (block (cut starts nbrs) u) ≡ getD starts (u + 1) 0 - getD starts u 0
   length-block =
-      let f = starts-fit (at .input .divided) (u + 1) (at .inside) in
+      let f = starts-fit i (u + 1) k in
       ap length block-is ∙ length-take-le (getD starts (u + 1) 0 - getD starts u 0) (drop (getD starts u 0) nbrs) (simp length-drop (omega arith))
 
   block-at : (j : ℕ) → j < length (block (cut starts nbrs) u) → target (cut starts nbrs) u j ≡ getD nbrs (getD starts u 0 + j) 0
   block-at j h =
-      let k = length-block in
+      let l = length-block in
       ap (λ b. getD b j 0) block-is
       ∙ getD-take (getD starts (u + 1) 0 - getD starts u 0) (drop (getD starts u 0) nbrs) j 0 (omega arith)
       ∙ getD-drop (getD starts u 0) nbrs j 0
 
-  -- what a block mentions is a terminal
-  pub place-known : {j v : ℕ} → Place (cut starts nbrs) u j v → v + 1 < length starts
-  place-known {j} p =
-      let f = starts-fit (at .input .divided) (u + 1) (at .inside) in
-      let a = p .fits in
-      let b = length-block in
-      let e = sym (p .leads) ∙ block-at j a in
-      let k = at .input .known (getD starts u 0 + j) (omega arith) in
-      omega arith
+-- what a block mentions is a terminal
+pub place-known : {starts nbrs : List ℕ} {u j v : ℕ} → At starts nbrs u → Place (cut starts nbrs) u j v → v + 1 < length starts
+place-known {starts} {nbrs} {u} {j} at p =
+    let f = starts-fit (at .input .divided) (u + 1) (at .inside) in
+    let a = p .fits in
+    let b = length-block (at .input .divided) u (at .inside) in
+    let e = sym (p .leads) ∙ block-at (at .input .divided) u (at .inside) j a in
+    let k = at .input .known (getD starts u 0 + j) (omega arith) in
+    omega arith
 
 -- ---- the part of a block before a place
 
@@ -83,26 +94,25 @@ module _ (starts nbrs : List ℕ) (u p : ℕ) where
       let e = ap length (List·getD-eq-default (cut starts nbrs) [] {n = u} (omega arith)) in
       upto-whole (omega arith)
 
-module _ {starts nbrs : List ℕ} (i : Input starts nbrs) where
+module _ {starts nbrs : List ℕ} (i : Divided starts nbrs) where
   pub upto-past : (u p : ℕ) → u + 1 < length starts → getD starts (u + 1) 0 ≤ p → upTo starts nbrs u p ≡ block (cut starts nbrs) u
-  upto-past u p k h = let l = length-block (record { input = i; inside = k }) in upto-whole starts nbrs u p (omega arith)
+  upto-past u p k h = let l = length-block i u k in upto-whole starts nbrs u p (omega arith)
 
   pub upto-end : (u : ℕ) → upTo starts nbrs u (length nbrs) ≡ block (cut starts nbrs) u
   upto-end u = go (decLt (u + 1) (length starts))
     where
       go : Dec (u + 1 < length starts) → upTo starts nbrs u (length nbrs) ≡ block (cut starts nbrs) u
-      go (yes k) = upto-past u (length nbrs) k (starts-fit (i .divided) (u + 1) k)
+      go (yes k) = upto-past u (length nbrs) k (starts-fit i (u + 1) k)
       go (no k) = upto-none starts nbrs u (length nbrs) (omega arith)
 
   pub upto-next : {u p : ℕ} → Holds starts u p → upTo starts nbrs u (p + 1) ≡ upTo starts nbrs u p ++ (getD nbrs p 0 ∷ [])
   unfolding upTo
   upto-next {u} {p} h =
-      let at : At starts nbrs u = record { input = i; inside = h .inside } in
-      let l = length-block at in
+      let l = length-block i u (h .inside) in
       let j : p + 1 - getD starts u 0 ≡ suc (p - getD starts u 0) = omega arith in
       let q : getD starts u 0 + (p - getD starts u 0) ≡ p = omega arith in
       let b : p - getD starts u 0 < length (block (cut starts nbrs) u) = omega arith in
-      let e : target (cut starts nbrs) u (p - getD starts u 0) ≡ getD nbrs p 0 = block-at at (p - getD starts u 0) b ∙ ap (λ k. getD nbrs k 0) q in
+      let e : target (cut starts nbrs) u (p - getD starts u 0) ≡ getD nbrs p 0 = block-at i u (h .inside) (p - getD starts u 0) b ∙ ap (λ k. getD nbrs k 0) q in
       rw (j, ← e) (take-suc (block (cut starts nbrs) u) (p - getD starts u 0) 0 b)
 
 -- place p is in u's block, or leaves its part as it is
@@ -110,7 +120,7 @@ pub data Step (starts nbrs : List ℕ) (u p : ℕ) : Type 0 where
   inside : Holds starts u p → Step starts nbrs u p
   outside : upTo starts nbrs u (p + 1) ≡ upTo starts nbrs u p → Step starts nbrs u p
 
-module _ {starts nbrs : List ℕ} (i : Input starts nbrs) where
+module _ {starts nbrs : List ℕ} (i : Divided starts nbrs) where
   pub step : (u p : ℕ) → Step starts nbrs u p
   step u p = go (decLt (u + 1) (length starts)) (decLt p (getD starts u 0)) (decLt p (getD starts (u + 1) 0))
     where
@@ -124,5 +134,5 @@ module _ {starts nbrs : List ℕ} (i : Input starts nbrs) where
   upto-other {u} {w} {p} h n = go (step u p)
     where
       go : Step starts nbrs u p → upTo starts nbrs u (p + 1) ≡ upTo starts nbrs u p
-      go (inside k) = absurd (n (one-block (i .divided) k h))
+      go (inside k) = absurd (n (one-block i k h))
       go (outside e) = e

@@ -1,5 +1,5 @@
 -- Rules 5 to 8, for a record that order R lets pass, by the two arrays that the code fills.
-use mathlib.Core.Path.{_≡_, sym, ap, ap₂, _∙_}
+use mathlib.Core.Path.{_≡_, refl, sym, ap, ap₂, _∙_}
 use mathlib.Core.Bool.{Bool, true, false}
 use mathlib.Core.List.{List, [], _∷_, flatten}
 use Prim.Native.Nat.{ℕ, _+_, _-_, _*_, _<_}
@@ -12,6 +12,7 @@ use Rattle.graph.specs.Graph.{Blocks}
 use Rattle.record.specs.Record.{terminals, unary, fieldsFrom, fields, blocks}
 use Rattle.record.specs.Starts.{startsOf, cut}
 use Rattle.record.specs.Flat.{Divided, Input}
+use Rattle.record.specs.Reverse.{Kept}
 use Rattle.record.specs.Rules.{firstBroken, anyPlace, spareSet, stray, doubled, oneSided, checkRules}
 use Rattle.record.specs.Answers.{Answer, answered, sizesOf}
 use Rattle.record.specs.Steps.{Sound}
@@ -133,3 +134,6 @@ module _ {bytes starts nbrs : List ℕ} {n m : ℕ} (r : Arrays bytes starts nbr
           pub all-kept : d ≡ false → firstBroken (checkRules bytes) ≡ 0
           unfolding firstBroken
           all-kept e = rule-8-next ∙ first-kept 8 [] e
+
+  pub none-broken : Kept starts nbrs → firstBroken (checkRules bytes) ≡ 0
+  none-broken k = all-kept (sym (k .no-stray)) refl (sym (k .no-double)) refl (sym (k .no-one-sided)) refl

@@ -1,6 +1,6 @@
 -- Rule 8: the lists of the places where each terminal stands.
 use Prim.Native.Nat.{ℕ, _+_, _-_, _≤_, _<_}
-use mathlib.Core.Path.{_≡_, sym, _∙_, ap}
+use mathlib.Core.Path.{_≡_, refl, sym, _∙_, ap}
 use mathlib.Core.List.{List}
 use native.Mathlib.Omega.{arith}
 use native.Mathlib.Decide.{ℕ-discrete}
@@ -9,7 +9,7 @@ use Rattle.record.specs.Flat.{Input, At, Holds, latest}
 use Rattle.record.specs.Tally.{Listed}
 use Rattle.record.proofs.Laws.Arrays.Stores.{cell-zero, cell-same, cell-other}
 use Rattle.record.proofs.Laws.Arrays.Latest.{latest-zero, latest-hit, latest-miss}
-use Rattle.record.proofs.Laws.Arrays.Loops.{Sized, sized-start, Span, span-start, span-end, span-place, span-known, span-holds, span-more}
+use Rattle.record.proofs.Laws.Arrays.Loops.{Sized, sized-start, Round, round-start, round-more, round-last, along-holds, along-end, Span, span-start, span-place, span-known, span-more}
 
 pub listed-none : (starts nbrs : List ℕ) → Listed starts nbrs 0 (replicate 4096 0) (replicate 32768 0) (replicate 32768 0)
 listed-none starts nbrs = record {
@@ -35,7 +35,7 @@ module _ {starts nbrs : List ℕ} {u end p : ℕ} {head link from : List ℕ} wh
 
   module _ (k : Entered starts nbrs u end p head link from) where
     pub entered-end : end ≤ p → Listed starts nbrs (getD starts (u + 1) 0) head link from
-    entered-end h = rw (← span-end (k .span) h) (k .listed)
+    entered-end h = rw (← along-end (k .span .along) h) (k .listed)
 
     -- what the lists become by the place p where v stands
     pub entered-more : {v : ℕ} → p < end → v ≡ getD nbrs p 0 → {head′ link′ from′ : List ℕ}
@@ -70,7 +70,7 @@ module _ {starts nbrs : List ℕ} {u end p : ℕ} {head link from : List ℕ} wh
         at-from q m (yes r) =
             let h = span-place (k .span) l in
             let z = k .listed .from-size in
-            rw (cell-same from {i = p} {j = q} u r (omega arith), r) (span-holds (k .span) l)
+            rw (cell-same from {i = p} {j = q} u r (omega arith), r) (along-holds (k .span .along) l)
         at-from q m (no n) = rw (cell-other from {i = p} {j = q} u n) (k .listed .owned q (omega arith))
 
 -- ---- all blocks
@@ -78,22 +78,17 @@ module _ {starts nbrs : List ℕ} {u end p : ℕ} {head link from : List ℕ} wh
 -- the places of the blocks before u are listed
 pub record Filled (starts nbrs : List ℕ) (n u : ℕ) (head link from : List ℕ) : Type 0 where
   pub sized : Sized starts nbrs n
-  pub upto : u ≤ n
+  pub round : Round starts n u
   pub listed : Listed starts nbrs (getD starts u 0) head link from
 
 module _ {starts nbrs : List ℕ} {n : ℕ} {head link from : List ℕ} where
   pub filled-start : Input starts nbrs → n ≡ length starts - 1 → Listed starts nbrs 0 head link from → Filled starts nbrs n 0 head link from
-  filled-start i e l = record { sized = sized-start i e; upto = omega arith; listed = rw (i .divided .first) l }
+  filled-start i e l = record { sized = sized-start i e; round = round-start (i .divided .some) e refl; listed = rw (i .divided .first) l }
 
   module _ {u : ℕ} (f : Filled starts nbrs n u head link from) where
     pub filled-more : u < n → {head′ link′ from′ : List ℕ} → Listed starts nbrs (getD starts (u + 1) 0) head′ link′ from′
         → Filled starts nbrs n (u + 1) head′ link′ from′
-    filled-more h l = record { sized = f .sized; upto = omega arith; listed = l }
+    filled-more h l = record { sized = f .sized; round = round-more (f .round) h; listed = l }
 
     pub filled-end : n ≤ u → Listed starts nbrs (length nbrs) head link from
-    filled-end h =
-        let a = f .upto in
-        let b = f .sized .number in
-        let q : length starts - 1 ≡ u = omega arith in
-        let e : getD starts u 0 ≡ length nbrs = ap (λ j. getD starts j 0) (sym q) ∙ f .sized .input .divided .last in
-        rw e at (f .listed)
+    filled-end h = rw (round-last (f .round) (f .sized .input .divided) h) at (f .listed)

@@ -33,8 +33,8 @@ module _ {starts nbrs head link from : List ℕ} {u x : ℕ} {counts : List ℕ}
     here = latest-link u nbrs (length nbrs);
     same = λ s. (
         let a = k .same s in
-        let b = count-latest (at .input) s u (length nbrs) in
-        let c = ap (mentions u) (upto-end (at .input) s) in
+        let b = count-latest (at .input .divided) s u (length nbrs) in
+        let c = ap (mentions u) (upto-end (at .input .divided) s) in
         omega arith
         );
   })
@@ -78,7 +78,7 @@ module _ {starts nbrs head link from : List ℕ} {u x : ℕ} {counts : List ℕ}
             size = w .size;
             found = λ t. record {
               who = s;
-              over = let a = rw x-is at (w .same s) in let b = count-hit (w .at .input) s q u holds leads in omega arith;
+              over = let a = rw x-is at (w .same s) in let b = count-hit (w .at .input .divided) s q u holds leads in omega arith;
             };
             left = λ t. absurd (true≢false t);
           }
@@ -93,7 +93,7 @@ module _ {starts nbrs head link from : List ℕ} {u x : ℕ} {counts : List ℕ}
                 listed = w .listed;
                 size = length-set counts s (c - 1) ∙ w .size;
                 here = record { below = omega arith; own = k .own };
-                same = λ t. rw (count-latest (w .at .input) t u q) (go t (ℕ-discrete t s) (rw x-is at (w .same t)));
+                same = λ t. rw (count-latest (w .at .input .divided) t u q) (go t (ℕ-discrete t s) (rw x-is at (w .same t)));
               })
             where
               go : (t : ℕ) → Dec (t ≡ s)
@@ -101,10 +101,10 @@ module _ {starts nbrs head link from : List ℕ} {u x : ℕ} {counts : List ℕ}
                   → getD (set counts s (c - 1)) t 0 + mentions u (block (cut starts nbrs) t) ≡ mentions t (block (cut starts nbrs) u) + mentions u (upTo starts nbrs t q)
               go t (yes e) r =
                   let a = cell-same counts (c - 1) e (let z = w .size in let k = walk-source in omega arith) in
-                  let b = count-hit (w .at .input) t q u (rw e holds) leads in
+                  let b = count-hit (w .at .input .divided) t q u (rw e holds) leads in
                   let d : getD counts t 0 ≡ c = ap (λ j. getD counts j 0) e ∙ sym ec in
                   omega arith
               go t (no e) r =
                   let a = cell-other counts {i = s} {j = t} (c - 1) e in
-                  let b = ap (mentions u) (upto-other (w .at .input) holds e) in
+                  let b = ap (mentions u) (upto-other (w .at .input .divided) holds e) in
                   omega arith

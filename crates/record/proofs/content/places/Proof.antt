@@ -1,9 +1,9 @@
--- `content::places` meets its contract: rules 6 to 8, one after the other.
+-- `content::places` meets its contract: rules 6 to 8 at once, or else one after the other.
 use mathlib.Core.Path.{_∙_}
-use borrow.Author.Needs.{needs}
 use Rattle.record.specs.Answers.{sizesOf}
-use Rattle.record.proofs.Laws.Counting.Contents.{arrays-read, sizes-told, arrays-divided, arrays-input, rule-6, rule-7, rule-8, all-kept}
+use Rattle.record.proofs.Laws.Counting.Contents.{arrays-read, sizes-told, arrays-divided, arrays-input, rule-6, rule-7, rule-8, all-kept, none-broken}
 use Rattle.record.proofs.Laws.Telling.Told.{told, untold}
+use borrow.Author.Needs.{needs}
 use Rattle.record.proofs.content.places.Statement.{statement}
 use Rattle.record.proofs.content.places.Tie as tie
 
@@ -22,11 +22,10 @@ add-read-fields-2 c = search needs
 read-fields-requires : tie.Need-read-fields-requires
 read-fields-requires c κs = search needs
 
-some-stray-requires : tie.Need-some-stray-requires
-some-stray-requires c κs =
+all-mutual-requires : tie.Need-all-mutual-requires
+all-mutual-requires c κs =
     let pre = c .before .before .before .before .before .before .before .before .before .before .before .before .before .pre in
-    let fill-starts = c .before .before .before .before .before .before .before .before .fill-starts in
-    arrays-divided (arrays-read (pre .0) (pre .1) (pre .3) (fill-starts .ensures) (c .before .before .before .before .read-fields .ensures))
+    arrays-divided (arrays-read (pre .0) (pre .1) (pre .3) (c .before .before .before .before .before .before .before .before .fill-starts .ensures) (c .before .before .before .before .read-fields .ensures))
 
 same-length : tie.Need-same-length
 same-length c = search needs
@@ -36,18 +35,13 @@ same-length-2 c = search needs
 
 returns : tie.Need-returns
 returns c =
-    let bytes = c .before .before .before .before .before .before .before .before .before .before .before .before .before .before .before .args .bytes .now in
     let pre = c .before .before .before .before .before .before .before .before .before .before .before .before .before .before .before .pre in
-    let fill-starts = c .before .before .before .before .before .before .before .before .before .before .fill-starts in
-    let read-fields = c .before .before .before .before .before .before .read-fields in
-    told (sizesOf bytes) (rule-6 (arrays-read (pre .0) (pre .1) (pre .3) (fill-starts .ensures) (read-fields .ensures)) (c .before .some-stray .ensures) (c .if1 .taken))
+    sizes-told (pre .0) ∙ untold (sizesOf (c .before .before .before .before .before .before .before .before .before .before .before .before .before .before .before .args .bytes .now)) (none-broken (arrays-read (pre .0) (pre .1) (pre .3) (c .before .before .before .before .before .before .before .before .before .before .fill-starts .ensures) (c .before .before .before .before .before .before .read-fields .ensures)) (c .before .all-mutual .ensures (c .if1 .taken)))
 
-some-doubled-requires : tie.Need-some-doubled-requires
-some-doubled-requires c κs =
+some-stray-requires : tie.Need-some-stray-requires
+some-stray-requires c κs =
     let pre = c .before .before .before .before .before .before .before .before .before .before .before .before .before .before .before .before .before .pre in
-    let fill-starts = c .before .before .before .before .before .before .before .before .before .before .before .before .fill-starts in
-    let read-fields = c .before .before .before .before .before .before .before .before .read-fields in
-    arrays-input (arrays-read (pre .0) (pre .1) (pre .3) (fill-starts .ensures) (read-fields .ensures)) (c .before .before .before .some-stray .ensures) (c .before .before .if1 .left)
+    arrays-divided (arrays-read (pre .0) (pre .1) (pre .3) (c .before .before .before .before .before .before .before .before .before .before .before .before .fill-starts .ensures) (c .before .before .before .before .before .before .before .before .read-fields .ensures))
 
 same-length-3 : tie.Need-same-length-3
 same-length-3 c = search needs
@@ -59,17 +53,12 @@ returns-2 : tie.Need-returns-2
 returns-2 c =
     let bytes = c .before .before .before .before .before .before .before .before .before .before .before .before .before .before .before .before .before .before .before .args .bytes .now in
     let pre = c .before .before .before .before .before .before .before .before .before .before .before .before .before .before .before .before .before .before .before .pre in
-    let fill-starts = c .before .before .before .before .before .before .before .before .before .before .before .before .before .before .fill-starts in
-    let read-fields = c .before .before .before .before .before .before .before .before .before .before .read-fields in
-    told (sizesOf bytes) (rule-7 (arrays-read (pre .0) (pre .1) (pre .3) (fill-starts .ensures) (read-fields .ensures)) (c .before .before .before .before .before .some-stray .ensures) (c .before .before .before .before .if1 .left) (c .before .some-doubled .ensures) (c .if2 .taken))
+    told (sizesOf bytes) (rule-6 (arrays-read (pre .0) (pre .1) (pre .3) (c .before .before .before .before .before .before .before .before .before .before .before .before .before .before .fill-starts .ensures) (c .before .before .before .before .before .before .before .before .before .before .read-fields .ensures)) (c .before .some-stray .ensures) (c .if2 .taken))
 
-some-one-sided-requires : tie.Need-some-one-sided-requires
-some-one-sided-requires c κs =
+some-doubled-requires : tie.Need-some-doubled-requires
+some-doubled-requires c κs =
     let pre = c .before .before .before .before .before .before .before .before .before .before .before .before .before .before .before .before .before .before .before .before .before .pre in
-    let fill-starts = c .before .before .before .before .before .before .before .before .before .before .before .before .before .before .before .before .fill-starts in
-    let read-fields = c .before .before .before .before .before .before .before .before .before .before .before .before .read-fields in
-    let some-stray = c .before .before .before .before .before .before .before .some-stray in
-    arrays-input (arrays-read (pre .0) (pre .1) (pre .3) (fill-starts .ensures) (read-fields .ensures)) (some-stray .ensures) (c .before .before .before .before .before .before .if1 .left)
+    arrays-input (arrays-read (pre .0) (pre .1) (pre .3) (c .before .before .before .before .before .before .before .before .before .before .before .before .before .before .before .before .fill-starts .ensures) (c .before .before .before .before .before .before .before .before .before .before .before .before .read-fields .ensures)) (c .before .before .before .some-stray .ensures) (c .before .before .if2 .left)
 
 same-length-5 : tie.Need-same-length-5
 same-length-5 c = search needs
@@ -81,11 +70,12 @@ returns-3 : tie.Need-returns-3
 returns-3 c =
     let bytes = c .before .before .before .before .before .before .before .before .before .before .before .before .before .before .before .before .before .before .before .before .before .before .before .args .bytes .now in
     let pre = c .before .before .before .before .before .before .before .before .before .before .before .before .before .before .before .before .before .before .before .before .before .before .before .pre in
-    let fill-starts = c .before .before .before .before .before .before .before .before .before .before .before .before .before .before .before .before .before .before .fill-starts in
-    let read-fields = c .before .before .before .before .before .before .before .before .before .before .before .before .before .before .read-fields in
-    let some-stray = c .before .before .before .before .before .before .before .before .before .some-stray in
-    let if1 = c .before .before .before .before .before .before .before .before .if1 in
-    told (sizesOf bytes) (rule-8 (arrays-read (pre .0) (pre .1) (pre .3) (fill-starts .ensures) (read-fields .ensures)) (some-stray .ensures) (if1 .left) (c .before .before .before .before .before .some-doubled .ensures) (c .before .before .before .before .if2 .left) (c .before .some-one-sided .ensures) (c .if3 .taken))
+    told (sizesOf bytes) (rule-7 (arrays-read (pre .0) (pre .1) (pre .3) (c .before .before .before .before .before .before .before .before .before .before .before .before .before .before .before .before .before .before .fill-starts .ensures) (c .before .before .before .before .before .before .before .before .before .before .before .before .before .before .read-fields .ensures)) (c .before .before .before .before .before .some-stray .ensures) (c .before .before .before .before .if2 .left) (c .before .some-doubled .ensures) (c .if3 .taken))
+
+some-one-sided-requires : tie.Need-some-one-sided-requires
+some-one-sided-requires c κs =
+    let pre = c .before .before .before .before .before .before .before .before .before .before .before .before .before .before .before .before .before .before .before .before .before .before .before .before .before .pre in
+    arrays-input (arrays-read (pre .0) (pre .1) (pre .3) (c .before .before .before .before .before .before .before .before .before .before .before .before .before .before .before .before .before .before .before .before .fill-starts .ensures) (c .before .before .before .before .before .before .before .before .before .before .before .before .before .before .before .before .read-fields .ensures)) (c .before .before .before .before .before .before .before .some-stray .ensures) (c .before .before .before .before .before .before .if2 .left)
 
 same-length-7 : tie.Need-same-length-7
 same-length-7 c = search needs
@@ -95,13 +85,21 @@ same-length-8 c = search needs
 
 returns-4 : tie.Need-returns-4
 returns-4 c =
-    let pre = c .before .before .before .before .before .before .before .before .before .before .before .before .before .before .before .before .before .before .before .before .before .before .before .pre in
-    let bytes = c .before .before .before .before .before .before .before .before .before .before .before .before .before .before .before .before .before .before .before .before .before .before .before .args .bytes .now in
-    let fill-starts = c .before .before .before .before .before .before .before .before .before .before .before .before .before .before .before .before .before .before .fill-starts in
-    let read-fields = c .before .before .before .before .before .before .before .before .before .before .before .before .before .before .read-fields in
-    let some-stray = c .before .before .before .before .before .before .before .before .before .some-stray in
-    let if1 = c .before .before .before .before .before .before .before .before .if1 in
-    sizes-told (pre .0) ∙ untold (sizesOf bytes) (all-kept (arrays-read (pre .0) (pre .1) (pre .3) (fill-starts .ensures) (read-fields .ensures)) (some-stray .ensures) (if1 .left) (c .before .before .before .before .before .some-doubled .ensures) (c .before .before .before .before .if2 .left) (c .before .some-one-sided .ensures) (c .if3 .left))
+    let bytes = c .before .before .before .before .before .before .before .before .before .before .before .before .before .before .before .before .before .before .before .before .before .before .before .before .before .before .before .args .bytes .now in
+    let pre = c .before .before .before .before .before .before .before .before .before .before .before .before .before .before .before .before .before .before .before .before .before .before .before .before .before .before .before .pre in
+    told (sizesOf bytes) (rule-8 (arrays-read (pre .0) (pre .1) (pre .3) (c .before .before .before .before .before .before .before .before .before .before .before .before .before .before .before .before .before .before .before .before .before .before .fill-starts .ensures) (c .before .before .before .before .before .before .before .before .before .before .before .before .before .before .before .before .before .before .read-fields .ensures)) (c .before .before .before .before .before .before .before .before .before .some-stray .ensures) (c .before .before .before .before .before .before .before .before .if2 .left) (c .before .before .before .before .before .some-doubled .ensures) (c .before .before .before .before .if3 .left) (c .before .some-one-sided .ensures) (c .if4 .taken))
+
+same-length-9 : tie.Need-same-length-9
+same-length-9 c = search needs
+
+same-length-10 : tie.Need-same-length-10
+same-length-10 c = search needs
+
+returns-5 : tie.Need-returns-5
+returns-5 c =
+    let bytes = c .before .before .before .before .before .before .before .before .before .before .before .before .before .before .before .before .before .before .before .before .before .before .before .before .before .before .before .args .bytes .now in
+    let pre = c .before .before .before .before .before .before .before .before .before .before .before .before .before .before .before .before .before .before .before .before .before .before .before .before .before .before .before .pre in
+    sizes-told (pre .0) ∙ untold (sizesOf bytes) (all-kept (arrays-read (pre .0) (pre .1) (pre .3) (c .before .before .before .before .before .before .before .before .before .before .before .before .before .before .before .before .before .before .before .before .before .before .fill-starts .ensures) (c .before .before .before .before .before .before .before .before .before .before .before .before .before .before .before .before .before .before .read-fields .ensures)) (c .before .before .before .before .before .before .before .before .before .some-stray .ensures) (c .before .before .before .before .before .before .before .before .if2 .left) (c .before .before .before .before .before .some-doubled .ensures) (c .before .before .before .before .if3 .left) (c .before .some-one-sided .ensures) (c .if4 .left))
 
 pub places-spec : {M : Type 1} → statement M
 places-spec =
@@ -112,18 +110,22 @@ places-spec =
     add-read-fields
     add-read-fields-2
     read-fields-requires
-    some-stray-requires
+    all-mutual-requires
     same-length
     same-length-2
     returns
-    some-doubled-requires
+    some-stray-requires
     same-length-3
     same-length-4
     returns-2
-    some-one-sided-requires
+    some-doubled-requires
     same-length-5
     same-length-6
     returns-3
+    some-one-sided-requires
     same-length-7
     same-length-8
-    returns-4)
+    returns-4
+    same-length-9
+    same-length-10
+    returns-5)

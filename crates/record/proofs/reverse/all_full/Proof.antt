@@ -1,0 +1,61 @@
+-- `reverse::all_full` meets its contract: the parts before v are full.
+use mathlib.Core.Path.{refl, sym, _∙_}
+use mathlib.Core.Bool.{true≢false}
+use Prim.Native.Nat.{_+_, _-_}
+use native.Mathlib.Omega.{arith}
+use Rattle.record.proofs.Laws.Counting.Nexts.{Nexts, nexts-start, nexts-found, at-ends}
+use Rattle.record.proofs.reverse.all_full.Statement.{statement}
+use Rattle.record.proofs.reverse.all_full.Tie as tie
+
+abbrev Inv-loop : tie.InvT-loop
+Inv-loop starts next n v₀ v = Nexts starts next n v (λ w. w + 1)
+
+abbrev μ-loop : tie.MeasureT-loop
+μ-loop starts next n v₀ v = n - v
+
+sub-n : tie.Need-sub-n Inv-loop μ-loop
+sub-n c = omega arith
+
+loop-holds : tie.Need-loop-holds Inv-loop μ-loop
+loop-holds c = nexts-start (λ w. w + 1) (c .before .before .pre) refl refl
+
+get-requires : tie.Need-get-requires Inv-loop μ-loop
+get-requires c κs = let k = c .before .loop .inv .few in omega arith
+
+add-get : tie.Need-add-get Inv-loop μ-loop
+add-get c = omega arith
+
+get-requires-2 : tie.Need-get-requires-2 Inv-loop μ-loop
+get-requires-2 c κs = let k = c .before .before .loop .inv .number in omega arith
+
+returns : tie.Need-returns Inv-loop μ-loop
+returns c = λ t. absurd (true≢false (sym t))
+
+add-v : tie.Need-add-v Inv-loop μ-loop
+add-v c = omega arith
+
+loop-less : tie.Need-loop-less Inv-loop μ-loop
+loop-less c = omega arith
+
+loop-again : tie.Need-loop-again Inv-loop μ-loop
+loop-again c = nexts-found (c .before .before .before .before .loop .inv) (sym (c .before .before .get .ensures .0) ∙ c .if1 .left ∙ c .before .get2 .ensures .0)
+
+returns-2 : tie.Need-returns-2 Inv-loop μ-loop
+returns-2 c = λ t. at-ends (c .before .loop .inv) (c .loop-test .left)
+
+pub all-full-spec : {M : Type 1} → statement M
+all-full-spec =
+    tie.close
+    (tie.spec
+    Inv-loop
+    μ-loop
+    sub-n
+    loop-holds
+    get-requires
+    add-get
+    get-requires-2
+    returns
+    add-v
+    loop-less
+    loop-again
+    returns-2)

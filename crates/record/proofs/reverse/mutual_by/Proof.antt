@@ -1,0 +1,70 @@
+-- `reverse::mutual_by` meets its contract: turned round, full, and found again.
+use mathlib.Core.Path.{sym}
+use mathlib.Core.Bool.{true≢false}
+use borrow.Author.Tests.{not-false}
+use Rattle.record.proofs.Laws.Counting.Turned.{turned-divided}
+use Rattle.record.proofs.Laws.Counting.Mutual.{mutual-kept}
+use borrow.Author.Needs.{needs}
+use Rattle.record.proofs.reverse.mutual_by.Statement.{statement}
+use Rattle.record.proofs.reverse.mutual_by.Tie as tie
+
+rewind-requires : tie.Need-rewind-requires
+rewind-requires c κs = search needs
+
+turn-all-requires : tie.Need-turn-all-requires
+turn-all-requires c κs = search needs
+
+same-length : tie.Need-same-length
+same-length c = search needs
+
+same-length-2 : tie.Need-same-length-2
+same-length-2 c = search needs
+
+returns : tie.Need-returns
+returns c = λ t. absurd (true≢false (sym t))
+
+all-full-requires : tie.Need-all-full-requires
+all-full-requires c κs = search needs
+
+same-length-3 : tie.Need-same-length-3
+same-length-3 c = search needs
+
+same-length-4 : tie.Need-same-length-4
+same-length-4 c = search needs
+
+returns-2 : tie.Need-returns-2
+returns-2 c = λ t. absurd (true≢false (sym t))
+
+rewind-requires-2 : tie.Need-rewind-requires-2
+rewind-requires-2 c κs = search needs
+
+match-all-requires : tie.Need-match-all-requires
+match-all-requires c κs = (turned-divided (c .before .before .before .before .before .before .before .before .before .before .before .before .before .before .turn-all .ensures (not-false _ (c .before .before .before .before .before .before .before .before .before .if1 .left)) .turned), c .before .before .before .before .rewind2 .ensures)
+
+same-length-5 : tie.Need-same-length-5
+same-length-5 c = search needs
+
+same-length-6 : tie.Need-same-length-6
+same-length-6 c = search needs
+
+returns-3 : tie.Need-returns-3
+returns-3 c = λ t. mutual-kept (c .before .before .before .before .before .before .before .before .before .before .before .before .before .before .before .before .before .turn-all .ensures (not-false _ (c .before .before .before .before .before .before .before .before .before .before .before .before .if1 .left))) (c .before .before .before .before .before .before .before .before .before .before .all-full .ensures (not-false _ (c .before .before .before .before .before .before .before .before .before .if2 .left))) (c .before .before .match-all .ensures t)
+
+pub mutual-by-spec : {M : Type 1} → statement M
+mutual-by-spec =
+    tie.close
+    (tie.spec
+    rewind-requires
+    turn-all-requires
+    same-length
+    same-length-2
+    returns
+    all-full-requires
+    same-length-3
+    same-length-4
+    returns-2
+    rewind-requires-2
+    match-all-requires
+    same-length-5
+    same-length-6
+    returns-3)

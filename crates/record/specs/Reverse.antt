@@ -1,0 +1,43 @@
+-- The blocks turned round: a second row, cut by the same starts, whose part v lists the terminals whose blocks have v, in order.
+use Prim.Native.Nat.{ℕ, _+_, _≤_, _<_}
+use mathlib.Core.Path.{_≡_}
+use mathlib.Core.Bool.{false}
+use mathlib.Core.List.{List}
+use lib.ListN.{length, getD}
+use Rattle.graph.specs.Graph.{block, mentions}
+use Rattle.record.specs.Starts.{cut}
+use Rattle.record.specs.Rules.{anyPlace, stray, doubled, oneSided}
+use Rattle.record.specs.Flat.{Divided, upTo}
+
+-- `next` has for each terminal the place of its part that comes next: part v up to there has w as often as w's block up to place p has v
+pub record Turned (starts nbrs reverse next : List ℕ) (p : ℕ) : Type 0 where
+  pub divided : Divided starts nbrs
+  pub size : length reverse ≡ length nbrs
+  pub cells : length next ≡ 4096
+  pub near : (v : ℕ) → v + 1 < length starts → (getD starts v 0 ≤ getD next v 0) × (getD next v 0 ≤ getD starts (v + 1) 0)
+  pub same : (v w : ℕ) → v + 1 < length starts → mentions w (upTo starts reverse v (getD next v 0)) ≡ mentions v (upTo starts nbrs w p)
+
+-- the same, and what stands before place p is a terminal other than the block's own
+pub record Turning (starts nbrs reverse next : List ℕ) (p : ℕ) : Type 0 where
+  pub turned : Turned starts nbrs reverse next p
+  pub others : (u v : ℕ) → 0 < mentions v (upTo starts nbrs u p) → (v + 1 < length starts) × (v ≡ u → ⊥)
+
+-- `next` is at the start of each part
+pub record AtStarts (starts next : List ℕ) : Type 0 where
+  pub cells : length next ≡ 4096
+  pub begins : (v : ℕ) → v + 1 < length starts → getD next v 0 ≡ getD starts v 0
+
+-- `next` is at the end of each part
+pub record AtEnds (starts next : List ℕ) : Type 0 where
+  pub ends : (v : ℕ) → v + 1 < length starts → getD next v 0 ≡ getD starts (v + 1) 0
+
+-- the parts before u's, turned round once more, are found in the parts again, and none of them has a terminal twice
+pub record Matching (starts reverse next : List ℕ) (u : ℕ) : Type 0 where
+  pub turned : Turned starts reverse reverse next (getD starts u 0)
+  pub single : (w : ℕ) → w < u → (v : ℕ) → mentions v (block (cut starts reverse) w) ≤ 1
+
+-- rules 6 to 8 are kept
+pub record Kept (starts nbrs : List ℕ) : Type 0 where
+  pub no-stray : anyPlace (stray (cut starts nbrs)) (cut starts nbrs) ≡ false
+  pub no-double : anyPlace (doubled (cut starts nbrs)) (cut starts nbrs) ≡ false
+  pub no-one-sided : anyPlace (oneSided (cut starts nbrs)) (cut starts nbrs) ≡ false

@@ -1,0 +1,187 @@
+// Rules 6 to 8 at once, in two passes over the places: a yes where they are kept. A no says only that they are to be tried in turn.
+// The blocks are turned round: in a second row, cut by the same starts, part v lists the terminals whose blocks have v, in order. The parts
+// turned round once more must be the parts themselves, which is found by reading on in each of them. Then every two terminals mention each
+// other equally often.
+ghost use mathlib.Core.Path.{_≡_};
+ghost use mathlib.Core.Bool.{true};
+ghost use Prim.Native.Nat.{_+_, _-_, _<_};
+ghost use lib.ListN.{length, getD};
+ghost use Rattle.record.specs.Flat.{Divided, Holds};
+ghost use Rattle.record.specs.Reverse.{Turned, Turning, Matching, AtStarts, AtEnds, Kept};
+use super::cells::get;
+use super::cells::put;
+
+// In each part the start comes next.
+fn rewind(starts: &[u16], next: &mut [u16])
+    requires { ⌜ (0 < length (now starts)) × (length (now starts) < 4098) × (length (now next) ≡ 4096) ⌝ }
+    ensures { λ _. ⌜ AtStarts (now (starts .entry)) (now (next .exit)) ⌝ }
+{
+    let n = starts.len() - 1;
+    let mut v = 0;
+    while v < n {
+        let start = get(starts, v);
+        put(next, v, start);
+        v += 1;
+    }
+}
+
+// Whether each part is filled up to its end.
+fn all_full(starts: &[u16], next: &[u16]) -> bool
+    requires { ⌜ (0 < length (now starts)) × (length (now starts) < 4098) × (length (now next) ≡ 4096) ⌝ }
+    ensures { λ r. ⌜ (r ≡ true → AtEnds (now (starts .entry)) (now (next .entry))) ⌝ }
+{
+    let n = starts.len() - 1;
+    let mut v = 0;
+    while v < n {
+        if get(next, v) != get(starts, v + 1) {
+            return false;
+        }
+        v += 1;
+    }
+    true
+}
+
+// The neighbour at place p of block u gets u in its part. A no where it is no terminal, or u itself, or its part is full.
+fn turn_place(
+    starts: &[u16],
+    nbrs: &[u16],
+    u: usize,
+    p: usize,
+    reverse: &mut [u16],
+    next: &mut [u16],
+) -> bool
+    requires { ⌜ (Turning (now starts) (now nbrs) (now reverse) (now next) p) × (Holds (now starts) u p) ⌝ }
+    ensures { λ r. ⌜ (r ≡ true → Turning (now (starts .entry)) (now (nbrs .entry)) (now (reverse .exit)) (now (next .exit)) (p + 1)) ⌝ }
+{
+    let v = get(nbrs, p);
+    if starts.len() - 1 <= v {
+        return false;
+    }
+    if v == u {
+        return false;
+    }
+    let q = get(next, v);
+    if q == get(starts, v + 1) {
+        return false;
+    }
+    put(reverse, q, u);
+    put(next, v, q + 1);
+    true
+}
+
+// The same for all places of block u.
+fn turn_block(starts: &[u16], nbrs: &[u16], u: usize, reverse: &mut [u16], next: &mut [u16]) -> bool
+    requires { ⌜ (Turning (now starts) (now nbrs) (now reverse) (now next) (getD (now starts) u 0)) × (u + 1 < length (now starts)) ⌝ }
+    ensures { λ r. ⌜ (r ≡ true → Turning (now (starts .entry)) (now (nbrs .entry)) (now (reverse .exit)) (now (next .exit)) (getD (now (starts .entry)) (u + 1) 0)) ⌝ }
+{
+    let end = get(starts, u + 1);
+    let mut p = get(starts, u);
+    while p < end {
+        if !turn_place(starts, nbrs, u, p, reverse, next) {
+            return false;
+        }
+        p += 1;
+    }
+    true
+}
+
+// The same for all blocks.
+fn turn_all(starts: &[u16], nbrs: &[u16], reverse: &mut [u16], next: &mut [u16]) -> bool
+    requires { ⌜ (Divided (now starts) (now nbrs)) × (length (now reverse) ≡ length (now nbrs)) × (AtStarts (now starts) (now next)) ⌝ }
+    ensures { λ r. ⌜ (r ≡ true → Turning (now (starts .entry)) (now (nbrs .entry)) (now (reverse .exit)) (now (next .exit)) (length (now (nbrs .entry)))) ⌝ }
+{
+    let n = starts.len() - 1;
+    let mut u = 0;
+    while u < n {
+        if !turn_block(starts, nbrs, u, reverse, next) {
+            return false;
+        }
+        u += 1;
+    }
+    true
+}
+
+// For the terminal at place p of part u its own part is read on by one, and must have u there.
+fn match_place(starts: &[u16], reverse: &[u16], u: usize, p: usize, next: &mut [u16]) -> bool
+    requires { ⌜ (Turned (now starts) (now reverse) (now reverse) (now next) p) × (Holds (now starts) u p) ⌝ }
+    ensures { λ r. ⌜ (r ≡ true → Turned (now (starts .entry)) (now (reverse .entry)) (now (reverse .entry)) (now (next .exit)) (p + 1)) ⌝ }
+{
+    let w = get(reverse, p);
+    if starts.len() - 1 <= w {
+        return false;
+    }
+    let q = get(next, w);
+    if q == get(starts, w + 1) {
+        return false;
+    }
+    if get(reverse, q) != u {
+        return false;
+    }
+    put(next, w, q + 1);
+    true
+}
+
+// The same for all places of part u. Its terminals rise, so none stands in it twice.
+fn match_block(starts: &[u16], reverse: &[u16], u: usize, next: &mut [u16]) -> bool
+    requires { ⌜ (Matching (now starts) (now reverse) (now next) u) × (u + 1 < length (now starts)) ⌝ }
+    ensures { λ r. ⌜ (r ≡ true → Matching (now (starts .entry)) (now (reverse .entry)) (now (next .exit)) (u + 1)) ⌝ }
+{
+    let end = get(starts, u + 1);
+    let mut p = get(starts, u);
+    let mut least = 0;
+    while p < end {
+        let w = get(reverse, p);
+        if w < least {
+            return false;
+        }
+        if !match_place(starts, reverse, u, p, next) {
+            return false;
+        }
+        least = w + 1;
+        p += 1;
+    }
+    true
+}
+
+// The same for all parts.
+fn match_all(starts: &[u16], reverse: &[u16], next: &mut [u16]) -> bool
+    requires { ⌜ (Divided (now starts) (now reverse)) × (AtStarts (now starts) (now next)) ⌝ }
+    ensures { λ r. ⌜ (r ≡ true → Matching (now (starts .entry)) (now (reverse .entry)) (now (next .exit)) (length (now (starts .entry)) - 1)) ⌝ }
+{
+    let n = starts.len() - 1;
+    let mut u = 0;
+    while u < n {
+        if !match_block(starts, reverse, u, next) {
+            return false;
+        }
+        u += 1;
+    }
+    true
+}
+
+// Both passes.
+fn mutual_by(starts: &[u16], nbrs: &[u16], reverse: &mut [u16], next: &mut [u16]) -> bool
+    requires { ⌜ (Divided (now starts) (now nbrs)) × (length (now reverse) ≡ length (now nbrs)) × (length (now next) ≡ 4096) ⌝ }
+    ensures { λ r. ⌜ (r ≡ true → Kept (now (starts .entry)) (now (nbrs .entry))) ⌝ }
+{
+    rewind(starts, next);
+    if !turn_all(starts, nbrs, reverse, next) {
+        return false;
+    }
+    if !all_full(starts, next) {
+        return false;
+    }
+    rewind(starts, next);
+    match_all(starts, reverse, next)
+}
+
+// The same, with the second row and the places that come next on the stack.
+pub fn all_mutual(starts: &[u16], nbrs: &[u16]) -> bool
+    requires { ⌜ Divided (now starts) (now nbrs) ⌝ }
+    ensures { λ r. ⌜ (r ≡ true → Kept (now (starts .entry)) (now (nbrs .entry))) ⌝ }
+{
+    let mut reverse = [0u16; 32768];
+    let mut next = [0u16; 4096];
+    let places = nbrs.len();
+    mutual_by(starts, nbrs, &mut reverse[..places], &mut next)
+}
