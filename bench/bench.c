@@ -3,6 +3,7 @@
    bench                      the tables, as Markdown
    bench compare              the answers alone
    bench once SIDE OP SHAPE   one call on the largest record of a shape, to be counted: SIDE is product or plain, OP is check or build
+   bench record SHAPE         that record's bytes
 
    Both sides run in turn, many times, and the least time of each counts. No buffer is cleared between two timed calls. */
 #define _POSIX_C_SOURCE 200809L
@@ -528,15 +529,22 @@ static void print_ratios(void)
             printf("| %s | %.2f | %.2f |\n", op_names[op], best[op].product / best[op].plain, worst[op].product / worst[op].plain);
 }
 
-static int once(const char *side, const char *op, const char *shape)
+/* The largest record of a shape; 0 where there is no such shape. */
+static int largest(const char *shape)
 {
-    const struct side *s = strcmp(side, "product") == 0 ? &product : &plain;
     int i;
     for (i = 0; i < SHAPES && strcmp(shape, shape_names[i]) != 0; i++)
         continue;
-    if (i == SHAPES)
+    if (i < SHAPES)
+        make_record(i, SIZES - 1, 0, &records[0]);
+    return i < SHAPES;
+}
+
+static int once(const char *side, const char *op, const char *shape)
+{
+    const struct side *s = strcmp(side, "product") == 0 ? &product : &plain;
+    if (!largest(shape))
         return 2;
-    make_record(i, SIZES - 1, 0, &records[0]);
     ask(&records[0]);
     return call(s, &rooms[0], strcmp(op, "check") == 0 ? CHECK : BUILD, 0, 0) != 0;
 }
@@ -546,6 +554,11 @@ int main(int argc, char **argv)
     int i;
     if (argc == 5 && strcmp(argv[1], "once") == 0)
         return once(argv[2], argv[3], argv[4]);
+    if (argc == 3 && strcmp(argv[1], "record") == 0) {
+        if (!largest(argv[2]))
+            return 2;
+        return fwrite(records[0].bytes, 1, records[0].len, stdout) != records[0].len;
+    }
     compare_all();
     printf("The two sides gave %zu equal answers. Refusals among them:", answers);
     for (i = 1; i < 14; i++)
