@@ -1,19 +1,19 @@
 -- Bytes stored into a slice: the bytes of a number into which a field was put are that field put into the slice's bits.
-use mathlib.Core.Path.{_≡_, sym, ap, _∙_}
-use mathlib.Core.Bool.{Bool}
+use mathlib.Core.Path.{_≡_, refl, sym, ap, ap₂, _∙_}
+use mathlib.Core.Bool.{Bool, true}
 use mathlib.Core.List.{List, [], _∷_, _++_, append-assoc, append-nil}
 use Prim.Native.Nat.{ℕ, _+_, _-_, _*_, _/_, _%_, _^_, _≤_, _<_}
-use native.Mathlib.Nat.{lt-of-lt-of-le, div-mul-le-self, mul-assoc, add-mul, mod-eq-of-lt, mod-lt}
+use native.Mathlib.Nat.{lt-of-lt-of-le, div-mul-le-self, mul-assoc, add-mul, add-comm, max-eq-right, mod-eq-of-lt, mod-lt}
 use native.Mathlib.Numerals.{add-one, add-two}
 use native.Mathlib.Omega.{arith}
-use lib.Bits.{bitAnd, bitOr, or-shifted, and-mask}
+use lib.Bits.{bitAnd, bitOr, or-step, or-zero-r, or-block, or-lt, or-shifted, and-mask}
 use lib.ListN.{length, take, drop, getD, set, length-drop}
-use lib.Pow.{shl-lt, pow-mono, pow-add, pow-pos}
+use lib.Pow.{shl-lt, shl-shr, shr-shr, split, pow-lt, pow-mono, pow-add, pow-pos}
 use lib.Seq.{sets, sets-eq, length-take-le}
 use Rattle.bits.specs.Bits.{toBits, bits, field, put}
 use Rattle.bits.specs.Laws.Digits.{toBits-agree, toBits-append, toBits-value}
 use Rattle.bits.specs.Laws.Bytes.{AreBytes, length-bits, bits-append, take-bits, drop-bits}
-use Rattle.bits.specs.Laws.Puts.{put-number, put-part}
+use Rattle.bits.specs.Laws.Puts.{put-number, put-part, put-one}
 use Rattle.bits.specs.Steps.{IsByte, replace}
 use Rattle.bits.proofs.Joined.{joined, field-joined, byte-field, two-bytes, three-bytes}
 
@@ -31,6 +31,19 @@ replace-masked x w k v hw hx hv =
     let h64 : hi * 2 ^ top < 2 ^ 64 = omega (arith, div-mul-le-self x (2 ^ top)) in
     rw (mod-eq-of-lt h64, mod-eq-of-lt v64, or-shifted hi top (v * 2 ^ k) vl, put-above hi w k v, and-mask x k)
     (or-shifted (hi * 2 ^ w + v) k (x % 2 ^ k) (mod-lt x (pow-pos k)))
+
+or-one : (a : ℕ) → bitOr a 1 ≡ a / 2 * 2 + 1
+or-one a = or-step a 1 ∙ ap₂ (λ (x y : ℕ). x * 2 + y) (or-zero-r (a / 2)) (max-eq-right (omega arith))
+
+-- a number with one bit made a one
+replace-or : (x k : ℕ) → bitOr x (2 ^ k) ≡ replace x 1 k 1
+replace-or x k =
+    let hi : ℕ = x / 2 ^ k in
+    let one : 2 ^ k ≡ 1 * 2 ^ k + 0 = omega arith in
+    let half : hi / 2 ≡ x / 2 ^ (1 + k) = shr-shr x k 1 ∙ ap (λ (n : ℕ). x / 2 ^ n) (add-comm k 1) in
+    ap₂ bitOr (sym (split x k)) one
+    ∙ or-block k hi 1 (x % 2 ^ k) 0 (mod-lt x (pow-pos k)) (pow-pos k)
+    ∙ ap₂ (λ (a b : ℕ). a * 2 ^ k + b) (or-one hi ∙ ap (λ (n : ℕ). n * 2 + 1) half) (or-zero-r (x % 2 ^ k))
 
 -- ---- the bytes of a number
 
@@ -106,3 +119,20 @@ module _ (bytes : List ℕ) (start w k v x y : ℕ) (hb : AreBytes bytes) (hv : 
       rw (add-one (start / 8), add-two (start / 8))
       (write bytes (y / 2 ^ 16 % 256 ∷ y / 2 ^ 8 % 256 ∷ y % 256 ∷ []) start w k v x y h e hv
       (ex ∙ sym (field-joined bytes (start / 8) 3 hb ∙ ap (joined 0) (three-bytes bytes (start / 8) h))) ey (bits-three y))
+
+-- what an or of one bit into its byte leaves
+pub write-or : (bytes : List ℕ) (i : ℕ) → AreBytes bytes → i < 8 * length bytes
+    → bits (set bytes (i / 8) (bitOr (getD bytes (i / 8) 0) (128 / 2 ^ (i % 8)))) ≡ set (bits bytes) i true
+write-or bytes i hb h =
+    let f : ℕ = i / 8 in
+    let r : ℕ = i % 8 in
+    let k : ℕ = 7 - r in
+    let x : ℕ = getD bytes f 0 in
+    let y : ℕ = bitOr x (2 ^ k) in
+    let byte : IsByte bytes f x = record { inside = omega arith; same = refl; small = hb f } in
+    let all : k + r ≡ 7 = omega arith in
+    let mask : 128 / 2 ^ r ≡ 2 ^ k = ap (λ (n : ℕ). n / 2 ^ r) (sym (ap (_^_ 2) all) ∙ pow-add 2 k r) ∙ shl-shr (2 ^ k) r in
+    let small : y % 256 ≡ y = mod-eq-of-lt (or-lt 8 x (2 ^ k) (hb f) (pow-lt {j = 8} (omega arith))) in
+    ap (λ (n : ℕ). bits (set bytes f n)) (ap (bitOr x) mask ∙ sym small)
+    ∙ write-one i 1 k 1 y byte (omega arith) (omega arith) (replace-or x k)
+    ∙ put-one true (bits bytes) i (rw (length-bits bytes) h)

@@ -1,6 +1,6 @@
 // Bits and fields, read and written by shifts and masks at any starting bit. Here bits count from 0 for the first bit of the first byte.
 ghost use mathlib.Core.Path.{_≡_};
-ghost use mathlib.Core.Bool.{false};
+ghost use mathlib.Core.Bool.{true, false};
 ghost use Prim.Native.Nat.{_+_, _*_, _/_, _%_, _^_, _<_, _≤_};
 ghost use lib.ListN.{length, getD, set};
 ghost use Rattle.bits.specs.Bits.{bits, bit as bitOf, field, put};
@@ -122,6 +122,15 @@ pub fn write_bit(bytes: &mut [u8], index: usize, on: bool)
     let at = index / 8;
     let x = byte_at(bytes, at);
     bytes[at] = low_byte(replaced(x, 1, 7 - index % 8, bit(on)));
+}
+
+// The bit `index` becomes a one, and nothing else changes.
+pub fn set_bit(bytes: &mut [u8], index: usize)
+    requires { ⌜ index < 8 * length (now bytes) ⌝ }
+    ensures { λ _. ⌜ (bits (now (bytes .exit)) ≡ set (bits (now (bytes .entry))) index true) × (length (now (bytes .exit)) ≡ length (now (bytes .entry))) ⌝ }
+{
+    let at = index / 8;
+    bytes[at] = bytes[at] | (128 >> (index % 8));
 }
 
 // The field of 12 bits from bit `start` on becomes v, and nothing else changes.

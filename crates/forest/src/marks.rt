@@ -10,7 +10,7 @@ ghost use Rattle.forest.specs.Index.{sectionE, sectionP, sectionB, markB
 ghost use Rattle.forest.specs.Lows.{Lifting};
 ghost use Rattle.forest.specs.Marks.{childMarks, parentMarks, bridgeMarks, marked, DownBit, UpBit};
 use super::clear::clear;
-use bits::fields::write_bit;
+use bits::fields::set_bit;
 use record::cells::get;
 
 // The bit of the place by which vertex c was entered, in its parent's block.
@@ -37,7 +37,7 @@ fn mark_child(bytes: &[u8], n: usize, m: usize, work: &[u16], section: &mut [u8]
 {
     if 0 < get(work, 3 * n + c) {
         let d = down_bit(bytes, n, m, work, c);
-        write_bit(section, d, true);
+        set_bit(section, d);
     }
 }
 
@@ -48,7 +48,7 @@ fn mark_parent(bytes: &[u8], n: usize, m: usize, work: &[u16], section: &mut [u8
 {
     if 0 < get(work, 3 * n + c) {
         let u = up_bit(bytes, n, m, work, c);
-        write_bit(section, u, true);
+        set_bit(section, u);
     }
 }
 
@@ -57,8 +57,8 @@ fn mark_both(section: &mut [u8], a: usize, b: usize)
     requires { ⌜ (a < 8 * length (now section)) × (b < 8 * length (now section)) ⌝ }
     ensures { λ _. ⌜ (bits (now (section .exit)) ≡ set (set (bits (now (section .entry))) a true) b true) × (length (now (section .exit)) ≡ length (now (section .entry))) ⌝ }
 {
-    write_bit(section, a, true);
-    write_bit(section, b, true);
+    set_bit(section, a);
+    set_bit(section, b);
 }
 
 // B's marks of vertex c, at both ends: its lowpoint is its own visit number.

@@ -19,8 +19,8 @@ down-bit-requires c κs =
     let pre = c .before .before .before .before .before .pre in
     let e = c .before .get .ensures .0 in (pre .0, pre .1, omega arith)
 
-write-bit-requires : tie.Need-write-bit-requires
-write-bit-requires c κs =
+set-bit-requires : tie.Need-set-bit-requires
+set-bit-requires c κs =
     let pre = c .before .before .before .before .before .before .before .pre in
     child-room (pre .0) (pre .1) (pre .2) (c .before .down-bit .ensures)
 
@@ -30,7 +30,7 @@ same-length c = search needs
 returns : tie.Need-returns
 returns c =
     let pre = c .before .before .before .before .before .before .before .before .before .before .pre in
-    child-marked (pre .0) (pre .1) (pre .2) (c .before .before .before .before .down-bit .ensures) (λ j. c .slice-known2 .given j .fits) (c .before .before .write-bit .ensures .0)
+    child-marked (pre .0) (pre .1) (pre .2) (c .before .before .before .before .down-bit .ensures) (λ j. c .slice-known2 .given j .fits) (c .before .before .set-bit .ensures .0)
 
 returns-2 : tie.Need-returns-2
 returns-2 c =
@@ -45,7 +45,7 @@ mark-child-spec =
     add-get
     get-requires
     down-bit-requires
-    write-bit-requires
+    set-bit-requires
     same-length
     returns
     returns-2)
