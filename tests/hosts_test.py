@@ -10,8 +10,10 @@ import sys
 import tempfile
 from pathlib import Path
 
-from forest_vectors_test import SMALL, shapes
-from packing import SAMPLE, check, flipped, layout, record, told
+from forest_vectors_test import shapes
+from packing import SAMPLE, flipped, layout, record
+from plain import answer, check
+from shapes import FIXED
 
 ROOT = Path(__file__).resolve().parent.parent
 ARCHIVE = Path(os.environ.get("CELDUGA_ARCHIVE") or ROOT / "target/staticlib/libcapi.a").resolve()
@@ -150,11 +152,11 @@ def example_runs(program, data, output, status):
 
 def example_accepts(program):
     chance = random.Random(4096)
-    small = list(SMALL.values()) + [random_blocks(chance, n, n + extra) for n in range(2, 26) for extra in (-n // 2, 0, n // 3)]
+    small = list(FIXED.values()) + [random_blocks(chance, n, n + extra) for n in range(2, 26) for extra in (-n // 2, 0, n // 3)]
     # the head of 2, 3 and 4 is 3
     small.append([[3], [4, 3], [1, 2, 4], [3, 2]])
     for blocks in small:
-        demand(check(record(blocks)) == 0, f"the test has a record that is not accepted: {blocks}")
+        demand(answer(check, record(blocks))[0] == 0, f"the test has a record that is not accepted: {blocks}")
         example_runs(program, record(blocks), listing(sections(blocks)), 0)
 
 
@@ -173,7 +175,7 @@ def example_refuses(program):
         (1, b""),
         (1, sample[:3]),
         (2, b"\xff" * 4),
-        (2, layout(4097, 0, [], [])),
+        (2, layout(4097, 0, "", [])),
         (3, sample[:-1]),
         (3, sample + b"\0"),
         (3, b"\0" * 100000),
@@ -184,8 +186,8 @@ def example_refuses(program):
         (8, record([[2, 3], [1], [2]])),
     ]
     for refusal, data in refused:
-        demand(check(data) == refusal, f"the test has a record that is not refused with {refusal}")
-        example_runs(program, data, told(refusal, "") + "\n", 1)
+        demand(answer(check, data)[0] == refusal, f"the test has a record that is not refused with {refusal}")
+        example_runs(program, data, f"refused {refusal}\n", 1)
 
 
 def example(test, room):
