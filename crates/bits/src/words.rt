@@ -122,12 +122,22 @@ pub fn byte_ones(b: u64) -> usize
     ones_of(b)
 }
 
-// The ones of the 64 bits from byte `at` on.
+// The ones of the 64 bits from byte `at` on. Their order is no matter to a count: the first byte is the lowest here, which is the machine's own order.
 pub fn word_ones(bytes: &[u8], at: usize) -> usize
     requires { ⌜ at + 8 ≤ length (now bytes) ⌝ }
     ensures { λ r. ⌜ (r ≡ count (take 64 (drop (8 * at) (bits (now (bytes .entry)))))) × (r ≤ 64) ⌝ }
 {
-    ones_of(word(bytes, at))
+    let w = join8(
+        bytes[at + 7],
+        bytes[at + 6],
+        bytes[at + 5],
+        bytes[at + 4],
+        bytes[at + 3],
+        bytes[at + 2],
+        bytes[at + 1],
+        bytes[at],
+    );
+    ones_of(w)
 }
 
 // The ones of the n bits from byte `at` on, at most 64.

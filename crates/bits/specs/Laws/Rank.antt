@@ -1,7 +1,7 @@
--- Counting ones: in a number, in a field, and up to a place of a bit string.
+-- Counting ones: in a number, in a field, in bytes, and up to a place of a bit string.
 use mathlib.Core.Path.{_≡_, refl, sym, ap, ap₂, _∙_}
 use mathlib.Core.Bool.{Bool, true, false}
-use mathlib.Core.List.{List, [], _∷_, _++_}
+use mathlib.Core.List.{List, [], _∷_, _++_, reverse, reverseAux}
 use Prim.Native.Nat.{ℕ, _+_, _*_, _≤_, _<_}
 use native.Mathlib.Nat.{le-trans, min-le-left}
 use native.Mathlib.Omega.{arith}
@@ -10,7 +10,7 @@ use lib.Dec.{leb}
 use lib.Count.{ones, ones-cat}
 use lib.ListN.{length, take, drop, getD, length-take, length-drop, take-append-drop}
 use lib.Seq.{take-add, take-all, take-nil, take-take, length-take-le, getD-take, getD-drop}
-use Rattle.bits.specs.Bits.{bits, string, count, rank, bit, value, field}
+use Rattle.bits.specs.Bits.{toBits, bits, string, count, rank, bit, value, field}
 use Rattle.bits.specs.Laws.Digits.{value-lt}
 use Rattle.bits.specs.Laws.Bytes.{length-bits}
 
@@ -55,6 +55,21 @@ ones-value (b ∷ s) =
 pub ones-field : (w : ℕ) (s : List Bool) (start : ℕ) → ones (field w s start) ≡ count (take w (drop start s))
 unfolding field
 ones-field w s start = ones-value (take w (drop start s))
+
+-- ---- the ones of bytes, whose order is no matter
+
+count-byte : (b : ℕ) (bytes : List ℕ) → count (bits (b ∷ bytes)) ≡ count (toBits 8 b) + count (bits bytes)
+unfolding bits
+count-byte b bytes = count-append (toBits 8 b) (bits bytes)
+
+count-onto : (xs ys : List ℕ) → count (bits (reverseAux xs ys)) ≡ count (bits xs) + count (bits ys)
+unfolding bits count
+count-onto [] ys = omega arith
+count-onto (b ∷ xs) ys = count-onto xs (b ∷ ys) ∙ omega (arith, count-byte b xs, count-byte b ys)
+
+pub count-reverse : (bytes : List ℕ) → count (bits (reverse bytes)) ≡ count (bits bytes)
+unfolding bits count
+count-reverse bytes = omega (arith, count-onto bytes [])
 
 -- ---- a string that its bytes hold, and one that they don't
 
