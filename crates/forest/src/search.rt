@@ -144,7 +144,7 @@ fn busy(n: usize, i: usize, cur: usize) -> bool
     if 0 < cur { true } else { i < n }
 }
 
-// One step of the search.
+// One step of the search. What it tries, once the visited neighbours are passed over, is an unvisited one or the end of the block.
 fn step(
     bytes: &[u8],
     nbrs: &[u16],
