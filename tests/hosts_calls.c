@@ -1,4 +1,4 @@
-/* Prints what the helpers of celduga.h give, and what each call gives on the sample. It is both C99 and C++11. */
+/* Prints what the inline functions of celduga.h give, and what each call gives on the sample. It is both C99 and C++11. */
 #include <stdio.h>
 
 #include "celduga.h"
