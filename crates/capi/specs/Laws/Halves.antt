@@ -1,11 +1,13 @@
 -- What a C program reads in the two halves of a result.
 use mathlib.Core.Path.{_≡_}
+use mathlib.Core.Bool.{Bool, true, false}
 use Prim.Native.Nat.{ℕ, _/_, _%_, _<_}
 use native.Mathlib.Omega.{arith}
 use lib.IntN.{ℤ, pos, negsuc}
 use lib.Signed.{mag}
+use Rattle.bits.specs.Bits.{bit}
 use Rattle.record.specs.Answers.{Answer, refused, answered}
-use Rattle.capi.specs.Code.{code, itself, complement}
+use Rattle.capi.specs.Code.{code, nothing, itself, complement}
 
 -- the value of an answer, if it has one, is such a value
 pub data Valued {A : Type 0} (P : A → Type 0) : Answer A → Type 0 where
@@ -35,6 +37,26 @@ pub halves : {A : Type 0} {P : A → Type 0} (low : A → ℕ) → ((a : A) → 
 unfolding code refusal said
 halves low fits none = (omega arith, omega arith)
 halves low fits (value a h) = let k = fits a h in (omega arith, omega arith)
+
+-- for answers that tell nothing, or yes or no: any value fits
+module _ {A : Type 0} (low : A → ℕ) (fits : (a : A) → low a < 65536) where
+  always : (a : Answer A) → Valued (λ (x : A). low x < 65536) a
+  always (refused k) = none
+  always (answered x) = value x (fits x)
+
+  pub halves-always : (a : Answer A) → (code low a / 65536 ≡ refusal a) × (code low a % 65536 ≡ said low a)
+  halves-always a = halves low (λ x h. h) (always a)
+
+pub halves-nothing : (a : Answer (Unit {0})) → (code nothing a / 65536 ≡ refusal a) × (code nothing a % 65536 ≡ said nothing a)
+unfolding nothing
+halves-nothing = halves-always nothing (λ x. omega arith)
+
+pub halves-yes : (a : Answer Bool) → (code bit a / 65536 ≡ refusal a) × (code bit a % 65536 ≡ said bit a)
+halves-yes = halves-always bit fits
+  where
+    fits : (b : Bool) → bit b < 65536
+    fits true = omega arith
+    fits false = omega arith
 
 -- for numbers, and for the loop figure
 pub halves-number : {a : Answer ℕ} → Small a → (code itself a / 65536 ≡ refusal a) × (code itself a % 65536 ≡ said itself a)

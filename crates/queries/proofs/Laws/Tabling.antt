@@ -2,7 +2,7 @@
 use mathlib.Core.Path.{_≡_, sym, ap, subst, _∙_}
 use mathlib.Core.Logic.{inl, inr}
 use mathlib.Core.List.{List}
-use Prim.Native.Nat.{ℕ, suc, _+_, _-_, _≤_, _<_}
+use Prim.Native.Nat.{ℕ, suc, _+_, _-_, _*_, _≤_, _<_}
 use native.Mathlib.Decide.{decLt}
 use native.Mathlib.Numerals.{add-one}
 use native.Mathlib.Omega.{arith}
@@ -96,18 +96,28 @@ module _ {bytes index : List ℕ} {n m : ℕ} (r : Ready bytes index n m) where
   pub visit-cell : {v x : ℕ} → v < n → x ≡ numberOf n m index v → x + 1 ≡ suc (number (forest (blocks bytes)) v)
   visit-cell {v} h e = let q = shows .shows-numbers v (inside h) in omega arith
 
-  module _ {v a b : ℕ} (h : v < n) (ea : a ≡ getD (startsOf (unary bytes)) v 0) (eb : b ≡ getD (startsOf (unary bytes)) (v + 1) 0)
-      {c : ℕ} (ec : c ≡ count (take (b - a) (drop (a + v + 1) (sectionOf n m index 0)))) where
-    pub count-cell : c ≡ length (children (forest (blocks bytes)) v)
-    count-cell = children-counted index (ready-beside .sound) h ea eb ec ∙ count-shown formed covered shows v (inside h)
+  module _ {starts : List ℕ} {v a b : ℕ} (es : starts ≡ startsOf (unary bytes)) (h : v < n) (ga : a ≡ getD starts v 0) (gb : b ≡ getD starts (v + 1) 0) where
+    from : a ≡ getD (startsOf (unary bytes)) v 0
+    from = block-from ready-beside es h ga gb
 
-    pub count-small : c < 65536
-    count-small =
-        let (p, q) = block-bounds (ready-beside .sound) h ea eb in
-        let f = ready-beside .sound .m-fits in
-        let l = length-take (b - a) (drop (a + v + 1) (sectionOf n m index 0)) in
-        let k = count-le (take (b - a) (drop (a + v + 1) (sectionOf n m index 0))) in
-        omega arith
+    to : b ≡ getD (startsOf (unary bytes)) (v + 1) 0
+    to = block-to ready-beside es h ga gb
+
+    -- the block, by the numbers that the code reads
+    pub block-span : (a ≤ b) × (b ≤ 2 * m)
+    block-span = block-bounds (ready-beside .sound) h from to
+
+    module _ {c : ℕ} (ec : c ≡ count (take (b - a) (drop (a + v + 1) (sectionOf n m index 0)))) where
+      pub count-cell : c ≡ length (children (forest (blocks bytes)) v)
+      count-cell = children-counted index (ready-beside .sound) h from to ec ∙ count-shown formed covered shows v (inside h)
+
+      pub count-small : c < 65536
+      count-small =
+          let (p, q) = block-span in
+          let f = ready-beside .sound .m-fits in
+          let l = length-take (b - a) (drop (a + v + 1) (sectionOf n m index 0)) in
+          let k = count-le (take (b - a) (drop (a + v + 1) (sectionOf n m index 0))) in
+          omega arith
 
   -- ---- the order of visits
 

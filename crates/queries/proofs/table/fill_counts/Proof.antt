@@ -1,7 +1,6 @@
 -- `table::fill_counts` meets its contract.
-use Rattle.queries.proofs.Laws.Tabling.{cells-begin, cells-put, cells-end, apart-self, ready-beside, count-cell, count-small}
-use Rattle.queries.proofs.Laws.Climbing.{starts-long, block-from, block-to}
-use Rattle.queries.proofs.Laws.Stepping.{block-bounds}
+use Rattle.queries.proofs.Laws.Tabling.{cells-begin, cells-put, cells-end, apart-self, ready-beside, block-span, count-cell, count-small}
+use Rattle.queries.proofs.Laws.Climbing.{starts-long}
 use Rattle.queries.specs.Table.{Cells}
 use Rattle.graph.specs.Forest.{children}
 use Rattle.graph.specs.Search.{forest}
@@ -33,51 +32,42 @@ get-requires-2 c κs = let l = starts-long (ready-beside (c .before .before .bef
 
 add-count-children : tie.Need-add-count-children Inv-loop μ-loop
 add-count-children c =
-    let b = ready-beside (c .before .before .before .before .before .before .before .before .before .pre .0) in
+    let pre = c .before .before .before .before .before .before .before .before .before .pre in
     let t = c .before .before .before .loop-test .taken in
-    let ea = block-from b (c .before .before .before .before .before .before .before .before .before .pre .1) t (c .before .before .get .ensures .0) (c .before .get2 .ensures .0) in
-    let eb = block-to b (c .before .before .before .before .before .before .before .before .before .pre .1) t (c .before .before .get .ensures .0) (c .before .get2 .ensures .0) in
-    let (p, q) = block-bounds (b .sound) t ea eb in
-    let x = b .framed .n-fits in
-    let y = b .framed .m-fits in
+    let (p, q) = block-span (pre .0) (pre .1) t (c .before .before .get .ensures .0) (c .before .get2 .ensures .0) in
+    let f = ready-beside (pre .0) .framed in
+    let x = f .n-fits in
+    let y = f .m-fits in
     omega arith
 
 add-count-children-2 : tie.Need-add-count-children-2 Inv-loop μ-loop
 add-count-children-2 c =
-    let b = ready-beside (c .before .before .before .before .before .before .before .before .before .pre .0) in
+    let pre = c .before .before .before .before .before .before .before .before .before .pre in
     let t = c .before .before .before .loop-test .taken in
-    let ea = block-from b (c .before .before .before .before .before .before .before .before .before .pre .1) t (c .before .before .get .ensures .0) (c .before .get2 .ensures .0) in
-    let eb = block-to b (c .before .before .before .before .before .before .before .before .before .pre .1) t (c .before .before .get .ensures .0) (c .before .get2 .ensures .0) in
-    let (p, q) = block-bounds (b .sound) t ea eb in
-    let x = b .framed .n-fits in
-    let y = b .framed .m-fits in
+    let (p, q) = block-span (pre .0) (pre .1) t (c .before .before .get .ensures .0) (c .before .get2 .ensures .0) in
+    let f = ready-beside (pre .0) .framed in
+    let x = f .n-fits in
+    let y = f .m-fits in
     omega arith
 
 sub-count-children : tie.Need-sub-count-children Inv-loop μ-loop
 sub-count-children c =
-    let b = ready-beside (c .before .before .before .before .before .before .before .before .before .pre .0) in
-    let t = c .before .before .before .loop-test .taken in
-    let ea = block-from b (c .before .before .before .before .before .before .before .before .before .pre .1) t (c .before .before .get .ensures .0) (c .before .get2 .ensures .0) in
-    let eb = block-to b (c .before .before .before .before .before .before .before .before .before .pre .1) t (c .before .before .get .ensures .0) (c .before .get2 .ensures .0) in
-    block-bounds (b .sound) t ea eb .0
+    let pre = c .before .before .before .before .before .before .before .before .before .pre in
+    block-span (pre .0) (pre .1) (c .before .before .before .loop-test .taken) (c .before .before .get .ensures .0) (c .before .get2 .ensures .0) .0
 
 count-children-requires : tie.Need-count-children-requires Inv-loop μ-loop
 count-children-requires c κs =
-    let b = ready-beside (c .before .before .before .before .before .before .before .before .before .pre .0) in
+    let pre = c .before .before .before .before .before .before .before .before .before .pre in
     let t = c .before .before .before .loop-test .taken in
-    let ea = block-from b (c .before .before .before .before .before .before .before .before .before .pre .1) t (c .before .before .get .ensures .0) (c .before .get2 .ensures .0) in
-    let eb = block-to b (c .before .before .before .before .before .before .before .before .before .pre .1) t (c .before .before .get .ensures .0) (c .before .get2 .ensures .0) in
-    let (p, q) = block-bounds (b .sound) t ea eb in
-    (b .framed, omega arith)
+    let (p, q) = block-span (pre .0) (pre .1) t (c .before .before .get .ensures .0) (c .before .get2 .ensures .0) in
+    (ready-beside (pre .0) .framed, omega arith)
 
 put-requires : tie.Need-put-requires Inv-loop μ-loop
 put-requires c κs =
-    let b = ready-beside (c .before .before .before .before .before .before .before .before .before .before .pre .0) in
+    let pre = c .before .before .before .before .before .before .before .before .before .before .pre in
     let t = c .before .before .before .before .loop-test .taken in
-    let ea = block-from b (c .before .before .before .before .before .before .before .before .before .before .pre .1) t (c .before .before .before .get .ensures .0) (c .before .before .get2 .ensures .0) in
-    let eb = block-to b (c .before .before .before .before .before .before .before .before .before .before .pre .1) t (c .before .before .before .get .ensures .0) (c .before .before .get2 .ensures .0) in
     let s = c .before .before .before .before .before .loop .inv .size in
-    (omega arith, count-small (c .before .before .before .before .before .before .before .before .before .before .pre .0) t ea eb (c .count-children .ensures))
+    (omega arith, count-small (pre .0) (pre .1) t (c .before .before .before .get .ensures .0) (c .before .before .get2 .ensures .0) (c .count-children .ensures))
 
 add-v : tie.Need-add-v Inv-loop μ-loop
 add-v c = let f = ready-beside (c .before .before .before .before .before .before .before .before .before .before .before .before .before .pre .0) .framed .n-fits in let t = c .before .before .before .before .before .before .before .loop-test .taken in omega arith
@@ -87,11 +77,10 @@ loop-less c = let t = c .before .before .before .before .before .before .before 
 
 loop-again : tie.Need-loop-again Inv-loop μ-loop
 loop-again c =
-    let b = ready-beside (c .before .before .before .before .before .before .before .before .before .before .before .before .before .pre .0) in
+    let pre = c .before .before .before .before .before .before .before .before .before .before .before .before .before .pre in
     let t = c .before .before .before .before .before .before .before .loop-test .taken in
-    let ea = block-from b (c .before .before .before .before .before .before .before .before .before .before .before .before .before .pre .1) t (c .before .before .before .before .before .before .get .ensures .0) (c .before .before .before .before .before .get2 .ensures .0) in
-    let eb = block-to b (c .before .before .before .before .before .before .before .before .before .before .before .before .before .pre .1) t (c .before .before .before .before .before .before .get .ensures .0) (c .before .before .before .before .before .get2 .ensures .0) in
-    cells-put (c .before .before .before .before .before .before .before .before .loop .inv) apart-self refl t (count-cell (c .before .before .before .before .before .before .before .before .before .before .before .before .before .pre .0) t ea eb (c .before .before .before .count-children .ensures)) (c .before .before .put .ensures)
+    let e = count-cell (pre .0) (pre .1) t (c .before .before .before .before .before .before .get .ensures .0) (c .before .before .before .before .before .get2 .ensures .0) (c .before .before .before .count-children .ensures) in
+    cells-put (c .before .before .before .before .before .before .before .before .loop .inv) apart-self refl t e (c .before .before .put .ensures)
 
 same-length : tie.Need-same-length Inv-loop μ-loop
 same-length c = c .before .loop .inv .size ∙ sym (c .before .before .before .before .before .before .pre .2)
