@@ -5,8 +5,9 @@ ghost use lib.Signed.{mag};
 ghost use Rattle.bits.specs.Bits.{bit};
 ghost use Rattle.record.specs.Answers.{number, verdict, counted, figure};
 ghost use Rattle.queries.specs.Answers.{above, terminal, related, numbered};
+ghost use Rattle.queries.specs.Queries.{orZero};
 ghost use Rattle.capi.specs.Code.{code, nothing, itself, complement};
-ghost use Rattle.capi.specs.Laws.Halves.{Small, Short};
+ghost use Rattle.capi.specs.Laws.Halves.{Small, SmallParent, Short};
 use queries::Above;
 use queries::Found;
 use queries::Numbered;
@@ -51,8 +52,8 @@ pub fn of_counted(a: Counted) -> u32
 }
 
 pub fn of_above(a: Above) -> u32
-    requires { ⌜ Small (above a) ⌝ }
-    ensures { λ r. ⌜ r ≡ code itself (above a) ⌝ }
+    requires { ⌜ SmallParent (above a) ⌝ }
+    ensures { λ r. ⌜ r ≡ code orZero (above a) ⌝ }
 {
     match a {
         Above::Root => 0,

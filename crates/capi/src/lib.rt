@@ -4,6 +4,7 @@ ghost use mathlib.Core.Path.{_≡_};
 ghost use Rattle.bits.specs.Bits.{bit, string, rank, select};
 ghost use Rattle.record.specs.Operations.{check, degree, unpack, unpacked, loopFigure};
 ghost use Rattle.forest.specs.Operations.{build, built};
+ghost use Rattle.queries.specs.Queries.{orZero};
 ghost use Rattle.queries.specs.Operations.{parent, head, ancestor, children, child, visit, visited};
 ghost use Rattle.capi.specs.Code.{code, nothing, itself, complement};
 use forest::Dfi;
@@ -52,7 +53,7 @@ pub extern "C" fn celduga_build(bytes: &[u8], work: &mut [u16], index: &mut [u8]
 
 #[no_mangle]
 pub extern "C" fn celduga_parent(bytes: &[u8], index: &[u8], v: usize) -> u32
-    ensures { λ r. ⌜ r ≡ code itself (parent (now (bytes .entry)) (now (index .entry)) v) ⌝ }
+    ensures { λ r. ⌜ r ≡ code orZero (parent (now (bytes .entry)) (now (index .entry)) v) ⌝ }
 {
     codes::of_above(queries::parent(bytes, index, Vertex(v)))
 }

@@ -1,4 +1,5 @@
 -- Laws about the index.
 pub mod Sections
+pub mod Starts
 pub mod Marking
 pub mod Bytes

@@ -1,4 +1,4 @@
-// The index of an accepted record: its length, and its sections written one after the other.
+// The index of an accepted record: its sections, written one after the other.
 ghost use mathlib.Core.Path.{_≡_};
 ghost use Prim.Native.Nat.{_+_, _*_, _≤_, _<_};
 ghost use lib.ListN.{length};
@@ -8,22 +8,6 @@ ghost use Rattle.record.specs.Operations.{Accepted};
 ghost use Rattle.forest.specs.Index.{indexOf, markBytes, numberBytes, indexLength};
 ghost use Rattle.forest.specs.Lows.{Lifting};
 ghost use Rattle.forest.specs.Fronts.{Begins, upToE, upToP, upToB};
-
-// The bytes of a section of marks.
-pub fn mark_bytes(n: usize, m: usize) -> usize
-    requires { ⌜ (n ≤ 4096) × (m ≤ 16384) ⌝ }
-    ensures { λ r. ⌜ (r ≡ markBytes n m) × (r ≤ 4608) ⌝ }
-{
-    (n + 2 * m + 7) / 8
-}
-
-// The bytes of the index.
-pub fn index_length(n: usize, m: usize) -> usize
-    requires { ⌜ (n ≤ 4096) × (m ≤ 16384) ⌝ }
-    ensures { λ r. ⌜ r ≡ indexLength n m ⌝ }
-{
-    3 * mark_bytes(n, m) + (12 * n + 7) / 8
-}
 
 // Section E, in the front of the buffer.
 fn write_e(bytes: &[u8], n: usize, m: usize, work: &[u16], index: &mut [u8], k: usize)
@@ -62,7 +46,7 @@ fn write_sections(bytes: &[u8], n: usize, m: usize, work: &[u16], index: &mut [u
     requires { ⌜ (Lifting (now bytes) (now work) n m 0) × (length (now index) ≡ indexLength n m) ⌝ }
     ensures { λ _. ⌜ now (index .exit) ≡ indexOf (blocks (now (bytes .entry))) ⌝ }
 {
-    let k = mark_bytes(n, m);
+    let k = super::lengths::mark_bytes(n, m);
     write_e(bytes, n, m, work, index, k);
     write_p(bytes, n, m, work, index, k);
     write_b(bytes, n, m, work, index, k);

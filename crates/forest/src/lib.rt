@@ -12,7 +12,8 @@ mod search; // search.rt: the depth-first search
 mod lows; // lows.rt: lowpoints
 mod marks; // marks.rt: the sections of marks
 mod numbers; // numbers.rt: the section of the visit numbers
-pub mod index; // index.rt: the sections in order
+mod index; // index.rt: the sections in order
+pub mod lengths; // lengths.rt: the lengths of a section and of the index
 
 // A visit number, from 1: the paper's depth-first index.
 pub struct Dfi(pub usize);
@@ -30,7 +31,7 @@ pub fn build(bytes: &[u8], work: &mut [u16], index: &mut [u8]) -> Verdict
             if work.len() < 8 * n {
                 return Verdict::Refused(Refusal::ShortWork);
             }
-            if index.len() != index::index_length(n, m) {
+            if index.len() != lengths::index_length(n, m) {
                 return Verdict::Refused(Refusal::WrongBuffer);
             }
             if n == 0 {

@@ -85,7 +85,7 @@ fn with_index(bytes: &[u8], n: usize, m: usize)
     let mut work = [0u16; 32768];
     let mut index = [0u8; 19968];
     let cells = 8 * n;
-    let size = forest::index::index_length(n, m);
+    let size = forest::lengths::index_length(n, m);
     build(bytes, n, m, &mut work[..cells], &mut index[..size]);
 }
 

@@ -1,5 +1,6 @@
 -- Document 01's number for each named case of the queries' answers.
 use mathlib.Core.Bool.{Bool, true, false}
+use mathlib.Core.Option.{Option, none, some}
 use Prim.Native.Nat.{ℕ}
 use Rattle.record.specs.Answers.{Answer, refused, answered, number}
 use Rattle.queries.specs.declared.Above.{Above}
@@ -11,10 +12,10 @@ use Rattle.queries.specs.declared.Related.the-variants as Related
 use Rattle.queries.specs.declared.Numbered.{Numbered}
 use Rattle.queries.specs.declared.Numbered.the-variants as Numbered
 
--- a parent, 0 for none
-abbrev pub above : Above → Answer ℕ
-above Above.Root = answered 0
-above (Above.Parent v) = answered (v .0)
+-- a parent, or none; document 01's number is `orZero` of it
+abbrev pub above : Above → Answer (Option ℕ)
+above Above.Root = answered none
+above (Above.Parent v) = answered (some (v .0))
 above (Above.Refused r) = refused (number r)
 
 -- a terminal

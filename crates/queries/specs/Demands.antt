@@ -19,18 +19,18 @@ use Rattle.graph.specs.Laws.Joined.Spanning.{Covers}
 use Rattle.record.specs.Record.{terminals, blocks}
 use Rattle.record.specs.Rules.{Rule, firstBroken}
 use Rattle.record.specs.Answers.{Answer, answered, triedThen}
-use Rattle.record.specs.Operations.{Accepted, noTerminal}
+use Rattle.record.specs.Operations.{Accepted, outOfRange}
 use Rattle.record.specs.Laws.First.{first-kept, both-kept, check-numbered}
-use Rattle.record.proofs.Laws.Reading.OneBlock.{inside-some}
-use Rattle.record.proofs.Laws.Telling.Told.{untold-back, buffer-written}
+use Rattle.record.specs.Laws.Range.{inside-range}
+use Rattle.record.specs.Laws.Told.{untold-back, buffer-written}
 use Rattle.forest.specs.Index.{indexOf}
 use Rattle.forest.specs.Operations.{buildRules, build, built}
 use Rattle.queries.specs.View.{viewOf}
-use Rattle.queries.specs.Queries.{childCount}
+use Rattle.queries.specs.Queries.{childCount, unlessZero}
 use Rattle.queries.specs.Operations.{orderQ, parent, head, ancestorRules, ancestor, children, noChild, childRules, child, visit, visited}
 use Rattle.queries.specs.Laws.Shown.{Shows, parent-shown, head-shown, ancestor-shown, count-shown, child-shown, visit-shown, visited-shown}
 use Rattle.queries.specs.Laws.Answered.{same-answer, passes, same-suc, wf, cover, shown, passed, further, vertex, E-at, P-at, B-at, B-there}
-use Rattle.queries.specs.Laws.Built.{accepted-sound, as-many}
+use Rattle.queries.specs.Laws.Built.{as-many}
 
 -- the record is accepted, and the index is the one that Build writes for it
 pub record Written (bytes index : List ℕ) : Type 0 where
@@ -109,8 +109,8 @@ module _ {bytes index : List ℕ} (w : Written bytes index) where
 
   -- ---- Demand 2: every query gives what the forest gives, and none gives 12
 
-  -- Parent: the parent, or 0 for a root
-  pub parent-told : {v : ℕ} → Terminal bytes v → parent bytes index v ≡ answered (parentIn F (v - 1))
+  -- Parent: the parent, none for a root
+  pub parent-told : {v : ℕ} → Terminal bytes v → parent bytes index v ≡ answered (unlessZero (parentIn F (v - 1)))
   unfolding parent
   parent-told {v} t = asked t (parent-shown graph-formed covered view-shows (v - 1) (vertex-of t))
 
@@ -169,9 +169,9 @@ module _ {bytes index : List ℕ} (w : Written bytes index) where
   pub ancestor-answered : {u v : ℕ} → Terminal bytes u → Terminal bytes v → ancestor bytes index u v ≡ answered (ancestorIn F (u - 1) (v - 1))
   unfolding ancestor ancestorRules firstBroken
   ancestor-answered {u} {v} t r =
-      let k : firstBroken ((11, noTerminal bytes v) ∷ []) ≡ 0 =
-      first-kept 11 [] (inside-some (accepted-sound (w .accepted)) v (λ z. (let s = r .some in omega arith)) (r .upto)) in
-      asked-further t ((11, noTerminal bytes v) ∷ []) k (ancestor-shown graph-formed covered view-shows (u - 1) (v - 1) (vertex-of r))
+      let k : firstBroken ((11, outOfRange (terminals bytes) v) ∷ []) ≡ 0 =
+      first-kept 11 [] (inside-range (terminals bytes) v (r .some) (r .upto)) in
+      asked-further t ((11, outOfRange (terminals bytes) v) ∷ []) k (ancestor-shown graph-formed covered view-shows (u - 1) (v - 1) (vertex-of r))
 
   pub ancestor-relation : (u v : ℕ) → Terminal bytes v → (ancestorIn F (u - 1) (v - 1) ≡ true) ↔ Ancestor F (u - 1) (v - 1)
   ancestor-relation u v r = ancestor-told (graph-formed .in-range) covered (u - 1) (v - 1) (vertex-of r)

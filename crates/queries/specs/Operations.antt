@@ -1,21 +1,26 @@
 -- What the queries answer for every record, index and number: order Q, their own rules, and then what the view gives.
 use mathlib.Core.Bool.{Bool, _||_}
 use mathlib.Core.List.{List, [], _∷_, _++_}
+use mathlib.Core.Option.{Option}
 use Prim.Native.Nat.{ℕ, _-_}
 use lib.Dec.{eqb, ltb}
 use Rattle.record.specs.Record.{terminals, wires}
 use Rattle.record.specs.Rules.{Rule, orderR}
 use Rattle.record.specs.Answers.{Answer, answered, triedThen}
-use Rattle.record.specs.Operations.{otherLength, noTerminal}
+use Rattle.record.specs.Operations.{otherLength, outOfRange}
 use Rattle.forest.specs.Index.{indexLength}
 use Rattle.queries.specs.View.{viewOf}
 use Rattle.queries.specs.Queries.{parentOf, headOf, ancestorOf, childCount, childOf, visitOf, visitedOf}
 
--- order Q: order R, then 10 and 11
+-- order Q: order R, then 10, then 11 for a number that counts from 1, a terminal's or a visit's
 unfoldable pub orderQ : List ℕ → List ℕ → ℕ → List Rule
-orderQ bytes index v = orderR bytes ++ ((10, otherLength index (indexLength (terminals bytes) (wires bytes))) ∷ (11, noTerminal bytes v) ∷ [])
+orderQ bytes index k =
+    orderR bytes
+    ++ ((10, otherLength index (indexLength (terminals bytes) (wires bytes)))
+    ∷ (11, outOfRange (terminals bytes) k)
+    ∷ [])
 
-unfoldable pub parent : List ℕ → List ℕ → ℕ → Answer ℕ
+unfoldable pub parent : List ℕ → List ℕ → ℕ → Answer (Option ℕ)
 parent bytes index v = triedThen (orderQ bytes index v) (parentOf (viewOf bytes index) (v - 1))
 
 unfoldable pub head : List ℕ → List ℕ → ℕ → Answer ℕ
@@ -23,7 +28,7 @@ head bytes index v = triedThen (orderQ bytes index v) (headOf (viewOf bytes inde
 
 -- whether u is v or above it: order Q for u, then 11 for v
 unfoldable pub ancestorRules : List ℕ → List ℕ → ℕ → ℕ → List Rule
-ancestorRules bytes index u v = orderQ bytes index u ++ ((11, noTerminal bytes v) ∷ [])
+ancestorRules bytes index u v = orderQ bytes index u ++ ((11, outOfRange (terminals bytes) v) ∷ [])
 
 unfoldable pub ancestor : List ℕ → List ℕ → ℕ → ℕ → Answer Bool
 ancestor bytes index u v = triedThen (ancestorRules bytes index u v) (ancestorOf (viewOf bytes index) (u - 1) (v - 1))
@@ -44,6 +49,6 @@ child bytes index v j = triedThen (childRules bytes index v j) (childOf (viewOf 
 unfoldable pub visit : List ℕ → List ℕ → ℕ → Answer ℕ
 visit bytes index v = triedThen (orderQ bytes index v) (visitOf (viewOf bytes index) (v - 1))
 
--- i is a visit number; 11 is tried for it as for a terminal
+-- i is a visit number
 unfoldable pub visited : List ℕ → List ℕ → ℕ → Answer ℕ
 visited bytes index i = triedThen (orderQ bytes index i) (visitedOf (viewOf bytes index) (i - 1))

@@ -3,6 +3,7 @@
 use mathlib.Core.Bool.{Bool, true, false}
 use mathlib.Core.List.{List, map}
 use mathlib.Core.Logic.{_⊎_, inl, inr}
+use mathlib.Core.Option.{Option, none, some}
 use Prim.Native.Nat.{ℕ, zero, suc, _-_}
 use lib.Dec.{eqb, ltb}
 use lib.ListN.{length, getD}
@@ -31,13 +32,22 @@ stepUp g marks u = stepBy g u (count (marks u)) (select (marks u) 1 - 1)
 
 -- ---- Parent
 
--- the parent, 0 for a root
-abbrev pub parentBy : Step → Answer ℕ
+-- the parent, none for a root
+abbrev pub parentBy : Step → Answer (Option ℕ)
 parentBy stuck = refused 12
-parentBy top = answered 0
-parentBy (rise j p) = answered (suc p)
+parentBy top = answered none
+parentBy (rise j p) = answered (some (suc p))
 
-unfoldable pub parentOf : View → ℕ → Answer ℕ
+-- document 01's number of a parent, which is 0 for a root; and the other way round
+abbrev pub orZero : Option ℕ → ℕ
+orZero none = 0
+orZero (some v) = v
+
+abbrev pub unlessZero : ℕ → Option ℕ
+unlessZero zero = none
+unlessZero (suc v) = some (suc v)
+
+unfoldable pub parentOf : View → ℕ → Answer (Option ℕ)
 parentOf w u = parentBy (stepUp (w .graph) (w .marksP) u)
 
 -- ---- Head: at a root, or where the marked place is also marked in B, stop; otherwise go to the parent

@@ -3,7 +3,7 @@ use mathlib.Core.Path.{_≡_}
 use mathlib.Core.Bool.{Bool, true, false}
 use mathlib.Core.List.{List}
 use mathlib.Core.Logic.{_⊎_, inl, inr}
-use Prim.Native.Nat.{ℕ, suc, _≤_}
+use Prim.Native.Nat.{ℕ, suc, _≤_, _<_}
 use lib.ListN.{length}
 use Rattle.record.specs.Answers.{Answer, refused, answered}
 use Rattle.record.specs.Steps.{Sound}
@@ -26,6 +26,11 @@ pub record Framed (index : List ℕ) (n m : ℕ) : Type 0 where
 pub record Beside (bytes index : List ℕ) (n m : ℕ) : Type 0 where
   pub sound : Sound bytes n m
   pub framed : Framed index n m
+
+-- a number that counts from 1 is not above n
+pub record Ranged (n k : ℕ) : Type 0 where
+  pub some : 0 < k
+  pub upto : k ≤ n
 
 -- a step, as the definitions name it
 abbrev pub stepOf : Step → Queries.Step

@@ -7,13 +7,14 @@ use Rattle.graph.specs.Search.{forest}
 use Rattle.graph.specs.Forest.{vertexAt, parent as parentIn, head as headIn}
 use Rattle.record.specs.Record.{terminals, wires, blocks}
 use Rattle.record.specs.Answers.{answered}
+use Rattle.queries.specs.Queries.{unlessZero}
 use Rattle.queries.specs.Operations.{parent, head, children, visit}
 use Rattle.queries.specs.Demands.{Written, Terminal}
 
 -- each terminal's cell is what the query answers
 pub record Tabled (bytes index visits parents counts heads : List ℕ) : Type 0 where
   pub visits-are : {v : ℕ} → Terminal bytes v → visit bytes index v ≡ answered (getD visits (v - 1) 0)
-  pub parents-are : {v : ℕ} → Terminal bytes v → parent bytes index v ≡ answered (getD parents (v - 1) 0)
+  pub parents-are : {v : ℕ} → Terminal bytes v → parent bytes index v ≡ answered (unlessZero (getD parents (v - 1) 0))
   pub counts-are : {v : ℕ} → Terminal bytes v → children bytes index v ≡ answered (getD counts (v - 1) 0)
   pub heads-are : {v : ℕ} → Terminal bytes v → head bytes index v ≡ answered (getD heads (v - 1) 0)
 

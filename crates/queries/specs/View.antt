@@ -3,10 +3,10 @@
 use mathlib.Core.Bool.{Bool}
 use mathlib.Core.List.{List}
 use Prim.Native.Nat.{ℕ, suc, _+_, _*_}
-use lib.ListN.{length, take, drop}
-use Rattle.bits.specs.Bits.{bits, string, select, field}
+use lib.ListN.{length, take, drop, getD}
+use Rattle.bits.specs.Bits.{bits, string, select}
 use Rattle.graph.specs.Graph.{Blocks, block}
-use Rattle.record.specs.Record.{terminals, wires, unary, blocks}
+use Rattle.record.specs.Record.{terminals, wires, unary, fieldsFrom, blocks}
 use Rattle.forest.specs.Index.{markBytes}
 
 -- vertices count from 0
@@ -25,9 +25,9 @@ blockMarks bytes s u = take (length (block (blocks bytes) u)) (drop (select (una
 unfoldable pub sectionOf : ℕ → ℕ → List ℕ → ℕ → List Bool
 sectionOf n m index k = string index (8 * (k * markBytes n m)) (n + 2 * m)
 
--- the number stored for u
+-- the number stored for u, one of the n fields behind the marks
 unfoldable pub numberOf : ℕ → ℕ → List ℕ → ℕ → ℕ
-numberOf n m index u = field 12 (bits index) (8 * (3 * markBytes n m) + 12 * u)
+numberOf n m index u = getD (fieldsFrom (bits index) (8 * (3 * markBytes n m)) n) u 0
 
 -- document 01's layout, for a record of n terminals and m wires
 abbrev pub viewBy : ℕ → ℕ → List ℕ → List ℕ → View

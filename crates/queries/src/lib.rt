@@ -9,6 +9,7 @@ use record::Counted;
 use record::Refusal;
 use record::Shape;
 use record::Vertex;
+use record::range::out_of_range;
 
 mod order; // order.rt: order Q
 mod marks; // marks.rt: a mark of each kind, a stored number
@@ -47,13 +48,12 @@ pub enum Numbered {
 pub fn parent(bytes: &[u8], index: &[u8], v: Vertex) -> Above
     ensures { λ r. ⌜ above r ≡ parentOf (now (bytes .entry)) (now (index .entry)) (v .0) ⌝ }
 {
-    let t = v.0;
-    match order::order_q(bytes, index, t) {
+    match order::order_q(bytes, index, v.0) {
         Shape::Refused(r) => Above::Refused(r),
         Shape::Passed(s) => {
             let n = s.n;
             let m = s.m;
-            single::parent_in(bytes, index, n, m, t - 1)
+            single::parent_in(bytes, index, n, m, v)
         }
     }
 }
@@ -62,13 +62,12 @@ pub fn parent(bytes: &[u8], index: &[u8], v: Vertex) -> Above
 pub fn head(bytes: &[u8], index: &[u8], v: Vertex) -> Found
     ensures { λ r. ⌜ terminal r ≡ headOf (now (bytes .entry)) (now (index .entry)) (v .0) ⌝ }
 {
-    let t = v.0;
-    match order::order_q(bytes, index, t) {
+    match order::order_q(bytes, index, v.0) {
         Shape::Refused(r) => Found::Refused(r),
         Shape::Passed(s) => {
             let n = s.n;
             let m = s.m;
-            ascents::head_in(bytes, index, n, m, t - 1)
+            ascents::head_in(bytes, index, n, m, v)
         }
     }
 }
@@ -77,20 +76,15 @@ pub fn head(bytes: &[u8], index: &[u8], v: Vertex) -> Found
 pub fn ancestor(bytes: &[u8], index: &[u8], u: Vertex, v: Vertex) -> Related
     ensures { λ r. ⌜ related r ≡ ancestorOf (now (bytes .entry)) (now (index .entry)) (u .0) (v .0) ⌝ }
 {
-    let x = u.0;
-    let t = v.0;
-    match order::order_q(bytes, index, x) {
+    match order::order_q(bytes, index, u.0) {
         Shape::Refused(r) => Related::Refused(r),
         Shape::Passed(s) => {
             let n = s.n;
             let m = s.m;
-            if t == 0 {
+            if out_of_range(n, v.0) {
                 return Related::Refused(Refusal::NoTerminal);
             }
-            if n < t {
-                return Related::Refused(Refusal::NoTerminal);
-            }
-            ascents::ancestor_in(bytes, index, n, m, x - 1, t - 1)
+            ascents::ancestor_in(bytes, index, n, m, u, v)
         }
     }
 }
@@ -99,13 +93,12 @@ pub fn ancestor(bytes: &[u8], index: &[u8], u: Vertex, v: Vertex) -> Related
 pub fn children(bytes: &[u8], index: &[u8], v: Vertex) -> Counted
     ensures { λ r. ⌜ counted r ≡ childrenOf (now (bytes .entry)) (now (index .entry)) (v .0) ⌝ }
 {
-    let t = v.0;
-    match order::order_q(bytes, index, t) {
+    match order::order_q(bytes, index, v.0) {
         Shape::Refused(r) => Counted::Refused(r),
         Shape::Passed(s) => {
             let n = s.n;
             let m = s.m;
-            Counted::Count(single::children_in(bytes, index, n, m, t - 1))
+            Counted::Count(single::children_in(bytes, index, n, m, v))
         }
     }
 }
@@ -114,13 +107,12 @@ pub fn children(bytes: &[u8], index: &[u8], v: Vertex) -> Counted
 pub fn child(bytes: &[u8], index: &[u8], v: Vertex, j: usize) -> Found
     ensures { λ r. ⌜ terminal r ≡ childOf (now (bytes .entry)) (now (index .entry)) (v .0) j ⌝ }
 {
-    let t = v.0;
-    match order::order_q(bytes, index, t) {
+    match order::order_q(bytes, index, v.0) {
         Shape::Refused(r) => Found::Refused(r),
         Shape::Passed(s) => {
             let n = s.n;
             let m = s.m;
-            single::child_in(bytes, index, n, m, t - 1, j)
+            single::child_in(bytes, index, n, m, v, j)
         }
     }
 }
@@ -129,13 +121,12 @@ pub fn child(bytes: &[u8], index: &[u8], v: Vertex, j: usize) -> Found
 pub fn visit(bytes: &[u8], index: &[u8], v: Vertex) -> Numbered
     ensures { λ r. ⌜ numbered r ≡ visitOf (now (bytes .entry)) (now (index .entry)) (v .0) ⌝ }
 {
-    let t = v.0;
-    match order::order_q(bytes, index, t) {
+    match order::order_q(bytes, index, v.0) {
         Shape::Refused(r) => Numbered::Refused(r),
         Shape::Passed(s) => {
             let n = s.n;
             let m = s.m;
-            visits::visit_in(bytes, index, n, m, t - 1)
+            visits::visit_in(bytes, index, n, m, v)
         }
     }
 }
@@ -144,13 +135,12 @@ pub fn visit(bytes: &[u8], index: &[u8], v: Vertex) -> Numbered
 pub fn visited(bytes: &[u8], index: &[u8], i: Dfi) -> Found
     ensures { λ r. ⌜ terminal r ≡ visitedOf (now (bytes .entry)) (now (index .entry)) (i .0) ⌝ }
 {
-    let t = i.0;
-    match order::order_q(bytes, index, t) {
+    match order::order_q(bytes, index, i.0) {
         Shape::Refused(r) => Found::Refused(r),
         Shape::Passed(s) => {
             let n = s.n;
             let m = s.m;
-            visits::visited_in(bytes, index, n, m, t - 1)
+            visits::visited_in(bytes, index, n, m, i)
         }
     }
 }

@@ -6,7 +6,7 @@ ghost use lib.ListN.{length, getD};
 ghost use Rattle.bits.specs.Bits.{string};
 ghost use Rattle.queries.specs.View.{sectionOf, numberOf};
 ghost use Rattle.queries.specs.Steps.{Framed};
-use forest::index::mark_bytes;
+use forest::lengths::mark_bytes;
 
 // Bit `bit` of the section that starts at byte `at`.
 fn mark(index: &[u8], n: usize, m: usize, at: usize, bit: usize) -> bool

@@ -5,23 +5,21 @@ ghost use Rattle.queries.specs.Operations.{orderQ};
 use record::Refusal;
 use record::Shape;
 use record::Sizes;
+use record::range::out_of_range;
 
-// Order Q, with n and m handed on.
-pub fn order_q(bytes: &[u8], index: &[u8], v: usize) -> Shape
-    ensures { λ r. ⌜ shape r ≡ tried (orderQ (now (bytes .entry)) (now (index .entry)) v) (sizesOf (now (bytes .entry))) ⌝ }
+// Order Q, with n and m handed on. The number k, from 1, is that of a terminal or of a visit: its range is the same.
+pub fn order_q(bytes: &[u8], index: &[u8], k: usize) -> Shape
+    ensures { λ r. ⌜ shape r ≡ tried (orderQ (now (bytes .entry)) (now (index .entry)) k) (sizesOf (now (bytes .entry))) ⌝ }
 {
     match record::header::order_r(bytes) {
         Shape::Refused(r) => Shape::Refused(r),
         Shape::Passed(s) => {
             let n = s.n;
             let m = s.m;
-            if index.len() != forest::index::index_length(n, m) {
+            if index.len() != forest::lengths::index_length(n, m) {
                 return Shape::Refused(Refusal::WrongBuffer);
             }
-            if v == 0 {
-                return Shape::Refused(Refusal::NoTerminal);
-            }
-            if n < v {
+            if out_of_range(n, k) {
                 return Shape::Refused(Refusal::NoTerminal);
             }
             Shape::Passed(Sizes { n, m })

@@ -1,14 +1,14 @@
-// Questions about the block of one vertex u.
+// Questions about the block of one terminal.
 ghost use mathlib.Core.Path.{_≡_};
 ghost use mathlib.Core.Bool.{_||_};
 ghost use mathlib.Core.List.{[], _∷_};
-ghost use Prim.Native.Nat.{_<_};
+ghost use Prim.Native.Nat.{_-_};
 ghost use lib.Dec.{eqb, ltb};
 ghost use Rattle.record.specs.Answers.{triedThen};
 ghost use Rattle.queries.specs.View.{viewBy};
 ghost use Rattle.queries.specs.Queries.{parentOf, childCount, childOf};
 ghost use Rattle.queries.specs.Answers.{above, terminal};
-ghost use Rattle.queries.specs.Steps.{Beside};
+ghost use Rattle.queries.specs.Steps.{Beside, Ranged};
 use super::Above;
 use super::Found;
 use super::climbs::Step;
@@ -17,10 +17,11 @@ use record::Vertex;
 use record::starts::start_of;
 
 // Its parent.
-pub fn parent_in(bytes: &[u8], index: &[u8], n: usize, m: usize, u: usize) -> Above
-    requires { ⌜ (Beside (now bytes) (now index) n m) × (u < n) ⌝ }
-    ensures { λ r. ⌜ above r ≡ parentOf (viewBy n m (now (bytes .entry)) (now (index .entry))) u ⌝ }
+pub fn parent_in(bytes: &[u8], index: &[u8], n: usize, m: usize, v: Vertex) -> Above
+    requires { ⌜ (Beside (now bytes) (now index) n m) × (Ranged n (v .0)) ⌝ }
+    ensures { λ r. ⌜ above r ≡ parentOf (viewBy n m (now (bytes .entry)) (now (index .entry))) (v .0 - 1) ⌝ }
 {
+    let u = v.0 - 1;
     let a = start_of(bytes, n, m, u);
     let b = start_of(bytes, n, m, u + 1);
     match super::climbs::step_up(bytes, index, n, m, u, a, b) {
@@ -31,23 +32,25 @@ pub fn parent_in(bytes: &[u8], index: &[u8], n: usize, m: usize, u: usize) -> Ab
 }
 
 // How many children it has.
-pub fn children_in(bytes: &[u8], index: &[u8], n: usize, m: usize, u: usize) -> usize
-    requires { ⌜ (Beside (now bytes) (now index) n m) × (u < n) ⌝ }
-    ensures { λ r. ⌜ r ≡ childCount (viewBy n m (now (bytes .entry)) (now (index .entry))) u ⌝ }
+pub fn children_in(bytes: &[u8], index: &[u8], n: usize, m: usize, v: Vertex) -> usize
+    requires { ⌜ (Beside (now bytes) (now index) n m) × (Ranged n (v .0)) ⌝ }
+    ensures { λ r. ⌜ r ≡ childCount (viewBy n m (now (bytes .entry)) (now (index .entry))) (v .0 - 1) ⌝ }
 {
+    let u = v.0 - 1;
     let a = start_of(bytes, n, m, u);
     let b = start_of(bytes, n, m, u + 1);
     super::blocks::count_children(index, n, m, a + u + 1, b - a)
 }
 
 // Its j-th child: 13, and then 12.
-pub fn child_in(bytes: &[u8], index: &[u8], n: usize, m: usize, u: usize, j: usize) -> Found
-    requires { ⌜ (Beside (now bytes) (now index) n m) × (u < n) ⌝ }
-    ensures { λ r. ⌜ terminal r ≡ triedThen ((13, eqb j 0 || ltb (childCount (viewBy n m (now (bytes .entry)) (now (index .entry))) u) j) ∷ []) (childOf (viewBy n m (now (bytes .entry)) (now (index .entry))) u j) ⌝ }
+pub fn child_in(bytes: &[u8], index: &[u8], n: usize, m: usize, v: Vertex, j: usize) -> Found
+    requires { ⌜ (Beside (now bytes) (now index) n m) × (Ranged n (v .0)) ⌝ }
+    ensures { λ r. ⌜ terminal r ≡ triedThen ((13, eqb j 0 || ltb (childCount (viewBy n m (now (bytes .entry)) (now (index .entry))) (v .0 - 1)) j) ∷ []) (childOf (viewBy n m (now (bytes .entry)) (now (index .entry))) (v .0 - 1) j) ⌝ }
 {
     if j == 0 {
         return Found::Refused(Refusal::NoChild);
     }
+    let u = v.0 - 1;
     let a = start_of(bytes, n, m, u);
     let b = start_of(bytes, n, m, u + 1);
     let p = super::blocks::nth_child(index, n, m, a + u + 1, b - a, j);

@@ -1,5 +1,7 @@
 -- Laws about the definitions, one idea a file.
 pub mod First
+pub mod Told
+pub mod Range
 pub mod Parts
 pub mod Fields
 pub mod Layout
@@ -7,3 +9,8 @@ pub mod Anywhere
 pub mod Sound
 pub mod Unary
 pub mod RoundTrip
+pub mod Sounded
+pub mod Spans
+pub mod Raised
+pub mod InOrder
+pub mod Stores

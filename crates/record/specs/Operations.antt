@@ -16,9 +16,9 @@ use Rattle.record.specs.Answers.{Answer, tried, bufferAfter}
 unfoldable pub otherLength : List ℕ → ℕ → Bool
 otherLength l k = not (eqb (length l) k)
 
--- v is 0 or above n: no terminal
-unfoldable pub noTerminal : List ℕ → ℕ → Bool
-noTerminal bytes v = eqb v 0 || ltb (terminals bytes) v
+-- a number that counts from 1, a terminal's or a visit's, is 0 or above n
+unfoldable pub outOfRange : ℕ → ℕ → Bool
+outOfRange n k = eqb k 0 || ltb n k
 
 -- Check
 unfoldable pub check : List ℕ → Answer (Unit {0})
@@ -30,7 +30,7 @@ pub record Accepted (bytes : List ℕ) : Type 0 where
 
 -- Degree
 unfoldable pub degreeRules : List ℕ → ℕ → List Rule
-degreeRules bytes v = orderR bytes ++ ((11, noTerminal bytes v) ∷ [])
+degreeRules bytes v = orderR bytes ++ ((11, outOfRange (terminals bytes) v) ∷ [])
 
 unfoldable pub degree : List ℕ → ℕ → Answer ℕ
 degree bytes v = tried (degreeRules bytes v) (length (block (blocks bytes) (v - 1)))

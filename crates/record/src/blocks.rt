@@ -5,20 +5,20 @@ ghost use Rattle.record.specs.Operations.{degree as degreeOf, neighbours
 ghost use Rattle.record.specs.Steps.{Sound};
 use super::Counted;
 use super::Refusal;
+use super::Vertex;
+use super::range::out_of_range;
 use super::starts::start_of;
 
 // Degree, where order R lets the record pass.
-pub fn degree_in(bytes: &[u8], n: usize, m: usize, v: usize) -> Counted
+pub fn degree_in(bytes: &[u8], n: usize, m: usize, v: Vertex) -> Counted
     requires { ⌜ Sound (now bytes) n m ⌝ }
-    ensures { λ r. ⌜ counted r ≡ degreeOf (now (bytes .entry)) v ⌝ }
+    ensures { λ r. ⌜ counted r ≡ degreeOf (now (bytes .entry)) (v .0) ⌝ }
 {
-    if v == 0 {
+    let t = v.0;
+    if out_of_range(n, t) {
         return Counted::Refused(Refusal::NoTerminal);
     }
-    if n < v {
-        return Counted::Refused(Refusal::NoTerminal);
-    }
-    Counted::Count(start_of(bytes, n, m, v) - start_of(bytes, n, m, v - 1))
+    Counted::Count(start_of(bytes, n, m, t) - start_of(bytes, n, m, t - 1))
 }
 
 // Neighbours, where order R lets the record pass.
@@ -27,21 +27,19 @@ pub fn neighbours_in<'a, 'b>(
     list: &'b [u16],
     n: usize,
     m: usize,
-    v: usize,
+    v: Vertex,
 ) -> &'b [u16]
     requires { ⌜ Sound (now bytes) n m ⌝ }
-    ensures { λ r. ⌜ (now r ≡ neighboursOf (now (bytes .entry)) (now (list .entry)) v) × (r .ptr ≡ further (list .entry .ptr) (neighboursBefore (now (bytes .entry)) (now (list .entry)) v)) ⌝ }
+    ensures { λ r. ⌜ (now r ≡ neighboursOf (now (bytes .entry)) (now (list .entry)) (v .0)) × (r .ptr ≡ further (list .entry .ptr) (neighboursBefore (now (bytes .entry)) (now (list .entry)) (v .0))) ⌝ }
 {
-    if v == 0 {
-        return &list[..0];
-    }
-    if n < v {
+    let t = v.0;
+    if out_of_range(n, t) {
         return &list[..0];
     }
     if list.len() != 2 * m {
         return &list[..0];
     }
-    let from = start_of(bytes, n, m, v - 1);
-    let to = start_of(bytes, n, m, v);
+    let from = start_of(bytes, n, m, t - 1);
+    let to = start_of(bytes, n, m, t);
     &list[from..to]
 }

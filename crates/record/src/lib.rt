@@ -7,6 +7,7 @@ ghost use Rattle.record.specs.Operations.{check as checkOf, degree as de
 
 pub mod cells; // cells.rt: cells of 16 bits
 pub mod header; // header.rt: the header, and order R
+pub mod range; // range.rt: rule 11
 pub mod starts; // starts.rt: where the blocks start
 pub mod fields; // fields.rt: the neighbour fields
 mod strays; // strays.rt: rule 6
@@ -145,13 +146,12 @@ pub fn unpack(bytes: &[u8], list: &mut [u16]) -> Verdict
 pub fn degree(bytes: &[u8], v: Vertex) -> Counted
     ensures { λ r. ⌜ counted r ≡ degreeOf (now (bytes .entry)) (v .0) ⌝ }
 {
-    let t = v.0;
     match header::order_r(bytes) {
         Shape::Refused(r) => Counted::Refused(r),
         Shape::Passed(s) => {
             let n = s.n;
             let m = s.m;
-            blocks::degree_in(bytes, n, m, t)
+            blocks::degree_in(bytes, n, m, v)
         }
     }
 }
@@ -161,13 +161,12 @@ pub fn degree(bytes: &[u8], v: Vertex) -> Counted
 pub fn neighbours<'a, 'b>(bytes: &'a [u8], list: &'b [u16], v: Vertex) -> &'b [u16]
     ensures { λ r. ⌜ (now r ≡ neighboursOf (now (bytes .entry)) (now (list .entry)) (v .0)) × (r .ptr ≡ further (list .entry .ptr) (neighboursBefore (now (bytes .entry)) (now (list .entry)) (v .0))) ⌝ }
 {
-    let t = v.0;
     match header::order_r(bytes) {
         Shape::Refused(_) => &list[..0],
         Shape::Passed(s) => {
             let n = s.n;
             let m = s.m;
-            blocks::neighbours_in(bytes, list, n, m, t)
+            blocks::neighbours_in(bytes, list, n, m, v)
         }
     }
 }

@@ -1,6 +1,6 @@
 -- `celduga_parent` meets its contract.
 use Rattle.capi.proofs.Laws.Coded.{valued-call, code-call}
-use Rattle.capi.specs.Code.{itself}
+use Rattle.queries.specs.Queries.{orZero}
 use Rattle.capi.specs.Laws.Small.{parent-small}
 use borrow.Author.Needs.{needs}
 use Rattle.capi.proofs.celduga_parent.Statement.{statement}
@@ -13,7 +13,7 @@ of-above-requires : tie.Need-of-above-requires
 of-above-requires c κs = valued-call (c .parent .ensures) (parent-small (c .before .before .before .args .bytes .now) (c .before .before .before .args .index .now) (c .before .before .before .args .v))
 
 returns : tie.Need-returns
-returns c = code-call itself (c .before .parent .ensures) (c .of-above .ensures)
+returns c = code-call orZero (c .before .parent .ensures) (c .of-above .ensures)
 
 pub celduga-parent-spec : {M : Type 1} → statement M
 celduga-parent-spec = tie.close (tie.spec parent-requires of-above-requires returns)

@@ -1,12 +1,14 @@
 -- What a C program reads in the two halves of a result.
 use mathlib.Core.Path.{_≡_}
 use mathlib.Core.Bool.{Bool, true, false}
+use mathlib.Core.Option.{Option}
 use Prim.Native.Nat.{ℕ, _/_, _%_, _<_}
 use native.Mathlib.Omega.{arith}
 use lib.IntN.{ℤ, pos, negsuc}
 use lib.Signed.{mag}
 use Rattle.bits.specs.Bits.{bit}
 use Rattle.record.specs.Answers.{Answer, refused, answered}
+use Rattle.queries.specs.Queries.{orZero}
 use Rattle.capi.specs.Code.{code, nothing, itself, complement}
 
 -- the value of an answer, if it has one, is such a value
@@ -17,6 +19,10 @@ pub data Valued {A : Type 0} (P : A → Type 0) : Answer A → Type 0 where
 -- a number that fits the low half
 abbrev pub Small : Answer ℕ → Type 0
 Small a = Valued (λ (k : ℕ). k < 65536) a
+
+-- a parent, or none, whose number fits
+abbrev pub SmallParent : Answer (Option ℕ) → Type 0
+SmallParent a = Valued (λ (p : Option ℕ). orZero p < 65536) a
 
 -- a signed number of 16 bits: 0 to 32,767, or -1 down to -32,768
 abbrev pub Short : Answer ℤ → Type 0
@@ -58,10 +64,13 @@ halves-yes = halves-always bit fits
     fits true = omega arith
     fits false = omega arith
 
--- for numbers, and for the loop figure
+-- for numbers, for parents, and for the loop figure
 pub halves-number : {a : Answer ℕ} → Small a → (code itself a / 65536 ≡ refusal a) × (code itself a % 65536 ≡ said itself a)
 unfolding itself
 halves-number s = halves itself (λ k h. h) s
+
+pub halves-parent : {a : Answer (Option ℕ)} → SmallParent a → (code orZero a / 65536 ≡ refusal a) × (code orZero a % 65536 ≡ said orZero a)
+halves-parent s = halves orZero (λ p h. h) s
 
 pub halves-figure : {a : Answer ℤ} → Short a → (code complement a / 65536 ≡ refusal a) × (code complement a % 65536 ≡ said complement a)
 unfolding complement

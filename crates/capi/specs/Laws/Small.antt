@@ -3,6 +3,7 @@ use mathlib.Core.Path.{_≡_, refl}
 use mathlib.Core.Logic.{_⊎_, inl, inr}
 use mathlib.Core.Bool.{Bool, true, false, cond}
 use mathlib.Core.List.{List, [], map}
+use mathlib.Core.Option as Option
 use Prim.Native.Nat.{ℕ, zero, suc, _+_, _-_, _≤_, _<_}
 use native.Mathlib.Omega.{arith}
 use borrow.Author.Tests.{ltb-true}
@@ -21,19 +22,19 @@ use Rattle.record.specs.Record.{terminals, wires, unary, blocks}
 use Rattle.record.specs.Rules.{Rule, firstBroken, checkRules}
 use Rattle.record.specs.Answers.{Answer, refused, answered, outcome, otherwise, tried, triedThen, sizesOf}
 use Rattle.record.specs.Steps.{Sound}
-use Rattle.record.specs.Operations.{noTerminal, degreeRules, degree, loopFigure}
+use Rattle.record.specs.Operations.{outOfRange, degreeRules, degree, loopFigure}
 use Rattle.record.specs.Laws.First.{both-kept, order-numbered, rule-kept}
-use Rattle.record.proofs.Laws.Reading.Sounded.{sound-of, sound-vertices}
-use Rattle.record.proofs.Laws.Telling.Told.{untold}
-use Rattle.record.proofs.Laws.Reading.Spans.{span-ends, span-size}
+use Rattle.record.specs.Laws.Range.{range-inside}
+use Rattle.record.specs.Laws.Sounded.{sound-of, sound-vertices}
+use Rattle.record.specs.Laws.Told.{untold}
+use Rattle.record.specs.Laws.Spans.{span-ends, span-size}
 use Rattle.forest.specs.Laws.Sections.{length-each}
 use Rattle.queries.specs.View.{View, viewOf, blockMarks, sectionOf}
 use Rattle.queries.specs.Queries.{Step, stuck, top, rise, stepUp, parentBy, parentOf, headBy, headNext, headOf, childCount, vertexOr, childOf, visitOf, found, visitedOf}
 use Rattle.queries.specs.Operations.{orderQ, parent, head, children, childRules, child, visit, visited}
-use Rattle.queries.specs.Laws.Built.{order-numbered-q}
-use Rattle.queries.proofs.Laws.Climbing.{Inside, step-inside}
-use Rattle.queries.proofs.Laws.Asking.{Asked, asked, terminal-inside}
-use Rattle.capi.specs.Laws.Halves.{Valued, none, value, Small, Short}
+use Rattle.queries.specs.Laws.Asked.{Asked, asked, order-numbered-q}
+use Rattle.queries.specs.Laws.Inside.{Inside, step-inside}
+use Rattle.capi.specs.Laws.Halves.{Valued, none, value, Small, SmallParent, Short}
 
 -- ---- rules, and then a value
 
@@ -64,8 +65,8 @@ pub degree-small : (bytes : List ℕ) (v : ℕ) → Small (degree bytes v)
 unfolding degree degreeRules
 degree-small bytes v = tried-small (degreeRules bytes v) (length (block (blocks bytes) (v - 1))) (λ k. (
     let (r, more) = both-kept (order-numbered bytes) _ k in
-    let (y, _) = rule-kept 10 (noTerminal bytes v) [] more in
-    let (a, b) = terminal-inside bytes v y in
+    let (y, _) = rule-kept 10 (outOfRange (terminals bytes) v) [] more in
+    let (a, b) = range-inside (terminals bytes) v y in
     let c = block-small (sound-of bytes r refl refl) {u = v - 1} (omega arith) in
     omega arith
     ))
@@ -95,10 +96,10 @@ vertex-small w l v = go (told (ltb v (length (w .graph))))
     go (pass e) = let h = ltb-true v (length (w .graph)) e in rw (e, vertexOr) (value (suc v) (omega arith))
     go (fail e) = rw (e, vertexOr) none
 
-parent-by : (g : Blocks) → length g ≤ 4096 → (s : Step) → Inside g s → Small (parentBy s)
+parent-by : (g : Blocks) → length g ≤ 4096 → (s : Step) → Inside g s → SmallParent (parentBy s)
 parent-by g l stuck i = none
-parent-by g l top i = value 0 (omega arith)
-parent-by g l (rise j p) i = value (suc p) (omega arith)
+parent-by g l top i = value Option.none (omega arith)
+parent-by g l (rise j p) i = value (Option.some (suc p)) (omega arith)
 
 -- a climb: each step stops with a small number, or leads to a vertex
 data Climbs (b : ℕ) : Answer ℕ ⊎ ℕ → Type 0 where
@@ -146,11 +147,11 @@ module _ (bytes index : List ℕ) where
       let s = q .beside .sound in
       let l = sound-vertices s in
       let f = s .n-fits in
-      let a = q .some in
-      let b = q .upto in
+      let a = q .ranged .some in
+      let b = q .ranged .upto in
       (omega arith, omega arith)
 
-  pub parent-small : (v : ℕ) → Small (parent bytes index v)
+  pub parent-small : (v : ℕ) → SmallParent (parent bytes index v)
   unfolding parent parentOf stepUp
   parent-small v = then-small (orderQ bytes index v) (parentOf w (v - 1)) (λ k.
       parent-by (blocks bytes) (vertices v k .0) (stepUp (blocks bytes) (w .marksP) (v - 1)) (step-inside (blocks bytes) (v - 1) (count (w .marksP (v - 1))) (select (w .marksP (v - 1)) 1 - 1)))
@@ -167,8 +168,8 @@ module _ (bytes index : List ℕ) where
   unfolding children childCount blockMarks
   children-small v = then-small (orderQ bytes index v) (answered (childCount w (v - 1))) (λ k. (
       let q = here v k in
-      let a = q .some in
-      let b = q .upto in
+      let a = q .ranged .some in
+      let b = q .ranged .upto in
       let c = count-le (w .marksE (v - 1)) in
       let d = length-take (length (block (blocks bytes) (v - 1))) (drop (select (unary bytes) (suc (v - 1))) (sectionOf (terminals bytes) (wires bytes) index 0)) in
       let e = block-small (q .beside .sound) {u = v - 1} (omega arith) in

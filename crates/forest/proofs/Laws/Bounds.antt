@@ -18,7 +18,7 @@ use Rattle.record.specs.Operations.{Accepted}
 use Rattle.record.specs.Laws.First.{neither}
 use Rattle.record.specs.Laws.Layout.{starts-count}
 use Rattle.record.specs.Laws.Sound.{accepted-well-formed}
-use Rattle.record.proofs.Laws.Reading.Sounded.{sound-shaped, sound-all}
+use Rattle.record.specs.Laws.Sounded.{sound-shaped, sound-all}
 use Rattle.forest.specs.Steps.{cellsOf, Holding, Searching, Unvisited, Searched}
 use Rattle.forest.proofs.Laws.Entering.{Put, put-length, put-other, put-here}
 use Rattle.forest.proofs.Laws.Searched.{as-many, still-holding, start-busy, hand-busy}

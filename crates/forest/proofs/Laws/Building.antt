@@ -15,8 +15,8 @@ use Rattle.record.specs.Answers.{refused, answered, tried, sizesOf}
 use Rattle.record.specs.Operations.{otherLength}
 use Rattle.record.specs.Steps.{Sound}
 use Rattle.record.specs.Laws.First.{first-broken, first-kept, append-kept, append-broken, check-numbered}
-use Rattle.record.proofs.Laws.Reading.Sounded.{sound-vertices, sound-all}
-use Rattle.record.proofs.Laws.Telling.Told.{told, untold, told-back, buffer-kept, buffer-written}
+use Rattle.record.specs.Laws.Sounded.{sound-vertices, sound-all}
+use Rattle.record.specs.Laws.Told.{told, untold, told-back, buffer-kept, buffer-written}
 use Rattle.forest.specs.Index.{markBytes, numberBytes, indexOf, indexLength}
 use Rattle.forest.specs.Operations.{buildRules, build, built}
 use Rattle.forest.specs.Laws.Bytes.{length-index}

@@ -7,7 +7,7 @@ use lib.ListN.{length, getD}
 use Rattle.graph.specs.Graph.{block, target}
 use Rattle.record.specs.Record.{unary, fields, blocks}
 use Rattle.record.specs.Starts.{startsOf}
-use Rattle.record.proofs.Laws.Reading.Spans.{span-rises, span-ends, span-size, span-neighbour}
+use Rattle.record.specs.Laws.Spans.{span-rises, span-ends, span-size, span-neighbour}
 use Rattle.forest.specs.Steps.{Holding}
 
 module _ {bytes work : List ℕ} {n m : ℕ} (o : Holding bytes work n m) {c : ℕ} (h : c < n) where

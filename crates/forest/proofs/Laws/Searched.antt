@@ -18,8 +18,8 @@ use Rattle.graph.specs.Laws.Loop.Arrays.{Cells, Enters, Same}
 use Rattle.graph.specs.Laws.Loop.Invariant.{Loop, loop-room, loop-vertex, loop-busy, loop-busy-start, loop-pass-start, loop-enter-start, loop-pass, loop-enter, loop-return}
 use Rattle.record.specs.Record.{fields, blocks}
 use Rattle.record.specs.Laws.Sound.{accepted-well-formed}
-use Rattle.record.proofs.Laws.Arrays.Stores.{cell-same, cell-other}
-use Rattle.record.proofs.Laws.Reading.Sounded.{sound-vertices}
+use Rattle.record.specs.Laws.Stores.{cell-same, cell-other}
+use Rattle.record.specs.Laws.Sounded.{sound-vertices}
 use Rattle.forest.specs.Steps.{cellsOf, Holding, Searching, StartsStay, Passable}
 use Rattle.forest.proofs.Laws.Rows.{row-rises, row-ends, row-size, row-neighbour}
 use Rattle.forest.proofs.Laws.Entering.{Put, put-length, put-other, put-here}

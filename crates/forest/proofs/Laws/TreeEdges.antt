@@ -4,7 +4,6 @@ use mathlib.Core.Logic.{_⊎_, inl, inr}
 use mathlib.Core.Bool.{true, false}
 use mathlib.Core.List.{List, List·Memᴰ, flatten}
 use Prim.Native.Nat.{ℕ, zero, suc, _+_, _-_, _*_, _≤_, _<_}
-use native.Mathlib.Numerals.{add-one}
 use native.Mathlib.Omega.{arith}
 use borrow.Author.Tests.{eq-eqb, eqb-true}
 use lib.Dec.{eqb}
@@ -20,34 +19,19 @@ use Rattle.graph.specs.Laws.Tree.Entries.{entry-once, parent-entered}
 use Rattle.graph.specs.Laws.Tree.Climbs.{slot, parent-child, child-entry}
 use Rattle.graph.specs.Laws.Joined.Spanning.{tree-place}
 use Rattle.graph.specs.Laws.Edges.Marks.{Back, child-mark, child-mark-entry, back-place, back-marked, marked-back, back-parent, back-once, first-back}
-use Rattle.record.specs.Record.{unary, blocks}
-use Rattle.record.specs.Starts.{startsOf}
+use Rattle.record.specs.Record.{blocks}
 use Rattle.record.specs.Steps.{Sound}
-use Rattle.record.specs.Laws.Parts.{start-first}
-use Rattle.record.proofs.Laws.Reading.Sounded.{sound-shaped, sound-vertices, sound-all}
-use Rattle.record.proofs.Laws.Reading.Spans.{span-rises, span-size}
+use Rattle.record.specs.Laws.Sounded.{sound-all}
 use Rattle.forest.specs.Steps.{Holding}
 use Rattle.forest.specs.Lows.{Passed, Lifting}
 use Rattle.forest.specs.Marks.{childEnd, DownBit, UpBit}
-use Rattle.forest.specs.Laws.Sections.{blockStart, start-more}
+use Rattle.forest.specs.Laws.Sections.{blockStart}
+use Rattle.forest.specs.Laws.Starts.{start-block}
 use Rattle.forest.proofs.Laws.Searched.{as-many}
 use Rattle.forest.proofs.Laws.Lowest.{graph-formed, spans, visit-cell, parent-cell}
 use Rattle.forest.proofs.Laws.Marked.{Same, Own}
 
 -- ---- the starts and the places
-
--- a block starts after the places of those before it
-pub start-block : {bytes : List ℕ} {n m : ℕ} → Sound bytes n m → (u : ℕ) → u ≤ n → getD (startsOf (unary bytes)) u 0 ≡ blockStart (blocks bytes) u
-unfolding flatten
-start-block {bytes} o zero h = start-first (unary bytes) (sound-shaped o .begins)
-start-block {bytes} {n} o (suc u) h =
-    let l = sound-vertices o in
-    let i = start-block o u (omega arith) in
-    let e : getD (startsOf (unary bytes)) (u + 1) 0 ≡ getD (startsOf (unary bytes)) (suc u) 0 = ap (λ (x : ℕ). getD (startsOf (unary bytes)) x 0) (add-one u) in
-    let s = start-more (blocks bytes) u (omega arith) in
-    let r = span-size o {u = u} (omega arith) in
-    let q = span-rises o {u = u} (omega arith) in
-    omega arith
 
 module _ {bytes work : List ℕ} {n m : ℕ} (o : Holding bytes work n m) where
   pub as-many-places : length (flatten (blocks bytes)) ≡ 2 * m

@@ -4,8 +4,8 @@ use mathlib.Core.List.{List}
 use Prim.Native.Nat.{ℕ, _+_, _≤_, _<_}
 use native.Mathlib.Omega.{arith}
 use lib.ListN.{length, set, replicate, length-replicate, length-set}
-use Rattle.record.proofs.Laws.Arrays.Stores.{cell-zero}
-use Rattle.record.proofs.Laws.Reading.InOrder.{InOrder, order-start, order-more, order-end}
+use Rattle.record.specs.Laws.Stores.{cell-zero}
+use Rattle.record.specs.Laws.InOrder.{InOrder, order-start, order-more, order-end}
 
 -- the first i of k cells are zero
 pub record Zeroed (k : ℕ) (list : List ℕ) (i : ℕ) : Type 0 where

@@ -1,6 +1,6 @@
 -- `build` meets its contract: Check first, then the lengths of the work slice and of the buffer, and the index only after all.
 use Rattle.forest.proofs.Laws.Building.{empty-index, build-refused, build-short, build-misfit, build-done}
-use Rattle.record.proofs.Laws.Telling.Accepting.{accepted-kept, accepted-sound}
+use Rattle.record.specs.Laws.Sounded.{accepted-kept, accepted-sound}
 use Rattle.record.specs.Answers.{shape}
 use native.Mathlib.Omega.{arith}
 use mathlib.Core.Path.{sym, ap, _∙_}

@@ -1,5 +1,5 @@
 -- `list` meets its contract.
-use Rattle.queries.proofs.Laws.Tabling.{ready-beside}
+use Rattle.queries.specs.Laws.Ready.{ready-beside}
 use mathlib.Core.Path.{_∙_}
 use borrow.Author.Needs.{needs}
 use Rattle.loomlist.proofs.list.Statement.{statement}

@@ -1,6 +1,6 @@
 -- `run` meets its contract.
 use Rattle.record.specs.Answers.{shape}
-use Rattle.record.proofs.Laws.Reading.Sounded.{told-sound}
+use Rattle.record.specs.Laws.Sounded.{told-sound}
 use mathlib.Core.Path.{sym, ap, _∙_}
 use borrow.Author.Needs.{needs}
 use Rattle.loomlist.proofs.run.Statement.{statement}

@@ -1,6 +1,6 @@
 -- `with_index` meets its contract.
 use Rattle.loomlist.proofs.Rooms.{index-short}
-use Rattle.record.proofs.Laws.Arrays.Stores.{part-zeros}
+use Rattle.record.specs.Laws.Stores.{part-zeros}
 use native.Mathlib.Omega.{arith}
 use mathlib.Core.Path.{sym}
 use borrow.Author.Needs.{needs}

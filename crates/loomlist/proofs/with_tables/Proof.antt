@@ -1,7 +1,7 @@
 -- `with_tables` meets its contract.
 use Prim.Native.Nat.{_+_}
-use Rattle.queries.proofs.Laws.Tabling.{ready-beside}
-use Rattle.record.proofs.Laws.Arrays.Stores.{part-zeros}
+use Rattle.queries.specs.Laws.Ready.{ready-beside}
+use Rattle.record.specs.Laws.Stores.{part-zeros}
 use native.Mathlib.Omega.{arith}
 use mathlib.Core.Path.{sym}
 use borrow.Author.Needs.{needs}

@@ -20,10 +20,11 @@ use Rattle.record.specs.Starts.{startsOf}
 use Rattle.record.specs.Answers.{refused, answered}
 use Rattle.record.specs.Steps.{Sound}
 use Rattle.record.specs.Laws.Layout.{starts-count}
-use Rattle.record.proofs.Laws.Reading.Sounded.{sound-shaped, sound-vertices}
+use Rattle.record.specs.Laws.Sounded.{sound-shaped, sound-vertices}
 use Rattle.queries.specs.View.{View, viewBy, blockMarks, sectionOf}
 use Rattle.queries.specs.Queries.{Step, stuck, top, rise, stepBy, stepUp, headBy, headNext, headOf, ancestorBy, ancestorNext, ancestorOf}
 use Rattle.queries.specs.Steps.{Beside}
+use Rattle.queries.specs.Laws.Inside.{Inside, step-inside}
 use Rattle.queries.proofs.Laws.Ones.{part-length, part-bit}
 use Rattle.queries.proofs.Laws.Marks.{length-P, length-B}
 use Rattle.queries.proofs.Laws.Stepping.{block-bounds, block-marks}
@@ -52,23 +53,6 @@ module _ {A : Type 0} (next : ℕ → A ⊎ ℕ) (late : A) {final : A} where
   climb-late (suc k) u h e w = absurd (omega arith)
 
 -- ---- where a step leads
-
--- a parent is a vertex
-abbrev pub Inside : Blocks → Step → Type 0
-Inside g stuck = Unit {0}
-Inside g top = Unit {0}
-Inside g (rise j p) = p < length g
-
-one-inside : (g : Blocks) (u j : ℕ) → Told (ltb (target g u j) (length g)) → Inside g (stepBy g u 1 j)
-unfolding stepBy
-one-inside g u j (pass e) = rw (stepBy, e) (ltb-true (target g u j) (length g) e)
-one-inside g u j (fail e) = rw (stepBy, e) tt
-
-pub step-inside : (g : Blocks) (u c j : ℕ) → Inside g (stepBy g u c j)
-unfolding stepBy
-step-inside g u zero j = tt
-step-inside g u (suc zero) j = one-inside g u j (told (ltb (target g u j) (length g)))
-step-inside g u (suc (suc c)) j = tt
 
 -- by which position
 tag : Step → ℕ

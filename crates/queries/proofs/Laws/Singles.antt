@@ -19,8 +19,8 @@ use Rattle.record.specs.Starts.{startsOf}
 use Rattle.record.specs.Answers.{refused, answered, triedThen}
 use Rattle.record.specs.Steps.{Sound}
 use Rattle.record.specs.Laws.First.{first-broken, first-kept}
-use Rattle.record.proofs.Laws.Reading.Sounded.{sound-vertices}
-use Rattle.record.proofs.Laws.Telling.Told.{then-told, then-untold}
+use Rattle.record.specs.Laws.Sounded.{sound-vertices}
+use Rattle.record.specs.Laws.Told.{then-told, then-untold}
 use Rattle.forest.specs.Laws.Sections.{length-each, each-at}
 use Rattle.queries.specs.View.{View, viewBy, blockMarks, sectionOf}
 use Rattle.queries.specs.Queries.{childCount, vertexOr, childOf, visitOf, found, visitedOf}

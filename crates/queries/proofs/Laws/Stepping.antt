@@ -15,8 +15,8 @@ use Rattle.graph.specs.Graph.{Blocks, block, target}
 use Rattle.record.specs.Record.{unary, fields, blocks}
 use Rattle.record.specs.Starts.{startsOf}
 use Rattle.record.specs.Steps.{Sound}
-use Rattle.record.proofs.Laws.Reading.Sounded.{sound-vertices}
-use Rattle.record.proofs.Laws.Reading.Spans.{span-rises, span-ends, span-size, span-one, span-neighbour}
+use Rattle.record.specs.Laws.Sounded.{sound-vertices}
+use Rattle.record.specs.Laws.Spans.{span-rises, span-ends, span-size, span-one, span-neighbour}
 use Rattle.queries.specs.View.{blockMarks}
 use Rattle.queries.specs.Queries.{stuck, top, rise, stepBy, stepUp}
 use Rattle.queries.proofs.Laws.Ones.{positive, part-length}

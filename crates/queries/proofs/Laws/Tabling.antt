@@ -1,8 +1,9 @@
 -- The answers for all terminals at once: a pass over the vertices, and one in order of visits.
-use mathlib.Core.Path.{_≡_, sym, ap, subst, _∙_}
+use mathlib.Core.Path.{_≡_, refl, sym, ap, subst, _∙_}
 use mathlib.Core.Logic.{inl, inr}
 use mathlib.Core.List.{List}
-use Prim.Native.Nat.{ℕ, suc, _+_, _-_, _*_, _≤_, _<_}
+use mathlib.Core.Option.{none, some}
+use Prim.Native.Nat.{ℕ, zero, suc, _+_, _-_, _*_, _≤_, _<_}
 use native.Mathlib.Decide.{decLt}
 use native.Mathlib.Numerals.{add-one}
 use native.Mathlib.Omega.{arith}
@@ -14,20 +15,17 @@ use Rattle.graph.specs.Search.{countUp, forest}
 use Rattle.graph.specs.Forest.{number, vertexAt, parent, head, children}
 use Rattle.graph.specs.Laws.Joined.Spanning.{Covers}
 use Rattle.graph.specs.Theorems.{number-in-range, vertex-in-range, vertex-of-number, number-of-vertex, parent-before-child}
-use Rattle.record.specs.Record.{unary, blocks, terminals, wires}
+use Rattle.record.specs.Record.{unary, blocks, terminals}
 use Rattle.record.specs.Answers.{answered}
 use Rattle.record.specs.Starts.{startsOf}
-use Rattle.record.proofs.Laws.Arrays.Stores.{cell-same, cell-other}
-use Rattle.record.proofs.Laws.Reading.Sounded.{sound-of}
-use Rattle.forest.specs.Index.{indexLength}
-use Rattle.forest.specs.Laws.Bytes.{length-index}
+use Rattle.record.specs.Laws.Stores.{cell-same, cell-other}
 use Rattle.queries.specs.View.{viewBy, sectionOf, numberOf, blockMarks}
-use Rattle.queries.specs.Queries.{Step, stuck, top, rise, stepUp, parentBy, parentOf, headBy, headNext}
-use Rattle.queries.specs.Steps.{Beside}
+use Rattle.queries.specs.Queries.{Step, stuck, top, rise, stepUp, parentBy, unlessZero, parentOf, headBy, headNext}
 use Rattle.queries.specs.Demands.{Terminal, visit-told, parent-told, children-told, head-told}
 use Rattle.queries.specs.Table.{Tabled, Ready, Cells, HeadsTo, ParentsTo}
 use Rattle.queries.specs.Laws.Shown.{Shows, parent-shown, head-stopped, head-risen, count-shown}
-use Rattle.queries.specs.Laws.Built.{accepted-sound, as-many, as-many-places}
+use Rattle.queries.specs.Laws.Built.{as-many}
+use Rattle.queries.specs.Laws.Ready.{ready-beside}
 use Rattle.queries.specs.Laws.Answered.{same-answer, wf, cover, shown}
 use Rattle.queries.proofs.Laws.Climbing.{block-from, block-to, rise-to}
 use Rattle.queries.proofs.Laws.Marks.{length-P}
@@ -76,16 +74,6 @@ module _ {bytes index : List ℕ} {n m : ℕ} (r : Ready bytes index n m) where
   inside : {v : ℕ} → v < n → v < length (blocks bytes)
   inside h = rw vertices h
 
-  pub ready-beside : Beside bytes index n m
-  ready-beside =
-      let a = r .written .accepted in
-      let o = sound-of bytes (accepted-sound a .kept) (r .is-n) (r .is-m) in
-      let g = blocks bytes in
-      let l : length index ≡ indexLength n m =
-      ap length (r .written .is) ∙ length-index g (forest g) (wires bytes) (as-many-places a) ∙ ap (λ (x : ℕ). indexLength x (wires bytes)) vertices
-      ∙ ap (indexLength n) (sym (r .is-m)) in
-      record { sound = o; framed = record { n-fits = o .n-fits; m-fits = o .m-fits; sized = l } }
-
   shows : Shows (viewBy n m bytes index) (forest (blocks bytes))
   shows =
       subst (λ (x : ℕ). Shows (viewBy x m bytes index) (forest (blocks bytes))) (sym (r .is-n))
@@ -98,23 +86,23 @@ module _ {bytes index : List ℕ} {n m : ℕ} (r : Ready bytes index n m) where
 
   module _ {starts : List ℕ} {v a b : ℕ} (es : starts ≡ startsOf (unary bytes)) (h : v < n) (ga : a ≡ getD starts v 0) (gb : b ≡ getD starts (v + 1) 0) where
     from : a ≡ getD (startsOf (unary bytes)) v 0
-    from = block-from ready-beside es h ga gb
+    from = block-from (ready-beside r) es h ga gb
 
     to : b ≡ getD (startsOf (unary bytes)) (v + 1) 0
-    to = block-to ready-beside es h ga gb
+    to = block-to (ready-beside r) es h ga gb
 
     -- the block, by the numbers that the code reads
     pub block-span : (a ≤ b) × (b ≤ 2 * m)
-    block-span = block-bounds (ready-beside .sound) h from to
+    block-span = block-bounds (ready-beside r .sound) h from to
 
     module _ {c : ℕ} (ec : c ≡ count (take (b - a) (drop (a + v + 1) (sectionOf n m index 0)))) where
       pub count-cell : c ≡ length (children (forest (blocks bytes)) v)
-      count-cell = children-counted index (ready-beside .sound) h from to ec ∙ count-shown formed covered shows v (inside h)
+      count-cell = children-counted index (ready-beside r .sound) h from to ec ∙ count-shown formed covered shows v (inside h)
 
       pub count-small : c < 65536
       count-small =
           let (p, q) = block-span in
-          let f = ready-beside .sound .m-fits in
+          let f = ready-beside r .sound .m-fits in
           let l = length-take (b - a) (drop (a + v + 1) (sectionOf n m index 0)) in
           let k = count-le (take (b - a) (drop (a + v + 1) (sectionOf n m index 0))) in
           omega arith
@@ -158,11 +146,19 @@ module _ {bytes index : List ℕ} {n m : ℕ} (r : Ready bytes index n m) where
 
   -- ---- parents and heads
 
+  none-zero : (k : ℕ) → none ≡ unlessZero k → 0 ≡ k
+  none-zero zero e = refl
+  none-zero (suc k) e = absurd (let z : _≡_ {A = ℕ} 0 1 = cc in omega arith)
+
+  some-is : (k : ℕ) {v : ℕ} → some v ≡ unlessZero k → v ≡ k
+  some-is zero e = absurd (let z : _≡_ {A = ℕ} 0 1 = cc in omega arith)
+  some-is (suc k) e = cc
+
   module _ {v : ℕ} (h : v < n) where
     abbrev step : Step
     step = stepUp (blocks bytes) (blockMarks bytes (sectionOf n m index 1)) v
 
-    above-is : {s : Step} → s ≡ step → parentBy s ≡ answered (parent (forest (blocks bytes)) v)
+    above-is : {s : Step} → s ≡ step → parentBy s ≡ answered (unlessZero (parent (forest (blocks bytes)) v))
     unfolding parentOf
     above-is e = ap parentBy e ∙ parent-shown formed covered shows v (inside h)
 
@@ -170,15 +166,15 @@ module _ {bytes index : List ℕ} {n m : ℕ} (r : Ready bytes index n m) where
     never-stuck e = let q = above-is e in absurd (let z : _≡_ {A = ℕ} 0 1 = cc in omega arith)
 
     pub root-parent : top ≡ step → 0 ≡ parent (forest (blocks bytes)) v
-    root-parent e = same-answer (above-is e)
+    root-parent e = none-zero (parent (forest (blocks bytes)) v) (same-answer (above-is e))
 
     pub risen-to : {starts : List ℕ} {a b : ℕ} → starts ≡ startsOf (unary bytes) → a ≡ getD starts v 0 → b ≡ getD starts (v + 1) 0 → {j p : ℕ} → rise j p ≡ step → p < n
     risen-to es ga gb e =
-        let o = ready-beside in
+        let o = ready-beside r in
         rise-to (o .sound) h (block-from o es h ga gb) (block-to o es h ga gb) (sectionOf n m index 1) (length-P (o .framed)) e
 
     pub risen-parent : {j p : ℕ} → rise j p ≡ step → p + 1 ≡ parent (forest (blocks bytes)) v
-    risen-parent {p = p} e = add-one p ∙ same-answer (above-is e)
+    risen-parent {p = p} e = add-one p ∙ some-is (parent (forest (blocks bytes)) v) (same-answer (above-is e))
 
     pub stopped : inl (answered (suc v)) ≡ headNext (viewBy n m bytes index) v → v + 1 ≡ suc (head (blocks bytes) (forest (blocks bytes)) v)
     stopped e = add-one v ∙ same-answer (head-stopped formed covered shows v (inside h) (sym e))
@@ -208,7 +204,7 @@ module _ {bytes index : List ℕ} {n m : ℕ} (r : Ready bytes index n m) where
         → Tabled bytes index visits parents counts heads
     tabled cv cp cc ch = record {
       visits-are = λ {v} t. visit-told (r .written) t ∙ ap answered (sym (cv .cells (v - 1) (vertex-of t)));
-      parents-are = λ {v} t. parent-told (r .written) t ∙ ap answered (sym (by-visit (parent (forest (blocks bytes))) (cp .hold) (vertex-of t)));
+      parents-are = λ {v} t. parent-told (r .written) t ∙ ap (λ (x : ℕ). answered (unlessZero x)) (sym (by-visit (parent (forest (blocks bytes))) (cp .hold) (vertex-of t)));
       counts-are = λ {v} t. children-told (r .written) t ∙ ap answered (sym (cc .cells (v - 1) (vertex-of t)));
       heads-are = λ {v} t. head-told (r .written) t ∙ ap answered (sym (by-visit (λ u. suc (head (blocks bytes) (forest (blocks bytes)) u)) (ch .hold) (vertex-of t)));
     }

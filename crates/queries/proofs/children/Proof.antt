@@ -1,11 +1,11 @@
 -- `children` meets its contract.
-use Rattle.queries.proofs.Laws.Asking.{asked, passed-on, refused-on}
+use Rattle.queries.proofs.Laws.Asking.{passed-on, refused-on}
 use Rattle.queries.specs.Operations.{children}
 use Rattle.queries.specs.Queries.{childCount}
+use Rattle.queries.specs.Laws.Asked.{asked}
 use Rattle.queries.specs.View.{View, viewOf}
 use Rattle.record.specs.Answers.{answered, shape}
 use Prim.Native.Nat.{_-_}
-use native.Mathlib.Omega.{arith}
 use mathlib.Core.Path.{sym, ap, _∙_}
 use borrow.Author.Needs.{needs}
 use Rattle.queries.proofs.children.Statement.{statement}
@@ -20,26 +20,27 @@ enum-known-r c = search needs
 enum-known-s : tie.Need-enum-known-s
 enum-known-s c = search needs
 
-sub-children-in : tie.Need-sub-children-in
-sub-children-in c = let q = asked (c .before .before .before .before .before .before .args .bytes .now) (c .before .before .before .before .before .before .args .index .now) (c .before .before .before .before .before .before .args .v .0) (sym (ap shape (c .before .s .given .1)) ∙ c .before .before .before .order-q .ensures) in let z = q .some in omega arith
-
 children-in-requires : tie.Need-children-in-requires
-children-in-requires c κs = let q = asked (c .before .before .before .before .before .before .args .bytes .now) (c .before .before .before .before .before .before .args .index .now) (c .before .before .before .before .before .before .args .v .0) (sym (ap shape (c .before .s .given .1)) ∙ c .before .before .before .order-q .ensures) in let z = q .some in let l = q .upto in (q .beside, omega arith)
+children-in-requires c κs =
+    let bytes = c .before .before .before .before .before .before .args .bytes .now in
+    let index = c .before .before .before .before .before .before .args .index .now in
+    let q = asked bytes index (c .before .before .before .before .before .before .args .v .0) (sym (ap shape (c .before .s .given .1)) ∙ c .before .before .before .order-q .ensures) in
+    (q .beside, q .ranged)
 
 returns : tie.Need-returns
 unfolding children
 returns c =
-    let index = c .before .before .before .before .before .before .args .index .now in
-    let v = c .before .before .before .before .before .before .args .v in
     let bytes = c .before .before .before .before .before .before .args .bytes .now in
-    refused-on (bytes) (index) (v .0) (answered (childCount (viewOf (bytes) (index)) (v .0 - 1))) (sym (ap shape (c .before .r .given .1)) ∙ c .before .before .before .order-q .ensures)
+    let index = c .before .before .before .before .before .before .args .index .now in
+    let v = c .before .before .before .before .before .before .args .v .0 in
+    refused-on bytes index v (answered (childCount (viewOf bytes index) (v - 1))) (sym (ap shape (c .before .r .given .1)) ∙ c .before .before .before .order-q .ensures)
 
 returns-2 : tie.Need-returns-2
 unfolding children
 returns-2 c =
-    let v = c .before .before .before .before .before .before .before .args .v in
-    let q = asked (c .before .before .before .before .before .before .before .args .bytes .now) (c .before .before .before .before .before .before .before .args .index .now) (v .0) (sym (ap shape (c .before .before .s .given .1)) ∙ c .before .before .before .before .order-q .ensures) in
-    passed-on q (λ (w : View). answered (childCount w (v .0 - 1))) (ap answered (c .children-in .ensures))
+    let v = c .before .before .before .before .before .before .before .args .v .0 in
+    let q = asked (c .before .before .before .before .before .before .before .args .bytes .now) (c .before .before .before .before .before .before .before .args .index .now) v (sym (ap shape (c .before .before .s .given .1)) ∙ c .before .before .before .before .order-q .ensures) in
+    passed-on q (λ (w : View). answered (childCount w (v - 1))) (ap answered (c .children-in .ensures))
 
 pub children-spec : {M : Type 1} → statement M
 children-spec =
@@ -48,7 +49,6 @@ children-spec =
     order-q-requires
     enum-known-r
     enum-known-s
-    sub-children-in
     children-in-requires
     returns
     returns-2)

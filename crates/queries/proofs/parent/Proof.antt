@@ -1,11 +1,11 @@
 -- `parent` meets its contract.
-use Rattle.queries.proofs.Laws.Asking.{asked, passed-on, refused-on}
+use Rattle.queries.proofs.Laws.Asking.{passed-on, refused-on}
 use Rattle.queries.specs.Operations.{parent}
 use Rattle.queries.specs.Queries.{parentOf}
+use Rattle.queries.specs.Laws.Asked.{asked}
 use Rattle.queries.specs.View.{View, viewOf}
 use Rattle.record.specs.Answers.{shape}
 use Prim.Native.Nat.{_-_}
-use native.Mathlib.Omega.{arith}
 use mathlib.Core.Path.{sym, ap, _∙_}
 use borrow.Author.Needs.{needs}
 use Rattle.queries.proofs.parent.Statement.{statement}
@@ -20,26 +20,27 @@ enum-known-r c = search needs
 enum-known-s : tie.Need-enum-known-s
 enum-known-s c = search needs
 
-sub-parent-in : tie.Need-sub-parent-in
-sub-parent-in c = let q = asked (c .before .before .before .before .before .before .args .bytes .now) (c .before .before .before .before .before .before .args .index .now) (c .before .before .before .before .before .before .args .v .0) (sym (ap shape (c .before .s .given .1)) ∙ c .before .before .before .order-q .ensures) in let z = q .some in omega arith
-
 parent-in-requires : tie.Need-parent-in-requires
-parent-in-requires c κs = let q = asked (c .before .before .before .before .before .before .args .bytes .now) (c .before .before .before .before .before .before .args .index .now) (c .before .before .before .before .before .before .args .v .0) (sym (ap shape (c .before .s .given .1)) ∙ c .before .before .before .order-q .ensures) in let z = q .some in let l = q .upto in (q .beside, omega arith)
+parent-in-requires c κs =
+    let bytes = c .before .before .before .before .before .before .args .bytes .now in
+    let index = c .before .before .before .before .before .before .args .index .now in
+    let q = asked bytes index (c .before .before .before .before .before .before .args .v .0) (sym (ap shape (c .before .s .given .1)) ∙ c .before .before .before .order-q .ensures) in
+    (q .beside, q .ranged)
 
 returns : tie.Need-returns
 unfolding parent
 returns c =
-    let index = c .before .before .before .before .before .before .args .index .now in
-    let v = c .before .before .before .before .before .before .args .v in
     let bytes = c .before .before .before .before .before .before .args .bytes .now in
-    refused-on (bytes) (index) (v .0) (parentOf (viewOf (bytes) (index)) (v .0 - 1)) (sym (ap shape (c .before .r .given .1)) ∙ c .before .before .before .order-q .ensures)
+    let index = c .before .before .before .before .before .before .args .index .now in
+    let v = c .before .before .before .before .before .before .args .v .0 in
+    refused-on bytes index v (parentOf (viewOf bytes index) (v - 1)) (sym (ap shape (c .before .r .given .1)) ∙ c .before .before .before .order-q .ensures)
 
 returns-2 : tie.Need-returns-2
 unfolding parent
 returns-2 c =
-    let v = c .before .before .before .before .before .before .before .args .v in
-    let q = asked (c .before .before .before .before .before .before .before .args .bytes .now) (c .before .before .before .before .before .before .before .args .index .now) (v .0) (sym (ap shape (c .before .before .s .given .1)) ∙ c .before .before .before .before .order-q .ensures) in
-    passed-on q (λ (w : View). parentOf w (v .0 - 1)) (c .parent-in .ensures)
+    let v = c .before .before .before .before .before .before .before .args .v .0 in
+    let q = asked (c .before .before .before .before .before .before .before .args .bytes .now) (c .before .before .before .before .before .before .before .args .index .now) v (sym (ap shape (c .before .before .s .given .1)) ∙ c .before .before .before .before .order-q .ensures) in
+    passed-on q (λ (w : View). parentOf w (v - 1)) (c .parent-in .ensures)
 
 pub parent-spec : {M : Type 1} → statement M
 parent-spec =
@@ -48,7 +49,6 @@ parent-spec =
     order-q-requires
     enum-known-r
     enum-known-s
-    sub-parent-in
     parent-in-requires
     returns
     returns-2)

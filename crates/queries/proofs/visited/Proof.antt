@@ -1,11 +1,11 @@
 -- `visited` meets its contract.
-use Rattle.queries.proofs.Laws.Asking.{asked, passed-on, refused-on}
+use Rattle.queries.proofs.Laws.Asking.{passed-on, refused-on}
 use Rattle.queries.specs.Operations.{visited}
 use Rattle.queries.specs.Queries.{visitedOf}
+use Rattle.queries.specs.Laws.Asked.{asked}
 use Rattle.queries.specs.View.{View, viewOf}
 use Rattle.record.specs.Answers.{shape}
 use Prim.Native.Nat.{_-_}
-use native.Mathlib.Omega.{arith}
 use mathlib.Core.Path.{sym, ap, _∙_}
 use borrow.Author.Needs.{needs}
 use Rattle.queries.proofs.visited.Statement.{statement}
@@ -20,26 +20,27 @@ enum-known-r c = search needs
 enum-known-s : tie.Need-enum-known-s
 enum-known-s c = search needs
 
-sub-visited-in : tie.Need-sub-visited-in
-sub-visited-in c = let q = asked (c .before .before .before .before .before .before .args .bytes .now) (c .before .before .before .before .before .before .args .index .now) (c .before .before .before .before .before .before .args .i .0) (sym (ap shape (c .before .s .given .1)) ∙ c .before .before .before .order-q .ensures) in let z = q .some in omega arith
-
 visited-in-requires : tie.Need-visited-in-requires
-visited-in-requires c κs = let q = asked (c .before .before .before .before .before .before .args .bytes .now) (c .before .before .before .before .before .before .args .index .now) (c .before .before .before .before .before .before .args .i .0) (sym (ap shape (c .before .s .given .1)) ∙ c .before .before .before .order-q .ensures) in q .beside
+visited-in-requires c κs =
+    let bytes = c .before .before .before .before .before .before .args .bytes .now in
+    let index = c .before .before .before .before .before .before .args .index .now in
+    let q = asked bytes index (c .before .before .before .before .before .before .args .i .0) (sym (ap shape (c .before .s .given .1)) ∙ c .before .before .before .order-q .ensures) in
+    (q .beside, q .ranged)
 
 returns : tie.Need-returns
 unfolding visited
 returns c =
-    let i = c .before .before .before .before .before .before .args .i in
-    let index = c .before .before .before .before .before .before .args .index .now in
     let bytes = c .before .before .before .before .before .before .args .bytes .now in
-    refused-on (bytes) (index) (i .0) (visitedOf (viewOf (bytes) (index)) (i .0 - 1)) (sym (ap shape (c .before .r .given .1)) ∙ c .before .before .before .order-q .ensures)
+    let index = c .before .before .before .before .before .before .args .index .now in
+    let i = c .before .before .before .before .before .before .args .i .0 in
+    refused-on bytes index i (visitedOf (viewOf bytes index) (i - 1)) (sym (ap shape (c .before .r .given .1)) ∙ c .before .before .before .order-q .ensures)
 
 returns-2 : tie.Need-returns-2
 unfolding visited
 returns-2 c =
-    let i = c .before .before .before .before .before .before .before .args .i in
-    let q = asked (c .before .before .before .before .before .before .before .args .bytes .now) (c .before .before .before .before .before .before .before .args .index .now) (i .0) (sym (ap shape (c .before .before .s .given .1)) ∙ c .before .before .before .before .order-q .ensures) in
-    passed-on q (λ (w : View). visitedOf w (i .0 - 1)) (c .visited-in .ensures)
+    let i = c .before .before .before .before .before .before .before .args .i .0 in
+    let q = asked (c .before .before .before .before .before .before .before .args .bytes .now) (c .before .before .before .before .before .before .before .args .index .now) i (sym (ap shape (c .before .before .s .given .1)) ∙ c .before .before .before .before .order-q .ensures) in
+    passed-on q (λ (w : View). visitedOf w (i - 1)) (c .visited-in .ensures)
 
 pub visited-spec : {M : Type 1} → statement M
 visited-spec =
@@ -48,7 +49,6 @@ visited-spec =
     order-q-requires
     enum-known-r
     enum-known-s
-    sub-visited-in
     visited-in-requires
     returns
     returns-2)

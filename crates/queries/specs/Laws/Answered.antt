@@ -16,17 +16,18 @@ use Rattle.graph.specs.Laws.Joined.Spanning.{Covers}
 use Rattle.record.specs.Record.{terminals, wires, blocks}
 use Rattle.record.specs.Rules.{Rule, firstBroken}
 use Rattle.record.specs.Answers.{Answer, answered, triedThen}
-use Rattle.record.specs.Operations.{Accepted, otherLength, noTerminal}
+use Rattle.record.specs.Operations.{Accepted, otherLength, outOfRange}
 use Rattle.record.specs.Laws.First.{first-kept, append-kept, order-numbered}
 use Rattle.record.specs.Laws.Sound.{accepted-well-formed}
-use Rattle.record.proofs.Laws.Reading.OneBlock.{inside-some}
-use Rattle.record.proofs.Laws.Telling.Told.{then-untold, then-passed}
+use Rattle.record.specs.Laws.Range.{inside-range}
+use Rattle.record.specs.Laws.Told.{then-untold, then-passed}
 use Rattle.forest.specs.Index.{indexOf, indexLength}
 use Rattle.forest.specs.Laws.Bytes.{length-index}
 use Rattle.queries.specs.View.{viewOf}
 use Rattle.queries.specs.Operations.{orderQ}
 use Rattle.queries.specs.Laws.Shown.{Shows, each-is}
-use Rattle.queries.specs.Laws.Built.{accepted-sound, order-numbered-q, as-many, as-many-places, built-shows}
+use Rattle.queries.specs.Laws.Asked.{order-numbered-q}
+use Rattle.queries.specs.Laws.Built.{accepted-sound, as-many, as-many-places, built-shows}
 
 pub same-answer : {A : Type 0} {a b : A} → answered a ≡ answered b → a ≡ b
 same-answer e = cc
@@ -56,10 +57,10 @@ module _ {bytes index : List ℕ} (a : Accepted bytes) (is : index ≡ indexOf (
       let o = accepted-sound a in
       let l : length index ≡ indexLength (terminals bytes) (wires bytes) =
       ap length is ∙ length-index g F (wires bytes) (as-many-places a) ∙ ap (λ (x : ℕ). indexLength x (wires bytes)) (as-many a) in
-      let last : List Rule = (11, noTerminal bytes v) ∷ [] in
+      let last : List Rule = (11, outOfRange (terminals bytes) v) ∷ [] in
       append-kept (order-numbered bytes) ((10, otherLength index (indexLength (terminals bytes) (wires bytes))) ∷ last) (o .kept)
       ∙ first-kept 10 last (ap not (eq-eqb (length index) (indexLength (terminals bytes) (wires bytes)) l))
-      ∙ first-kept 11 [] (inside-some o v (λ z. omega arith) upto)
+      ∙ first-kept 11 [] (inside-range (terminals bytes) v some upto)
 
   pub passed : {A : Type 0} {v : ℕ} → 0 < v → v ≤ terminals bytes → {x y : Answer A} → x ≡ y → triedThen (orderQ bytes index v) x ≡ y
   passed {v = v} some upto {x} e = sym (then-untold (orderQ bytes index v) x (kept some upto)) ∙ e

@@ -5,32 +5,28 @@ use mathlib.Core.List.{List, map, flatten}
 use Prim.Native.Nat.{ℕ, suc, _+_, _*_, _<_}
 use native.Mathlib.Omega.{arith}
 use lib.ListN.{length, take, drop}
-use Rattle.bits.specs.Bits.{string, select}
+use Rattle.bits.specs.Bits.{bits, string, select}
 use Rattle.graph.specs.Graph.{block}
 use Rattle.graph.specs.Search.{PlaceTest, countUp, forest}
 use Rattle.graph.specs.Joined.{bridge}
 use Rattle.graph.specs.Forest.{number, childMark, parentMark}
 use Rattle.graph.specs.Theorems.{vertices-cover, number-in-range}
 use Rattle.record.specs.Record.{terminals, wires, unary, blocks}
-use Rattle.record.specs.Rules.{orderR, checkRules}
+use Rattle.record.specs.Rules.{checkRules}
 use Rattle.record.specs.Operations.{Accepted}
 use Rattle.record.specs.Steps.{Sound}
-use Rattle.record.specs.Laws.First.{Numbered, none, rule, both-kept, order-numbered}
+use Rattle.record.specs.Laws.First.{both-kept, order-numbered}
+use Rattle.record.specs.Laws.Fields.{fieldsFrom-at}
 use Rattle.record.specs.Laws.Sound.{accepted-well-formed}
-use Rattle.record.proofs.Laws.Reading.Sounded.{sound-of, sound-vertices, sound-all}
-use Rattle.record.proofs.Laws.Reading.Spans.{span-one}
+use Rattle.record.specs.Laws.Sounded.{sound-of, sound-vertices, sound-all}
+use Rattle.record.specs.Laws.Spans.{span-one}
 use Rattle.forest.specs.Index.{section, sectionE, sectionP, sectionB, indexOf, markBytes}
 use Rattle.forest.specs.Laws.Sections.{placeBit}
 use Rattle.forest.specs.Laws.Bytes.{string-E, string-P, string-B, number-stored}
-use Rattle.forest.proofs.Laws.TreeEdges.{start-block}
+use Rattle.forest.specs.Laws.Starts.{start-block}
 use Rattle.queries.specs.View.{blockMarks, sectionOf, numberOf, viewOf}
-use Rattle.queries.specs.Operations.{orderQ}
 use Rattle.queries.specs.Laws.Marks.{block-part}
 use Rattle.queries.specs.Laws.Shown.{Shows}
-
-pub order-numbered-q : (bytes index : List ℕ) (v : ℕ) → Numbered (orderQ bytes index v)
-unfolding orderQ orderR
-order-numbered-q bytes index v = rule (rule (rule (rule (rule (rule none)))))
 
 module _ {bytes : List ℕ} (a : Accepted bytes) where
   pub accepted-sound : Sound bytes (terminals bytes) (wires bytes)
@@ -87,6 +83,7 @@ module _ {bytes : List ℕ} (a : Accepted bytes) where
       let f = accepted-sound .n-fits in
       let r = number-in-range (accepted-well-formed a .in-range) (vertices-cover (blocks bytes)) u h in
       ap (λ (x : ℕ). numberOf x (wires bytes) (indexOf (blocks bytes)) u) (sym as-many)
+      ∙ fieldsFrom-at (bits (indexOf (blocks bytes))) (8 * (3 * markBytes (length (blocks bytes)) (wires bytes))) (length (blocks bytes)) u h
       ∙ number-stored (blocks bytes) (forest (blocks bytes)) (wires bytes) as-many-places u h (omega arith)
 
   pub built-shows : Shows (viewOf bytes (indexOf (blocks bytes))) (forest (blocks bytes))

@@ -25,7 +25,7 @@ use Rattle.graph.specs.Laws.Heads.Walks.{walk-stop, HeadSteps, AncestorSteps}
 use Rattle.record.specs.Answers.{Answer, refused, answered}
 use Rattle.forest.specs.Laws.Sections.{length-each, each-at}
 use Rattle.queries.specs.View.{View}
-use Rattle.queries.specs.Queries.{top, rise, stepBy, stepUp, parentBy, parentOf, headBy, headNext, headOf, ancestorBy, ancestorNext, ancestorOf, childCount, vertexOr, childOf, visitOf, found, visitedOf}
+use Rattle.queries.specs.Queries.{top, rise, stepBy, stepUp, parentBy, unlessZero, parentOf, headBy, headNext, headOf, ancestorBy, ancestorNext, ancestorOf, childCount, vertexOr, childOf, visitOf, found, visitedOf}
 use Rattle.queries.specs.Laws.Marks.{set-inside, none-set, first-set, one-set, count-each, select-each}
 
 -- the marks of each block and the stored numbers are the forest's
@@ -84,18 +84,18 @@ module _ {w : View} {starts : List ℕ} (wf : WellFormed (w .graph)) (cov : Cove
 
   -- ---- Parent
 
-  pub parent-shown : (u : ℕ) → u < length (w .graph) → parentOf w u ≡ answered (parent F u)
+  pub parent-shown : (u : ℕ) → u < length (w .graph) → parentOf w u ≡ answered (unlessZero (parent F u))
   unfolding parentOf
   parent-shown u h = go (parent F u) refl
     where
-      go : (p : ℕ) → parent F u ≡ p → parentBy (stepUp (w .graph) (w .marksP) u) ≡ answered (parent F u)
-      go zero e = ap parentBy (root-step u h e) ∙ ap answered (sym e)
+      go : (p : ℕ) → parent F u ≡ p → parentBy (stepUp (w .graph) (w .marksP) u) ≡ answered (unlessZero (parent F u))
+      go zero e = ap parentBy (root-step u h e) ∙ ap (λ (x : ℕ). answered (unlessZero x)) (sym e)
       go (suc p) e =
           let span = search-spans (wf .in-range) cov in
           let bal = wires-balance wf in
           let b = first-back span bal h e in
           let q = back-parent bal (span .built) b in
-          ap parentBy (child-step u (position p (block (w .graph) u) 0) (back-place bal (span .built) b) (back-marked bal (span .built) b)) ∙ ap answered (sym q)
+          ap parentBy (child-step u (position p (block (w .graph) u) 0) (back-place bal (span .built) b) (back-marked bal (span .built) b)) ∙ ap (λ (x : ℕ). answered (unlessZero x)) (sym q)
 
   -- ---- Head
 

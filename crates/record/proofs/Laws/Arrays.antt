@@ -1,5 +1,4 @@
 -- The blocks as two arrays, and the counts that a loop over them keeps.
-pub mod Stores
 pub mod Mentions
 pub mod Parts
 pub mod Counts

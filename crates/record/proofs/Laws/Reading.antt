@@ -1,9 +1,6 @@
 -- What the code reads of a record: its header, D and the fields.
 pub mod Headers
-pub mod Sounded
-pub mod InOrder
 pub mod Unpacked
 pub mod Tops
 pub mod Filled
-pub mod Spans
 pub mod OneBlock

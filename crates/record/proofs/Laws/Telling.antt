@@ -1,4 +1,3 @@
 -- How an answer tells the first broken rule, and what is known where none is.
-pub mod Told
-pub mod Accepting
+pub mod Unpacking
 pub mod Figures

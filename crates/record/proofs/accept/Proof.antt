@@ -3,8 +3,8 @@ use mathlib.Core.Path.{_∙_, sym, ap}
 use borrow.Author.Needs.{needs}
 use Rattle.record.specs.Answers.{shape, sizesOf}
 use Rattle.record.specs.Rules.{orderR, checkRules}
-use Rattle.record.proofs.Laws.Reading.Sounded.{told-sound}
-use Rattle.record.proofs.Laws.Telling.Told.{told-append}
+use Rattle.record.specs.Laws.Sounded.{told-sound}
+use Rattle.record.specs.Laws.Told.{told-append}
 use Rattle.record.proofs.accept.Statement.{statement}
 use Rattle.record.proofs.accept.Tie as tie
 

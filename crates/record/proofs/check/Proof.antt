@@ -4,7 +4,7 @@ use borrow.Author.Needs.{needs}
 use Rattle.record.specs.Answers.{shape, sizesOf}
 use Rattle.record.specs.Operations.{check}
 use Rattle.record.specs.Rules.{checkRules}
-use Rattle.record.proofs.Laws.Telling.Told.{told-same, untold-same}
+use Rattle.record.specs.Laws.Told.{told-same, untold-same}
 use Rattle.record.proofs.check.Statement.{statement}
 use Rattle.record.proofs.check.Tie as tie
 

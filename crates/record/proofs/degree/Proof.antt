@@ -6,11 +6,11 @@ use borrow.Author.Needs.{needs}
 use lib.ListN.{length}
 use Rattle.graph.specs.Graph.{block}
 use Rattle.record.specs.Answers.{shape, sizesOf}
-use Rattle.record.specs.Operations.{noTerminal, degreeRules, degree}
-use Rattle.record.specs.Record.{blocks}
+use Rattle.record.specs.Operations.{outOfRange, degreeRules, degree}
+use Rattle.record.specs.Record.{terminals, blocks}
 use Rattle.record.specs.Rules.{orderR}
-use Rattle.record.proofs.Laws.Reading.Sounded.{told-sound}
-use Rattle.record.proofs.Laws.Telling.Told.{told-append}
+use Rattle.record.specs.Laws.Sounded.{told-sound}
+use Rattle.record.specs.Laws.Told.{told-append}
 use Rattle.record.proofs.degree.Statement.{statement}
 use Rattle.record.proofs.degree.Tie as tie
 
@@ -31,7 +31,7 @@ unfolding degree degreeRules
 returns c =
     let bytes = c .before .before .before .before .before .args .bytes .now in
     let v = c .before .before .before .before .before .args .v .0 in
-    told-append (orderR bytes) ((11, noTerminal bytes v) ∷ []) (sizesOf bytes) (length (block (blocks bytes) (v - 1))) (sym (ap shape (c .before .r .given .1)) ∙ c .before .before .before .order-r .ensures)
+    told-append (orderR bytes) ((11, outOfRange (terminals bytes) v) ∷ []) (sizesOf bytes) (length (block (blocks bytes) (v - 1))) (sym (ap shape (c .before .r .given .1)) ∙ c .before .before .before .order-r .ensures)
 
 returns-2 : tie.Need-returns-2
 returns-2 c = search needs

@@ -8,9 +8,9 @@ use Rattle.record.specs.Answers.{Answer, shape, sizesOf, answered}
 use Rattle.record.specs.Operations.{loopFigure}
 use Rattle.record.specs.Record.{terminals, wires}
 use Rattle.record.specs.Rules.{checkRules}
-use Rattle.record.proofs.Laws.Telling.Accepting.{accepted-kept, accepted-sound}
+use Rattle.record.specs.Laws.Sounded.{accepted-kept, accepted-sound}
 use Rattle.record.proofs.Laws.Telling.Figures.{small-fits, difference-fits, difference-told}
-use Rattle.record.proofs.Laws.Telling.Told.{told-same, untold}
+use Rattle.record.specs.Laws.Told.{told-same, untold}
 use Rattle.record.proofs.loop_figure.Statement.{statement}
 use Rattle.record.proofs.loop_figure.Tie as tie
 

@@ -3,7 +3,7 @@ use mathlib.Core.Path.{_∙_, sym, ap}
 use borrow.Author.Needs.{needs}
 use Rattle.record.specs.Answers.{shape}
 use Rattle.record.proofs.Laws.Reading.OneBlock.{order-ungiven, front}
-use Rattle.record.proofs.Laws.Reading.Sounded.{told-sound}
+use Rattle.record.specs.Laws.Sounded.{told-sound}
 use Rattle.record.proofs.neighbours.Statement.{statement}
 use Rattle.record.proofs.neighbours.Tie as tie
 

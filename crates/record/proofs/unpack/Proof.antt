@@ -4,9 +4,9 @@ use native.Mathlib.Omega.{arith}
 use borrow.Author.Needs.{needs}
 use Rattle.record.specs.Answers.{shape}
 use Rattle.record.specs.Record.{fields}
-use Rattle.record.proofs.Laws.Telling.Accepting.{accepted-kept, accepted-sound, unpack-refused, unpack-misfit, unpack-done}
-use Rattle.record.proofs.Laws.Counting.Contents.{fields-read}
-use Rattle.record.proofs.Laws.Reading.Unpacked.{raised-one}
+use Rattle.record.specs.Laws.Sounded.{accepted-kept, accepted-sound}
+use Rattle.record.specs.Laws.Raised.{raised-one, fields-read}
+use Rattle.record.proofs.Laws.Telling.Unpacking.{unpack-refused, unpack-misfit, unpack-done}
 use Rattle.record.proofs.unpack.Statement.{statement}
 use Rattle.record.proofs.unpack.Tie as tie
 

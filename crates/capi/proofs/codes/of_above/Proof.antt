@@ -1,6 +1,6 @@
 -- `codes::of_above` meets its contract.
 use Rattle.capi.proofs.Laws.Coded.{code-refused, code-answered, value-at}
-use Rattle.capi.specs.Code.{itself}
+use Rattle.queries.specs.Queries.{orZero}
 use Rattle.queries.specs.Answers.{above}
 use mathlib.Core.Path.{refl, sym, ap}
 use borrow.Author.Needs.{needs}
@@ -14,7 +14,6 @@ enum-known-a : tie.Need-enum-known-a
 enum-known-a c = search needs
 
 low-requires : tie.Need-low-requires
-unfolding itself
 low-requires c κs = value-at (c .before .before .before .pre) (sym (ap above (c .before .a .given .1)))
 
 enum-known-a-2 : tie.Need-enum-known-a-2
@@ -24,15 +23,13 @@ high-requires : tie.Need-high-requires
 high-requires c κs = search needs
 
 returns : tie.Need-returns
-unfolding itself
-returns c = code-answered itself (sym (ap above (c .enum-told .given .1))) refl
+returns c = code-answered orZero (sym (ap above (c .enum-told .given .1))) refl
 
 returns-2 : tie.Need-returns-2
-unfolding itself
-returns-2 c = code-answered itself (sym (ap above (c .before .before .a .given .1))) (c .low .ensures)
+returns-2 c = code-answered orZero (sym (ap above (c .before .before .a .given .1))) (c .low .ensures)
 
 returns-3 : tie.Need-returns-3
-returns-3 c = code-refused itself (sym (ap above (c .before .before .a2 .given .1))) (c .high .ensures)
+returns-3 c = code-refused orZero (sym (ap above (c .before .before .a2 .given .1))) (c .high .ensures)
 
 pub of-above-spec : {M : Type 1} → statement M
 of-above-spec =

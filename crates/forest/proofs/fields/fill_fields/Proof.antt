@@ -1,7 +1,6 @@
 -- `fields::fill_fields` meets its contract.
 use Rattle.record.specs.Record.{fields}
-use Rattle.record.proofs.Laws.Counting.Contents.{fields-read}
-use Rattle.record.proofs.Laws.Reading.Unpacked.{raised-none}
+use Rattle.record.specs.Laws.Raised.{raised-none, fields-read}
 use mathlib.Core.Path.{_∙_}
 use borrow.Author.Needs.{needs}
 use Rattle.forest.proofs.fields.fill_fields.Statement.{statement}

@@ -1,5 +1,5 @@
 -- `index::write_index` meets its contract.
-use Rattle.record.proofs.Laws.Arrays.Stores.{part-zeros}
+use Rattle.record.specs.Laws.Stores.{part-zeros}
 use native.Mathlib.Omega.{arith}
 use Prim.Native.Nat.{_*_}
 use mathlib.Core.Path.{sym}

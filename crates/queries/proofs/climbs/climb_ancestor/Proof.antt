@@ -1,5 +1,5 @@
 -- `climbs::climb_ancestor` meets its contract.
-use Rattle.record.proofs.Laws.Reading.Sounded.{sound-vertices}
+use Rattle.record.specs.Laws.Sounded.{sound-vertices}
 use Rattle.queries.proofs.Laws.Climbing.{climb-stop, climb-on, climb-late, ancestor-inside, ancestor-begin}
 use Rattle.queries.specs.Steps.{turnOf}
 use Rattle.queries.specs.Queries.{ancestorNext, ancestorOf}

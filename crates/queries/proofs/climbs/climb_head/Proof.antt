@@ -1,5 +1,5 @@
 -- `climbs::climb_head` meets its contract.
-use Rattle.record.proofs.Laws.Reading.Sounded.{sound-vertices}
+use Rattle.record.specs.Laws.Sounded.{sound-vertices}
 use Rattle.queries.proofs.Laws.Climbing.{climb-stop, climb-on, climb-late, head-inside, head-begin}
 use Rattle.queries.specs.Steps.{moveOf}
 use Rattle.queries.specs.Queries.{headNext, headOf}

@@ -2,9 +2,11 @@
 use Rattle.queries.proofs.Laws.Marks.{numbers-fit}
 use Rattle.queries.specs.View.{numberOf}
 use Rattle.bits.specs.Bits.{bits, field}
+use Rattle.record.specs.Laws.Fields.{fieldsFrom-at}
+use Rattle.forest.specs.Index.{markBytes}
 use native.Mathlib.Omega.{arith}
 use Prim.Native.Nat.{ℕ, _+_, _*_}
-use mathlib.Core.Path.{ap, _∙_}
+use mathlib.Core.Path.{sym, ap, _∙_}
 use borrow.Author.Needs.{needs}
 use Rattle.queries.proofs.marks.stored.Statement.{statement}
 use Rattle.queries.proofs.marks.stored.Tie as tie
@@ -31,7 +33,14 @@ read12-requires c κs =
 
 returns : tie.Need-returns
 unfolding numberOf
-returns c = (c .read12 .ensures .0 ∙ ap (λ (k : ℕ). field 12 (bits (c .before .before .before .args .index .now)) (8 * (3 * k) + 12 * c .before .before .before .args .u)) (c .before .mark-bytes .ensures .0), c .read12 .ensures .1)
+returns c =
+    let index = c .before .before .before .args .index .now in
+    let n = c .before .before .before .args .n in
+    let u = c .before .before .before .args .u in
+    let k = c .before .mark-bytes .ensures .0 in
+    let here = ap (λ (b : ℕ). field 12 (bits index) (8 * (3 * b) + 12 * u)) k in
+    let at = fieldsFrom-at (bits index) (8 * (3 * markBytes n (c .before .before .before .args .m))) n u (c .before .before .before .pre .1) in
+    (c .read12 .ensures .0 ∙ here ∙ sym at, c .read12 .ensures .1)
 
 pub stored-spec : {M : Type 1} → statement M
 stored-spec =

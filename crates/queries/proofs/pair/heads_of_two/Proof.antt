@@ -22,8 +22,11 @@ same-length-2 c = search needs
 
 returns : tie.Need-returns
 returns c =
-    let b = c .before .before .before .before .before .before .before .before .build .ensures in
-    (b .0, b .1, λ e t r. paired (c .before .before .before .before .before .before .before .before .before .before .before .before .before .before .args .bytes .now) (c .before .before .before .before .before .before .before .before .before .before .before .before .before .before .args .work .now) (c .before .before .before .before .before .before .before .before .before .before .before .before .before .before .args .index .now) (b .1) (c .before .before .head .ensures) (c .head2 .ensures) (sym (b .0) ∙ e) t r)
+    let (answer, buffer) = c .before .before .before .before .before .before .before .before .build .ensures in
+    let x = c .before .before .head .ensures in
+    let y = c .head2 .ensures in
+    let tell = paired (c .before .before .before .before .before .before .before .before .before .before .before .before .before .before .args .bytes .now) (c .before .before .before .before .before .before .before .before .before .before .before .before .before .before .args .work .now) (c .before .before .before .before .before .before .before .before .before .before .before .before .before .before .args .index .now) buffer x y in
+    (answer, buffer, x, y, λ e t r. tell (sym answer ∙ e) t r)
 
 pub heads-of-two-spec : {M : Type 1} → statement M
 heads-of-two-spec =

@@ -5,12 +5,18 @@ use Rattle.queries.specs.Steps.{stepOf}
 use Rattle.queries.specs.Queries.{parentBy, parentOf}
 use Rattle.queries.specs.View.{sectionOf}
 use Rattle.record.specs.Answers.{answered}
+use Rattle.queries.specs.Laws.Asked.{vertex-in}
 use native.Mathlib.Omega.{arith}
 use native.Mathlib.Numerals.{add-one}
+use mathlib.Core.Option.{some}
+use Prim.Native.Nat.{ℕ}
 use mathlib.Core.Path.{sym, ap, _∙_}
 use borrow.Author.Needs.{needs}
 use Rattle.queries.proofs.single.parent_in.Statement.{statement}
 use Rattle.queries.proofs.single.parent_in.Tie as tie
+
+sub-u : tie.Need-sub-u
+sub-u c = let z = c .before .before .before .pre .1 .some in omega arith
 
 start-of-requires : tie.Need-start-of-requires
 start-of-requires c κs = search needs
@@ -33,14 +39,16 @@ enum-told-2 c = search needs
 enum-known-r : tie.Need-enum-known-r
 enum-known-r c = search needs
 
-add-t13 : tie.Need-add-t13
-add-t13 c =
-    let pre = c .before .before .before .before .before .before .before .before .before .pre in
-    let m = c .before .before .before .before .before .before .before .before .before .args .m in
-    let n = c .before .before .before .before .before .before .before .before .before .args .n in
-    let index = c .before .before .before .before .before .before .before .before .before .args .index .now in
-    let t = rise-to (pre .0 .sound) (pre .1) (c .before .before .before .before .before .before .start-of .ensures) (c .before .before .before .before .before .start-of2 .ensures) (sectionOf (n) (m) (index) 1) (length-P (pre .0 .framed)) (sym (ap stepOf (c .before .before .r .given .1)) ∙ c .before .before .before .before .step-up .ensures) in
-    let f = pre .0 .framed .n-fits in omega arith
+add-t14 : tie.Need-add-t14
+add-t14 c =
+    let pre = c .before .before .before .before .before .before .before .before .before .before .pre in
+    let s = sectionOf (c .before .before .before .before .before .before .before .before .before .before .args .n) (c .before .before .before .before .before .before .before .before .before .before .args .m) (c .before .before .before .before .before .before .before .before .before .before .args .index .now) 1 in
+    let a = c .before .before .before .before .before .before .start-of .ensures in
+    let b = c .before .before .before .before .before .start-of2 .ensures in
+    let e = sym (ap stepOf (c .before .before .r .given .1)) ∙ c .before .before .before .before .step-up .ensures in
+    let t = rise-to (pre .0 .sound) (vertex-in (pre .1)) a b s (length-P (pre .0 .framed)) e in
+    let f = pre .0 .framed .n-fits in
+    omega arith
 
 returns : tie.Need-returns
 unfolding parentOf
@@ -54,12 +62,14 @@ returns-3 : tie.Need-returns-3
 unfolding parentOf
 returns-3 c =
     let r = c .before .before .r in
-    ap answered (add-one (r .given .0 .0 .to)) ∙ ap parentBy (sym (ap stepOf (r .given .1)) ∙ c .before .before .before .before .step-up .ensures)
+    let named = ap (λ (p : ℕ). answered (some p)) (add-one (r .given .0 .0 .to)) in
+    named ∙ ap parentBy (sym (ap stepOf (r .given .1)) ∙ c .before .before .before .before .step-up .ensures)
 
 pub parent-in-spec : {M : Type 1} → statement M
 parent-in-spec =
     tie.close
     (tie.spec
+    sub-u
     start-of-requires
     add-start-of
     start-of-requires-2
@@ -67,7 +77,7 @@ parent-in-spec =
     enum-told
     enum-told-2
     enum-known-r
-    add-t13
+    add-t14
     returns
     returns-2
     returns-3)

@@ -1,5 +1,6 @@
 -- `table::fill_climbs` meets its contract.
-use Rattle.queries.proofs.Laws.Tabling.{cells-begin, cells-put, cells-end, ready-beside, vertex-inside, vertices-apart}
+use Rattle.queries.specs.Laws.Ready.{ready-beside}
+use Rattle.queries.proofs.Laws.Tabling.{cells-begin, cells-put, cells-end, vertex-inside, vertices-apart}
 use Rattle.queries.specs.Table.{HeadsTo, ParentsTo}
 use Rattle.graph.specs.Forest.{parent as parentIn, head as headIn}
 use Rattle.graph.specs.Search.{forest}

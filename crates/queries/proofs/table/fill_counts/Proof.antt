@@ -1,5 +1,6 @@
 -- `table::fill_counts` meets its contract.
-use Rattle.queries.proofs.Laws.Tabling.{cells-begin, cells-put, cells-end, apart-self, ready-beside, block-span, count-cell, count-small}
+use Rattle.queries.specs.Laws.Ready.{ready-beside}
+use Rattle.queries.proofs.Laws.Tabling.{cells-begin, cells-put, cells-end, apart-self, block-span, count-cell, count-small}
 use Rattle.queries.proofs.Laws.Climbing.{starts-long}
 use Rattle.queries.specs.Table.{Cells}
 use Rattle.graph.specs.Forest.{children}

@@ -1,5 +1,6 @@
 -- `table::fill_order` meets its contract.
-use Rattle.queries.proofs.Laws.Tabling.{cells-begin, cells-put, ready-beside, visit-inside, numbers-apart, order-filled}
+use Rattle.queries.specs.Laws.Ready.{ready-beside}
+use Rattle.queries.proofs.Laws.Tabling.{cells-begin, cells-put, visit-inside, numbers-apart, order-filled}
 use Rattle.queries.specs.Table.{Cells}
 use Rattle.graph.specs.Forest.{number}
 use Rattle.graph.specs.Search.{forest}

@@ -1,5 +1,6 @@
 -- `table::fill_visits` meets its contract.
-use Rattle.queries.proofs.Laws.Tabling.{cells-begin, cells-put, cells-end, apart-self, ready-beside, visit-cell}
+use Rattle.queries.specs.Laws.Ready.{ready-beside}
+use Rattle.queries.proofs.Laws.Tabling.{cells-begin, cells-put, cells-end, apart-self, visit-cell}
 use Rattle.queries.specs.Table.{Cells}
 use Rattle.graph.specs.Forest.{number}
 use Rattle.graph.specs.Search.{forest}

@@ -1,5 +1,6 @@
 -- `table::place_of` meets its contract.
-use Rattle.queries.proofs.Laws.Tabling.{ready-beside, at-inside, never-stuck, root-parent, root-head, risen-to, risen-parent, risen-head, stopped}
+use Rattle.queries.specs.Laws.Ready.{ready-beside}
+use Rattle.queries.proofs.Laws.Tabling.{at-inside, never-stuck, root-parent, root-head, risen-to, risen-parent, risen-head, stopped}
 use Rattle.queries.proofs.Laws.Climbing.{starts-long, block-from, block-to, rise-room, head-stops, head-rises}
 use Rattle.queries.specs.Steps.{stepOf}
 use native.Mathlib.Omega.{arith}

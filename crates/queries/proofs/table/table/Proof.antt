@@ -1,5 +1,6 @@
 -- `table::table` meets its contract.
-use Rattle.queries.proofs.Laws.Tabling.{ready-beside, tabled}
+use Rattle.queries.specs.Laws.Ready.{ready-beside}
+use Rattle.queries.proofs.Laws.Tabling.{tabled}
 use borrow.Author.Needs.{needs}
 use Rattle.queries.proofs.table.table.Statement.{statement}
 use Rattle.queries.proofs.table.table.Tie as tie

@@ -1,5 +1,5 @@
 -- `visits::visited_in` meets its contract.
-use Rattle.record.proofs.Laws.Reading.Sounded.{sound-vertices}
+use Rattle.record.specs.Laws.Sounded.{sound-vertices}
 use Rattle.queries.proofs.Laws.Singles.{Unmet, unmet-begin, unmet-more, met, unmet-end}
 use Rattle.queries.specs.View.{viewBy}
 use native.Mathlib.Omega.{arith}
@@ -13,37 +13,43 @@ Inv-loop bytes index n m k u₀ u = Unmet (viewBy n m bytes index) k u
 abbrev μ-loop : tie.MeasureT-loop
 μ-loop bytes index n m k u₀ u = n - u
 
+sub-k : tie.Need-sub-k Inv-loop μ-loop
+sub-k c = let z = c .before .before .before .pre .1 .some in omega arith
+
 loop-holds : tie.Need-loop-holds Inv-loop μ-loop
-loop-holds c = unmet-begin (viewBy (c .before .before .args .n) (c .before .before .args .m) (c .before .before .args .bytes .now) (c .before .before .args .index .now)) (c .before .before .args .k)
+loop-holds c =
+    let w = viewBy (c .before .before .before .args .n) (c .before .before .before .args .m) (c .before .before .before .args .bytes .now) (c .before .before .before .args .index .now) in
+    unmet-begin w (c .before .before .before .args .i .0 - 1)
 
 stored-requires : tie.Need-stored-requires Inv-loop μ-loop
-stored-requires c κs = (c .before .before .before .before .pre .framed, c .loop-test .taken)
+stored-requires c κs = (c .before .before .before .before .before .pre .0 .framed, c .loop-test .taken)
 
-add-t9 : tie.Need-add-t9 Inv-loop μ-loop
-add-t9 c = let f = c .before .before .before .before .before .before .pre .framed .n-fits in omega arith
+add-t10 : tie.Need-add-t10 Inv-loop μ-loop
+add-t10 c = let f = c .before .before .before .before .before .before .before .pre .0 .framed .n-fits in omega arith
 
 returns : tie.Need-returns Inv-loop μ-loop
 returns c =
-    let loop = c .before .before .before .loop in
-    let k = sound-vertices (c .before .before .before .before .before .before .pre .sound) in
-    met (viewBy (c .before .before .before .before .before .before .args .n) (c .before .before .before .before .before .before .args .m) (c .before .before .before .before .before .before .args .bytes .now) (c .before .before .before .before .before .before .args .index .now)) (c .before .before .before .before .before .before .args .k) {u = loop .u} (omega arith) (c .before .stored .ensures .0) (loop .inv) (c .if1 .taken)
+    let k = sound-vertices (c .before .before .before .before .before .before .before .pre .0 .sound) in
+    let w = viewBy (c .before .before .before .before .before .before .before .args .n) (c .before .before .before .before .before .before .before .args .m) (c .before .before .before .before .before .before .before .args .bytes .now) (c .before .before .before .before .before .before .before .args .index .now) in
+    met w (c .before .before .before .before .before .before .before .args .i .0 - 1) {u = c .before .before .before .loop .u} (omega arith) (c .before .stored .ensures .0) (c .before .before .before .loop .inv) (c .if1 .taken)
 
 add-u : tie.Need-add-u Inv-loop μ-loop
-add-u c = let f = c .before .before .before .before .before .before .pre .framed .n-fits in omega arith
+add-u c = let f = c .before .before .before .before .before .before .before .pre .0 .framed .n-fits in omega arith
 
 loop-less : tie.Need-loop-less Inv-loop μ-loop
 loop-less c = omega arith
 
 loop-again : tie.Need-loop-again Inv-loop μ-loop
 loop-again c =
-    let loop = c .before .before .before .loop in
-    let k = sound-vertices (c .before .before .before .before .before .before .pre .sound) in
-    unmet-more (viewBy (c .before .before .before .before .before .before .args .n) (c .before .before .before .before .before .before .args .m) (c .before .before .before .before .before .before .args .bytes .now) (c .before .before .before .before .before .before .args .index .now)) (c .before .before .before .before .before .before .args .k) {u = loop .u} (omega arith) (c .before .stored .ensures .0) (loop .inv) (c .if1 .left)
+    let k = sound-vertices (c .before .before .before .before .before .before .before .pre .0 .sound) in
+    let w = viewBy (c .before .before .before .before .before .before .before .args .n) (c .before .before .before .before .before .before .before .args .m) (c .before .before .before .before .before .before .before .args .bytes .now) (c .before .before .before .before .before .before .before .args .index .now) in
+    unmet-more w (c .before .before .before .before .before .before .before .args .i .0 - 1) {u = c .before .before .before .loop .u} (omega arith) (c .before .stored .ensures .0) (c .before .before .before .loop .inv) (c .if1 .left)
 
 returns-2 : tie.Need-returns-2 Inv-loop μ-loop
 returns-2 c =
-    let k = sound-vertices (c .before .before .before .before .pre .sound) in
-    unmet-end (viewBy (c .before .before .before .before .args .n) (c .before .before .before .before .args .m) (c .before .before .before .before .args .bytes .now) (c .before .before .before .before .args .index .now)) (c .before .before .before .before .args .k) {u = c .before .loop .u} (omega arith) (c .before .loop .inv)
+    let k = sound-vertices (c .before .before .before .before .before .pre .0 .sound) in
+    let w = viewBy (c .before .before .before .before .before .args .n) (c .before .before .before .before .before .args .m) (c .before .before .before .before .before .args .bytes .now) (c .before .before .before .before .before .args .index .now) in
+    unmet-end w (c .before .before .before .before .before .args .i .0 - 1) {u = c .before .loop .u} (omega arith) (c .before .loop .inv)
 
 pub visited-in-spec : {M : Type 1} → statement M
 visited-in-spec =
@@ -51,9 +57,10 @@ visited-in-spec =
     (tie.spec
     Inv-loop
     μ-loop
+    sub-k
     loop-holds
     stored-requires
-    add-t9
+    add-t10
     returns
     add-u
     loop-less

@@ -23,8 +23,8 @@ use Rattle.record.specs.Laws.Layout.{length-fields, length-blocks, block
 use Rattle.record.specs.Laws.Anywhere.{nowhere}
 use Rattle.record.specs.Laws.Unary.{flatten-below}
 use Rattle.record.specs.Laws.RoundTrip.{flatten-blocks}
-use Rattle.record.proofs.Laws.Reading.Sounded.{sound-shaped}
-use Rattle.record.proofs.Laws.Reading.Unpacked.{raised, raised-none}
+use Rattle.record.specs.Laws.Sounded.{sound-shaped}
+use Rattle.record.specs.Laws.Raised.{raised, raised-none, fields-read}
 
 not-stray : (g : Blocks) (u v : ℕ) → stray g u v ≡ false → v < length g
 unfolding stray
@@ -41,11 +41,6 @@ module _ {bytes : List ℕ} {n m : ℕ} (s : Sound bytes n m) where
   sizes-told =
       let sized : ℕ → ℕ → Answer Sizes = λ x y. answered (record { n = x; m = y }) in
       ap₂ sized (s .is-n) (s .is-m)
-
-  -- the fields as the code reads them
-  pub fields-read : (more : ℕ) {k : ℕ} → k ≡ 2 * m → raised more (fieldsFrom (bits bytes) (28 + (n + 2 * m)) k) ≡ raised more (fields bytes)
-  unfolding fields
-  fields-read more e = rw (e, s .is-n, s .is-m)
 
   -- ---- rule 5
 

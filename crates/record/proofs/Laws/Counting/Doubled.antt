@@ -15,7 +15,7 @@ use Rattle.record.specs.Flat.{Input}
 use Rattle.record.specs.Tally.{Fresh, Repeats}
 use Rattle.record.specs.Laws.Anywhere.{somewhere, nowhere}
 use Rattle.record.proofs.Laws.Arrays.Mentions.{mention-place}
-use Rattle.record.proofs.Laws.Arrays.Stores.{cell-zero}
+use Rattle.record.specs.Laws.Stores.{cell-zero}
 use Rattle.record.specs.Laws.Parts.{length-cut}
 use Rattle.record.proofs.Laws.Arrays.Loops.{Sized, sized-start}
 

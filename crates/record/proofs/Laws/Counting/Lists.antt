@@ -7,7 +7,7 @@ use native.Mathlib.Decide.{ℕ-discrete}
 use lib.ListN.{length, getD, set, length-set, replicate, length-replicate}
 use Rattle.record.specs.Flat.{Input, At, Holds, latest}
 use Rattle.record.specs.Tally.{Listed}
-use Rattle.record.proofs.Laws.Arrays.Stores.{cell-zero, cell-same, cell-other}
+use Rattle.record.specs.Laws.Stores.{cell-zero, cell-same, cell-other}
 use Rattle.record.proofs.Laws.Arrays.Latest.{latest-zero, latest-hit, latest-miss}
 use Rattle.record.proofs.Laws.Arrays.Loops.{Sized, sized-start, Round, round-start, round-more, round-last, along-holds, along-end, Span, span-start, span-place, span-known, span-more}
 

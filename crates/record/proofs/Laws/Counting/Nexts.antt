@@ -7,7 +7,7 @@ use native.Mathlib.Decide.{ℕ-discrete}
 use lib.ListN.{length, getD, set, length-set}
 use borrow.Author.Count.{below-more}
 use Rattle.record.specs.Reverse.{AtStarts, AtEnds}
-use Rattle.record.proofs.Laws.Arrays.Stores.{cell-same, cell-other}
+use Rattle.record.specs.Laws.Stores.{cell-same, cell-other}
 
 -- n parts, and before part v each place is the start of part `of w`
 pub record Nexts (starts next : List ℕ) (n v : ℕ) (of : ℕ → ℕ) : Type 0 where

@@ -10,7 +10,7 @@ use Rattle.graph.specs.Graph.{block, mentions}
 use Rattle.record.specs.Starts.{cut}
 use Rattle.record.specs.Flat.{At, upTo}
 use Rattle.record.specs.Tally.{Clear, CountsOf, Within, CountedOff, Settled}
-use Rattle.record.proofs.Laws.Arrays.Stores.{cell-zero, cell-same, cell-other}
+use Rattle.record.specs.Laws.Stores.{cell-zero, cell-same, cell-other}
 use Rattle.record.proofs.Laws.Arrays.Counts.{count-start, count-le, count-part}
 use Rattle.record.proofs.Laws.Arrays.Loops.{Span, span-start, span-whole, span-place, span-known, span-hit, span-miss, span-more}
 

@@ -10,7 +10,7 @@ use Rattle.graph.specs.Graph.{block, mentions}
 use Rattle.record.specs.Starts.{cut}
 use Rattle.record.specs.Flat.{At, Holds, upTo, latest}
 use Rattle.record.specs.Tally.{Listed, CountsOf, CountedOff}
-use Rattle.record.proofs.Laws.Arrays.Stores.{cell-same, cell-other}
+use Rattle.record.specs.Laws.Stores.{cell-same, cell-other}
 use Rattle.record.proofs.Laws.Arrays.Parts.{upto-end, upto-other}
 use Rattle.record.proofs.Laws.Arrays.Counts.{count-start, count-hit}
 use Rattle.record.proofs.Laws.Arrays.Latest.{Link, latest-link, latest-leads, count-latest}

@@ -1,10 +1,8 @@
 -- Fields that are read into a list, each with a number added.
 use mathlib.Core.Path.{_≡_, refl, sym, ap, _∙_}
 use mathlib.Core.Bool.{Bool}
-use mathlib.Core.List.{List, [], _∷_, map}
-use Prim.Native.Nat.{ℕ, zero, suc, _+_, _*_, _≤_, _<_}
-use native.Mathlib.Nat.{add-zero}
-use native.Mathlib.Numerals.{add-one}
+use mathlib.Core.List.{List}
+use Prim.Native.Nat.{ℕ, _+_, _*_, _≤_, _<_}
 use native.Mathlib.Omega.{arith}
 use lib.ListN.{length, getD, set, length-map}
 use Rattle.bits.specs.Bits.{field}
@@ -12,23 +10,8 @@ use Rattle.bits.specs.Steps.{FourAt}
 use Rattle.record.specs.Record.{fieldsFrom}
 use Rattle.record.specs.Steps.{Reading}
 use Rattle.record.specs.Laws.Fields.{length-fieldsFrom, fieldsFrom-at}
-use Rattle.record.proofs.Laws.Reading.InOrder.{InOrder, order-more, order-end}
-
-abbrev pub raised : ℕ → List ℕ → List ℕ
-raised more l = map (λ x. x + more) l
-
-raised-at : (more : ℕ) (l : List ℕ) (i : ℕ) → i < length l → getD (raised more l) i 0 ≡ getD l i 0 + more
-raised-at more [] i h = absurd (omega arith)
-raised-at more (x ∷ l) zero h = refl
-raised-at more (x ∷ l) (suc i) h = raised-at more l i (omega arith)
-
-pub raised-none : (l : List ℕ) → raised 0 l ≡ l
-raised-none [] = refl
-raised-none (x ∷ l) = rw (add-zero x) (ap (λ (t : List ℕ). x ∷ t) (raised-none l))
-
-pub raised-one : (l : List ℕ) → raised 1 l ≡ map suc l
-raised-one [] = refl
-raised-one (x ∷ l) = rw (add-one x) (ap (λ (t : List ℕ). suc x ∷ t) (raised-one l))
+use Rattle.record.specs.Laws.InOrder.{InOrder, order-more, order-end}
+use Rattle.record.specs.Laws.Raised.{raised, raised-at}
 
 module _ (s : List Bool) (start more k : ℕ) where
   length-goal : length (raised more (fieldsFrom s start k)) ≡ k

@@ -5,8 +5,8 @@ use native.Mathlib.Omega.{arith}
 use borrow.Author.Needs.{needs}
 use Rattle.record.specs.Answers.{sizesOf}
 use Rattle.record.proofs.Laws.Counting.Contents.{rule-5}
-use Rattle.record.proofs.Laws.Arrays.Stores.{part-zeros}
-use Rattle.record.proofs.Laws.Telling.Told.{told}
+use Rattle.record.specs.Laws.Stores.{part-zeros}
+use Rattle.record.specs.Laws.Told.{told}
 use Rattle.record.proofs.content.content.Statement.{statement}
 use Rattle.record.proofs.content.content.Tie as tie
 

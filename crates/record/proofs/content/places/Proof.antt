@@ -2,7 +2,7 @@
 use mathlib.Core.Path.{_∙_}
 use Rattle.record.specs.Answers.{sizesOf}
 use Rattle.record.proofs.Laws.Counting.Contents.{arrays-read, sizes-told, arrays-divided, arrays-input, rule-6, rule-7, rule-8, all-kept, none-broken}
-use Rattle.record.proofs.Laws.Telling.Told.{told, untold}
+use Rattle.record.specs.Laws.Told.{told, untold}
 use borrow.Author.Needs.{needs}
 use Rattle.record.proofs.content.places.Statement.{statement}
 use Rattle.record.proofs.content.places.Tie as tie

@@ -4,7 +4,7 @@ use Prim.Native.Nat.{_+_, _-_, _*_}
 use native.Mathlib.Omega.{arith}
 use borrow.Author.Needs.{needs}
 use lib.ListN.{length}
-use Rattle.record.proofs.Laws.Reading.Sounded.{spare-counted}
+use Rattle.record.specs.Laws.Sounded.{spare-counted}
 use Rattle.record.proofs.content.spare_set.Statement.{statement}
 use Rattle.record.proofs.content.spare_set.Tie as tie
 

@@ -1,7 +1,7 @@
 -- `fields::field` meets its contract.
 use mathlib.Core.Path.{_∙_}
 use borrow.Author.Needs.{needs}
-use Rattle.record.proofs.Laws.Reading.Sounded.{sound-field}
+use Rattle.record.specs.Laws.Sounded.{sound-field}
 use Rattle.record.proofs.fields.field.Statement.{statement}
 use Rattle.record.proofs.fields.field.Tie as tie
 

@@ -7,7 +7,7 @@ use Rattle.record.specs.Answers.{Answer, answered, sizesOf}
 use Rattle.record.specs.Record.{terminals, wires, recordLength}
 use Rattle.record.specs.declared.Sizes.{Sizes}
 use Rattle.record.proofs.Laws.Reading.Headers.{rule-1, rule-2-n, rule-2-m, rule-3, rule-4, rules-kept}
-use Rattle.record.proofs.Laws.Telling.Told.{told, untold}
+use Rattle.record.specs.Laws.Told.{told, untold}
 use Rattle.record.proofs.header.order_r.Statement.{statement}
 use Rattle.record.proofs.header.order_r.Tie as tie
 

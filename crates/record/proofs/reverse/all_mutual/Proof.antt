@@ -2,7 +2,7 @@
 use mathlib.Core.Path.{sym}
 use Prim.Native.Nat.{ℕ}
 use lib.ListN.{length, length-replicate}
-use Rattle.record.proofs.Laws.Arrays.Stores.{part-zeros}
+use Rattle.record.specs.Laws.Stores.{part-zeros}
 use borrow.Author.Needs.{needs}
 use Rattle.record.proofs.reverse.all_mutual.Statement.{statement}
 use Rattle.record.proofs.reverse.all_mutual.Tie as tie

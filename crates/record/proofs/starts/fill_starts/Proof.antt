@@ -6,7 +6,7 @@ use lib.ListN.{length, length-set}
 use Rattle.record.specs.Record.{unary}
 use Rattle.record.specs.Steps.{Filling}
 use Rattle.record.proofs.Laws.Reading.Filled.{filling-start, filling-bounds, filling-end, entering-start}
-use Rattle.record.proofs.Laws.Reading.Sounded.{sound-places, sound-ones, sound-part}
+use Rattle.record.specs.Laws.Sounded.{sound-places, sound-ones, sound-part}
 use Rattle.record.proofs.starts.fill_starts.Statement.{statement}
 use Rattle.record.proofs.starts.fill_starts.Tie as tie
 

@@ -1,7 +1,7 @@
 -- `starts::start_of` meets its contract: the v-th one of D stands after the zeros of the blocks before it.
 use native.Mathlib.Omega.{arith}
 use borrow.Author.Needs.{needs}
-use Rattle.record.proofs.Laws.Reading.Sounded.{sound-end, sound-start}
+use Rattle.record.specs.Laws.Sounded.{sound-end, sound-start}
 use Rattle.record.proofs.starts.start_of.Statement.{statement}
 use Rattle.record.proofs.starts.start_of.Tie as tie
 

@@ -14,13 +14,13 @@ use Rattle.bits.specs.Laws.Bytes.{length-bits}
 use Rattle.bits.specs.Laws.Fields.{field-part}
 use Rattle.record.specs.Record.{terminals, wires, usedBits, recordLength, unary, fields, blocks}
 use Rattle.record.specs.Starts.{startsOf}
-use Rattle.record.specs.Rules.{firstBroken, orderR, spareSet}
+use Rattle.record.specs.Rules.{firstBroken, orderR, spareSet, checkRules}
 use Rattle.record.specs.Answers.{answered, tried, sizesOf}
 use Rattle.record.specs.Steps.{Sound}
 use Rattle.record.specs.declared.Sizes.{Sizes}
-use Rattle.record.specs.Laws.First.{Shaped, shaped}
+use Rattle.record.specs.Laws.First.{Shaped, shaped, both-kept, order-numbered}
 use Rattle.record.specs.Laws.Parts.{start-select}
-use Rattle.record.proofs.Laws.Telling.Told.{untold-back}
+use Rattle.record.specs.Laws.Told.{untold-back}
 use Rattle.record.specs.Laws.Layout.{length-fields, fields-at, used-held, length-unary, length-blocks, starts-end}
 use Rattle.record.specs.Laws.RoundTrip.{flatten-blocks}
 
@@ -39,6 +39,19 @@ pub told-sound : (bytes : List ℕ) {s : Sizes} → answered s ≡ tried (orderR
 told-sound bytes e =
     let (f, g) = untold-back (firstBroken (orderR bytes)) (sizesOf bytes) e in
     sound-of bytes f (ap (λ (x : Sizes). x .n) g) (ap (λ (x : Sizes). x .m) g)
+
+-- where Check has answered
+module _ (bytes : List ℕ) {s : Sizes} (e : answered s ≡ tried (checkRules bytes) (sizesOf bytes)) where
+  pub accepted-kept : firstBroken (checkRules bytes) ≡ 0
+  accepted-kept = untold-back (firstBroken (checkRules bytes)) (sizesOf bytes) e .0
+
+  pub accepted-sizes : s ≡ sizesOf bytes
+  accepted-sizes = untold-back (firstBroken (checkRules bytes)) (sizesOf bytes) e .1
+
+  pub accepted-sound : Sound bytes (s .n) (s .m)
+  unfolding checkRules
+  accepted-sound =
+      sound-of bytes (both-kept (order-numbered bytes) _ accepted-kept .0) (ap (λ (x : Sizes). x .n) accepted-sizes) (ap (λ (x : Sizes). x .m) accepted-sizes)
 
 module _ {bytes : List ℕ} {n m : ℕ} (s : Sound bytes n m) where
   pub sound-shaped : Shaped bytes

@@ -1,4 +1,4 @@
--- What is known where Check has answered, and the list that Unpack leaves.
+-- What Unpack answers, and the list that it leaves.
 use mathlib.Core.Path.{_≡_, ap, _∙_}
 use mathlib.Core.Bool.{not}
 use mathlib.Core.List.{List, [], _∷_, map}
@@ -10,25 +10,8 @@ use Rattle.record.specs.Record.{wires, fields}
 use Rattle.record.specs.Rules.{firstBroken, checkRules}
 use Rattle.record.specs.Answers.{refused, answered, tried, sizesOf}
 use Rattle.record.specs.Operations.{otherLength, unpackRules, unpack, unpacked}
-use Rattle.record.specs.Steps.{Sound}
-use Rattle.record.specs.declared.Sizes.{Sizes}
-use Rattle.record.specs.Laws.First.{first-broken, first-kept, append-kept, append-broken, both-kept, order-numbered, check-numbered}
-use Rattle.record.proofs.Laws.Telling.Told.{told, untold, told-back, untold-back, buffer-kept, buffer-written}
-use Rattle.record.proofs.Laws.Reading.Sounded.{sound-of}
-
-module _ (bytes : List ℕ) {s : Sizes} (e : answered s ≡ tried (checkRules bytes) (sizesOf bytes)) where
-  pub accepted-kept : firstBroken (checkRules bytes) ≡ 0
-  accepted-kept = untold-back (firstBroken (checkRules bytes)) (sizesOf bytes) e .0
-
-  pub accepted-sizes : s ≡ sizesOf bytes
-  accepted-sizes = untold-back (firstBroken (checkRules bytes)) (sizesOf bytes) e .1
-
-  pub accepted-sound : Sound bytes (s .n) (s .m)
-  unfolding checkRules
-  accepted-sound =
-      sound-of bytes (both-kept (order-numbered bytes) _ accepted-kept .0) (ap (λ (x : Sizes). x .n) accepted-sizes) (ap (λ (x : Sizes). x .m) accepted-sizes)
-
--- ---- Unpack
+use Rattle.record.specs.Laws.First.{first-broken, first-kept, append-kept, append-broken, check-numbered}
+use Rattle.record.specs.Laws.Told.{told, untold, told-back, buffer-kept, buffer-written}
 
 module _ (bytes list : List ℕ) where
   left-alone : {k : ℕ} → firstBroken (unpackRules bytes list) ≡ suc k → list ≡ unpacked bytes list

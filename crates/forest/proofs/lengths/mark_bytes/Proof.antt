@@ -1,10 +1,10 @@
--- `index::mark_bytes` meets its contract.
+-- `lengths::mark_bytes` meets its contract.
 use Rattle.forest.specs.Index.{markBytes}
 use native.Mathlib.Omega.{arith}
 use mathlib.Core.Path.{refl}
 use borrow.Author.Needs.{needs}
-use Rattle.forest.proofs.index.mark_bytes.Statement.{statement}
-use Rattle.forest.proofs.index.mark_bytes.Tie as tie
+use Rattle.forest.proofs.lengths.mark_bytes.Statement.{statement}
+use Rattle.forest.proofs.lengths.mark_bytes.Tie as tie
 
 mul-result : tie.Need-mul-result
 mul-result c = search needs

@@ -1,9 +1,9 @@
--- `index::index_length` meets its contract.
+-- `lengths::index_length` meets its contract.
 use Rattle.forest.specs.Index.{numberBytes, indexLength}
 use native.Mathlib.Omega.{arith}
 use borrow.Author.Needs.{needs}
-use Rattle.forest.proofs.index.index_length.Statement.{statement}
-use Rattle.forest.proofs.index.index_length.Tie as tie
+use Rattle.forest.proofs.lengths.index_length.Statement.{statement}
+use Rattle.forest.proofs.lengths.index_length.Tie as tie
 
 mark-bytes-requires : tie.Need-mark-bytes-requires
 mark-bytes-requires c κs = search needs

@@ -12,7 +12,7 @@ use Rattle.record.specs.Starts.{startsOf}
 use Rattle.record.specs.Steps.{Sound}
 use Rattle.record.specs.Laws.Layout.{degree-starts}
 use Rattle.record.specs.Laws.Parts.{starts-rise, starts-fit, start-select, part-block}
-use Rattle.record.proofs.Laws.Reading.Sounded.{sound-shaped, sound-ones, sound-places}
+use Rattle.record.specs.Laws.Sounded.{sound-shaped, sound-ones, sound-places}
 
 module _ {bytes : List ℕ} {n m : ℕ} (s : Sound bytes n m) {u : ℕ} (h : u < n) where
   counted : u < count (unary bytes)
