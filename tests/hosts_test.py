@@ -5,6 +5,7 @@ its wires. The archive is the file that CELDUGA_ARCHIVE names, or the one that `
 """
 import os
 import random
+import re
 import subprocess
 import sys
 import tempfile
@@ -203,7 +204,10 @@ def example_is_short():
 
 def rust_package(room):
     env = dict(os.environ, CELDUGA_ARCHIVE=str(archive()), CARGO_TARGET_DIR=str(room / "rust"), CARGO_TERM_COLOR="never")
-    run(["cargo", "test", "--offline", "--locked"], cwd=ROOT / "rust", env=env)
+    output = run(["cargo", "test", "--offline", "--locked"], cwd=ROOT / "rust", env=env)
+    passed = [int(count) for count in re.findall(r"^test result: ok\. (\d+) passed", output, re.MULTILINE)]
+    # the tests in src, each program in tests, and the examples of the pages
+    demand(len(passed) >= 3 and all(passed), f"a part of the package has no test that passed: {passed}\n{output}")
 
 
 def tests(room):

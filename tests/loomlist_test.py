@@ -1,6 +1,6 @@
 """Compares what the program loomlist prints with the listing of plain.py, byte for byte, on records of every shape, accepted and damaged.
 
-The program is target/bin/loomlist, or the one that CELDUGA_LOOMLIST names.
+It must end with status 0. The program is target/bin/loomlist, or the one that CELDUGA_LOOMLIST names.
 """
 import os
 import subprocess
@@ -33,13 +33,14 @@ loops 0
 # One record
 
 def printed(data):
-    """What the program prints for the record; its errors too, and how it ended where a signal ended it."""
+    """What the program prints for the record; its errors too, and how it ended where that was not with status 0."""
     ended = subprocess.run([PROGRAM], input=data, capture_output=True, timeout=30)
     return text(ended.stdout + ended.stderr, ended.returncode)
 
 
 def text(output, status):
-    return output.decode(errors="replace") + (f"ended by signal {-status}\n" if status < 0 else "")
+    ended = f"ended by signal {-status}\n" if status < 0 else f"ended with status {status}\n"
+    return output.decode(errors="replace") + (ended if status else "")
 
 
 def difference(data, expected, found):

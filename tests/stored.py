@@ -16,8 +16,9 @@ def compare(crate, lines):
             wrong += 1
             print(f"line {i + 1}: expected {pair[0]}, stored {pair[1]}")
     print(f"{len(expected)} lines of {crate} compared")
-    print(f"{0 if wrong else 1} passed, {1 if wrong else 0} failed")
-    return 1 if wrong else 0
+    passed = expected and not wrong
+    print("1 passed, 0 failed" if passed else "0 passed, 1 failed")
+    return 0 if passed else 1
 
 
 def main(crate, lines):
