@@ -2,7 +2,6 @@
 pub mod Ones
 pub mod Ordered
 pub mod Asking
-pub mod Marks
 pub mod Stepping
 pub mod Climbing
 pub mod Singles

@@ -4,6 +4,7 @@ pub mod Queries
 pub mod Operations
 pub mod Answers
 pub mod Steps
+pub mod Written
 pub mod Laws
 pub mod Demands
 pub mod Table

@@ -9,7 +9,7 @@ use Rattle.record.specs.Record.{terminals, wires, blocks}
 use Rattle.record.specs.Answers.{answered}
 use Rattle.queries.specs.Queries.{unlessZero}
 use Rattle.queries.specs.Operations.{parent, head, children, visit}
-use Rattle.queries.specs.Demands.{Written, Terminal}
+use Rattle.queries.specs.Written.{Written, Terminal}
 
 -- each terminal's cell is what the query answers
 pub record Tabled (bytes index visits parents counts heads : List ℕ) : Type 0 where

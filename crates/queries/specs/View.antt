@@ -1,13 +1,14 @@
 -- What an index shows beside a record, built or not: the marks of each block, and the stored numbers. The queries speak of this alone, so
 -- another layout of the index is another function from bytes to the same view.
-use mathlib.Core.Bool.{Bool}
+use mathlib.Core.Path.{_≡_}
+use mathlib.Core.Bool.{Bool, false}
 use mathlib.Core.List.{List}
-use Prim.Native.Nat.{ℕ, suc, _+_, _*_}
+use Prim.Native.Nat.{ℕ, suc, _+_, _*_, _<_}
 use lib.ListN.{length, take, drop, getD}
 use Rattle.bits.specs.Bits.{bits, string, select}
 use Rattle.graph.specs.Graph.{Blocks, block}
 use Rattle.record.specs.Record.{terminals, wires, unary, fieldsFrom, blocks}
-use Rattle.forest.specs.Index.{markBytes}
+use Rattle.forest.specs.Index.{markBytes, indexLength}
 
 -- vertices count from 0
 pub record View : Type 0 where
@@ -41,3 +42,25 @@ viewBy n m bytes index = record {
 
 abbrev pub viewOf : List ℕ → List ℕ → View
 viewOf bytes index = viewBy (terminals bytes) (wires bytes) bytes index
+
+-- ---- the bits of an index
+
+-- bit p, from 0, of section k: 0 is E, 1 is P and 2 is B. The bits from n + 2·m on are the section's fill
+abbrev pub sectionBit : List ℕ → List ℕ → ℕ → ℕ → Bool
+sectionBit bytes index k p = getD (bits index) (8 * (k * markBytes (terminals bytes) (wires bytes)) + p) false
+
+-- bit i, from 0, of the stored numbers
+abbrev pub numberBit : List ℕ → List ℕ → ℕ → Bool
+numberBit bytes index i = sectionBit bytes index 3 i
+
+-- the place of D, from 0, of position j of u's block
+abbrev pub placeOf : List ℕ → ℕ → ℕ → ℕ
+placeOf bytes u j = select (unary bytes) (suc u) + j
+
+-- two indexes of the right length that agree at the places of the blocks and on the n stored numbers
+pub record Alike (bytes a b : List ℕ) : Type 0 where
+  pub first-length : length a ≡ indexLength (terminals bytes) (wires bytes)
+  pub second-length : length b ≡ indexLength (terminals bytes) (wires bytes)
+  pub same-marks : (k u j : ℕ) → k < 3 → j < length (block (blocks bytes) u)
+      → sectionBit bytes a k (placeOf bytes u j) ≡ sectionBit bytes b k (placeOf bytes u j)
+  pub same-numbers : (i : ℕ) → i < 12 * terminals bytes → numberBit bytes a i ≡ numberBit bytes b i

@@ -4,7 +4,7 @@ ghost use Rattle.record.specs.Answers.{verdict, answered};
 ghost use Rattle.forest.specs.Operations.{build, built};
 ghost use Rattle.queries.specs.Answers.{terminal};
 ghost use Rattle.queries.specs.Operations.{head};
-ghost use Rattle.queries.specs.Demands.{Terminal, HeadsTell};
+ghost use Rattle.queries.specs.Written.{Terminal, HeadsTell};
 use super::Found;
 use record::Verdict;
 use record::Vertex;

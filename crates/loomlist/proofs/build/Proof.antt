@@ -1,5 +1,6 @@
 -- `build` meets its contract.
-use Rattle.queries.specs.Demands.{Written, build-writes}
+use Rattle.queries.specs.Written.{Written}
+use Rattle.queries.specs.Demands.{build-writes}
 use Rattle.record.specs.Answers.{verdict}
 use mathlib.Core.List.{List}
 use Prim.Native.Nat.{ℕ}

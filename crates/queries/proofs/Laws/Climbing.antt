@@ -26,7 +26,7 @@ use Rattle.queries.specs.Queries.{Step, stuck, top, rise, stepBy, stepUp
 use Rattle.queries.specs.Steps.{Beside}
 use Rattle.queries.specs.Laws.Inside.{Inside, step-inside}
 use Rattle.queries.proofs.Laws.Ones.{part-length, part-bit}
-use Rattle.queries.proofs.Laws.Marks.{length-P, length-B}
+use Rattle.queries.specs.Laws.Framed.{length-P, length-B}
 use Rattle.queries.proofs.Laws.Stepping.{block-bounds, block-marks}
 
 -- the two sides of a choice

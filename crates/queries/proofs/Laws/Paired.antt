@@ -5,7 +5,8 @@ use Prim.Native.Nat.{ℕ}
 use Rattle.record.specs.Answers.{Answer, answered}
 use Rattle.forest.specs.Operations.{build, built}
 use Rattle.queries.specs.Operations.{head}
-use Rattle.queries.specs.Demands.{build-writes, Terminal, HeadsTell, heads-tell}
+use Rattle.queries.specs.Written.{Terminal, HeadsTell}
+use Rattle.queries.specs.Demands.{build-writes, heads-tell}
 
 pub paired : (bytes work buffer : List ℕ) {index : List ℕ} {u v : ℕ} {x y : Answer ℕ} → index ≡ built bytes work buffer → x ≡ head bytes index u → y ≡ head bytes index v
     → build bytes work buffer ≡ answered tt → Terminal bytes u → Terminal bytes v → HeadsTell bytes u v x y

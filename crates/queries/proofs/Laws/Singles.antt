@@ -26,7 +26,7 @@ use Rattle.queries.specs.View.{View, viewBy, blockMarks, sectionOf}
 use Rattle.queries.specs.Queries.{childCount, vertexOr, childOf, visitOf, found, visitedOf}
 use Rattle.queries.proofs.Laws.Ones.{positive, part-length, count-next, found-here, found-none}
 use Rattle.queries.specs.Steps.{Beside}
-use Rattle.queries.proofs.Laws.Marks.{length-E}
+use Rattle.queries.specs.Laws.Framed.{length-E}
 use Rattle.queries.proofs.Laws.Stepping.{block-bounds, block-marks, block-neighbour, below-end}
 
 -- ---- a number that is a vertex's

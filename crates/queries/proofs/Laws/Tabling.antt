@@ -21,14 +21,16 @@ use Rattle.record.specs.Starts.{startsOf}
 use Rattle.record.specs.Laws.Stores.{cell-same, cell-other}
 use Rattle.queries.specs.View.{viewBy, sectionOf, numberOf, blockMarks}
 use Rattle.queries.specs.Queries.{Step, stuck, top, rise, stepUp, parentBy, unlessZero, parentOf, headBy, headNext}
-use Rattle.queries.specs.Demands.{Terminal, visit-told, parent-told, children-told, head-told}
+use Rattle.queries.specs.Written.{Terminal}
+use Rattle.queries.specs.Demands.{visit-told, parent-told, children-told, head-told}
 use Rattle.queries.specs.Table.{Tabled, Ready, Cells, HeadsTo, ParentsTo}
 use Rattle.queries.specs.Laws.Shown.{Shows, parent-shown, head-stopped, head-risen, count-shown}
 use Rattle.queries.specs.Laws.Built.{as-many}
 use Rattle.queries.specs.Laws.Ready.{ready-beside}
-use Rattle.queries.specs.Laws.Answered.{same-answer, wf, cover, shown}
+use Rattle.queries.specs.Laws.Answered as Answered
+use Rattle.queries.specs.Laws.Answered.{same-answer}
 use Rattle.queries.proofs.Laws.Climbing.{block-from, block-to, rise-to}
-use Rattle.queries.proofs.Laws.Marks.{length-P}
+use Rattle.queries.specs.Laws.Framed.{length-P}
 use Rattle.queries.proofs.Laws.Stepping.{block-bounds}
 use Rattle.queries.proofs.Laws.Singles.{children-counted}
 
@@ -66,10 +68,10 @@ module _ {bytes index : List ℕ} {n m : ℕ} (r : Ready bytes index n m) where
   vertices = as-many (r .written .accepted) ∙ sym (r .is-n)
 
   formed : WellFormed (blocks bytes)
-  formed = wf (r .written .accepted) (r .written .is)
+  formed = Answered.formed (r .written)
 
   covered : Covers (blocks bytes) (countUp 0 (length (blocks bytes)))
-  covered = cover (r .written .accepted) (r .written .is)
+  covered = Answered.covered (r .written)
 
   inside : {v : ℕ} → v < n → v < length (blocks bytes)
   inside h = rw vertices h
@@ -77,7 +79,7 @@ module _ {bytes index : List ℕ} {n m : ℕ} (r : Ready bytes index n m) where
   shows : Shows (viewBy n m bytes index) (forest (blocks bytes))
   shows =
       subst (λ (x : ℕ). Shows (viewBy x m bytes index) (forest (blocks bytes))) (sym (r .is-n))
-      (subst (λ (y : ℕ). Shows (viewBy (terminals bytes) y bytes index) (forest (blocks bytes))) (sym (r .is-m)) (shown (r .written .accepted) (r .written .is)))
+      (subst (λ (y : ℕ). Shows (viewBy (terminals bytes) y bytes index) (forest (blocks bytes))) (sym (r .is-m)) (Answered.shown (r .written)))
 
   -- ---- visit numbers and children
 

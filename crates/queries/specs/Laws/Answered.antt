@@ -1,104 +1,188 @@
--- From what the laws say of a built view to the answers of the operations: order Q is kept, and the marks at the places of a wire.
-use mathlib.Core.Path.{_≡_, refl, sym, ap, subst, _∙_}
+-- From what the laws say of a built view to the answers of the operations, for an index that Build wrote.
+use mathlib.Core.Path.{_≡_, sym, ap, ap₂, subst, _∙_}
+use mathlib.Core.Logic.{_⊎_, inl, inr}
 use mathlib.Core.Bool.{Bool, true, false, not}
 use mathlib.Core.List.{List, [], _∷_, _++_}
 use Prim.Native.Nat.{ℕ, suc, _-_, _≤_, _<_}
 use native.Mathlib.Omega.{arith}
-use borrow.Author.Tests.{eq-eqb}
+use borrow.Author.Tests.{eq-eqb, ne-eqb, lt-ltb, le-ltb}
 use lib.ListN.{length, getD}
-use Rattle.graph.specs.Graph.{Blocks, block, Place, twin, WellFormed}
+use Rattle.graph.specs.Graph.{Blocks, WellFormed}
 use Rattle.graph.specs.Search.{Forest, countUp, forest}
-use Rattle.graph.specs.Joined.{bridge}
-use Rattle.graph.specs.Forest.{childMark, parentMark}
-use Rattle.graph.specs.Theorems.{vertices-cover}
-use Rattle.graph.specs.Laws.Places.Pairing.{source, twin-place}
+use Rattle.graph.specs.Forest.{number, vertexAt, parent as parentIn, head as headIn, children as childrenIn}
+use Rattle.graph.specs.Theorems.{vertices-cover, number-in-range, vertex-in-range, vertex-of-number, number-of-vertex, same-heads}
+use Rattle.graph.specs.Laws.Tree.Ancestors.{ancestor as ancestorIn}
 use Rattle.graph.specs.Laws.Joined.Spanning.{Covers}
 use Rattle.record.specs.Record.{terminals, wires, blocks}
 use Rattle.record.specs.Rules.{Rule, firstBroken}
-use Rattle.record.specs.Answers.{Answer, answered, triedThen}
-use Rattle.record.specs.Operations.{Accepted, otherLength, outOfRange}
-use Rattle.record.specs.Laws.First.{first-kept, append-kept, order-numbered}
-use Rattle.record.specs.Laws.Sound.{accepted-well-formed}
+use Rattle.record.specs.Answers.{Answer, refused, answered, triedThen}
+use Rattle.record.specs.Operations.{otherLength, outOfRange}
+use Rattle.record.specs.Laws.First.{first-broken, first-kept, append-kept, both-kept, order-numbered, check-numbered}
 use Rattle.record.specs.Laws.Range.{inside-range}
-use Rattle.record.specs.Laws.Told.{then-untold, then-passed}
+use Rattle.record.specs.Laws.Sound.{accepted-well-formed}
+use Rattle.record.specs.Laws.Told.{untold-back, then-told, then-untold, then-passed, buffer-written}
 use Rattle.forest.specs.Index.{indexOf, indexLength}
-use Rattle.forest.specs.Laws.Bytes.{length-index}
+use Rattle.forest.specs.Operations.{buildRules, build, built}
 use Rattle.queries.specs.View.{viewOf}
-use Rattle.queries.specs.Operations.{orderQ}
-use Rattle.queries.specs.Laws.Shown.{Shows, each-is}
+use Rattle.queries.specs.Queries.{childCount, childOf, unlessZero}
+use Rattle.queries.specs.Operations.{orderQ, parent, head, ancestorRules, ancestor, children, noChild, childRules, child, visit, visited}
+use Rattle.queries.specs.Written.{Written, Terminal, HeadsTell}
+use Rattle.queries.specs.Laws.Shown.{Shows, parent-shown, head-shown, ancestor-shown, count-shown, child-shown, visit-shown, visited-shown}
 use Rattle.queries.specs.Laws.Asked.{order-numbered-q}
-use Rattle.queries.specs.Laws.Built.{accepted-sound, as-many, as-many-places, built-shows}
+use Rattle.queries.specs.Laws.Built.{accepted-sound, as-many, built-length, built-shows}
 
 pub same-answer : {A : Type 0} {a b : A} → answered a ≡ answered b → a ≡ b
 same-answer e = cc
 
-pub passes : (b : Bool) → (b ≡ false → ⊥) → b ≡ true
-passes true h = refl
-passes false h = absurd (h refl)
-
-pub same-suc : {a b : ℕ} → suc a ≡ suc b → a ≡ b
+same-suc : {a b : ℕ} → suc a ≡ suc b → a ≡ b
 same-suc e = omega arith
 
-module _ {bytes index : List ℕ} (a : Accepted bytes) (is : index ≡ indexOf (blocks bytes)) where
+-- where Build refuses nothing, it has written the index
+pub written-by : (bytes work buffer : List ℕ) → build bytes work buffer ≡ answered tt → Written bytes (built bytes work buffer)
+unfolding build built buildRules
+written-by bytes work buffer e =
+    let k : firstBroken (buildRules bytes work buffer) ≡ 0 = untold-back (firstBroken (buildRules bytes work buffer)) tt (sym e) .0 in
+    record {
+      accepted = record { unbroken = both-kept (check-numbered bytes) _ k .0 };
+      is = sym (buffer-written (buildRules bytes work buffer) (indexOf (blocks bytes)) buffer k);
+    }
+
+module _ {bytes index : List ℕ} (w : Written bytes index) where
   abbrev g : Blocks
   g = blocks bytes
 
   abbrev F : Forest
   F = forest (blocks bytes)
 
-  pub wf : WellFormed (blocks bytes)
-  wf = accepted-well-formed a
+  pub formed : WellFormed (blocks bytes)
+  formed = accepted-well-formed (w .accepted)
+
+  pub covered : Covers (blocks bytes) (countUp 0 (length (blocks bytes)))
+  covered = vertices-cover (blocks bytes)
+
+  pub shown : Shows (viewOf bytes index) (forest (blocks bytes))
+  shown = subst (λ (x : List ℕ). Shows (viewOf bytes x) (forest (blocks bytes))) (sym (w .is)) (built-shows (w .accepted))
+
+  pub vertex-of : {v : ℕ} → Terminal bytes v → v - 1 < length (blocks bytes)
+  vertex-of t = let l = as-many (w .accepted) in let s = t .some in let u = t .upto in omega arith
 
   -- ---- nothing of order Q is broken
 
-  kept : {v : ℕ} → 0 < v → v ≤ terminals bytes → firstBroken (orderQ bytes index v) ≡ 0
-  unfolding orderQ otherLength firstBroken
-  kept {v} some upto =
-      let o = accepted-sound a in
-      let l : length index ≡ indexLength (terminals bytes) (wires bytes) =
-      ap length is ∙ length-index g F (wires bytes) (as-many-places a) ∙ ap (λ (x : ℕ). indexLength x (wires bytes)) (as-many a) in
-      let last : List Rule = (11, outOfRange (terminals bytes) v) ∷ [] in
-      append-kept (order-numbered bytes) ((10, otherLength index (indexLength (terminals bytes) (wires bytes))) ∷ last) (o .kept)
-      ∙ first-kept 10 last (ap not (eq-eqb (length index) (indexLength (terminals bytes) (wires bytes)) l))
-      ∙ first-kept 11 [] (inside-range (terminals bytes) v some upto)
+  module _ {v : ℕ} (t : Terminal bytes v) where
+    kept : firstBroken (orderQ bytes index v) ≡ 0
+    unfolding orderQ otherLength firstBroken
+    kept =
+        let l : length index ≡ indexLength (terminals bytes) (wires bytes) = ap length (w .is) ∙ built-length (w .accepted) in
+        let last : List Rule = (11, outOfRange (terminals bytes) v) ∷ [] in
+        let o = accepted-sound (w .accepted) .kept in
+        append-kept (order-numbered bytes) ((10, otherLength index (indexLength (terminals bytes) (wires bytes))) ∷ last) o
+        ∙ first-kept 10 last (ap not (eq-eqb (length index) (indexLength (terminals bytes) (wires bytes)) l))
+        ∙ first-kept 11 [] (inside-range (terminals bytes) v (t .some) (t .upto))
 
-  pub passed : {A : Type 0} {v : ℕ} → 0 < v → v ≤ terminals bytes → {x y : Answer A} → x ≡ y → triedThen (orderQ bytes index v) x ≡ y
-  passed {v = v} some upto {x} e = sym (then-untold (orderQ bytes index v) x (kept some upto)) ∙ e
+    asked : {A : Type 0} {x y : Answer A} → x ≡ y → triedThen (orderQ bytes index v) x ≡ y
+    asked {x = x} e = sym (then-untold (orderQ bytes index v) x kept) ∙ e
 
-  -- rules after order Q
-  pub further : {A : Type 0} {v : ℕ} → 0 < v → v ≤ terminals bytes → (more : List Rule) → firstBroken more ≡ 0 → {x y : Answer A} → x ≡ y → triedThen (orderQ bytes index v ++ more) x ≡ y
-  further {v = v} some upto more k {x} e = sym (then-passed more x (order-numbered-q bytes index v) (kept some upto)) ∙ sym (then-untold more x k) ∙ e
+    -- rules after order Q
+    module _ {A : Type 0} (more : List Rule) where
+      further : (x : Answer A) → triedThen (orderQ bytes index v ++ more) x ≡ triedThen more x
+      further x = sym (then-passed more x (order-numbered-q bytes index v) kept)
 
-  pub vertex : {v : ℕ} → 0 < v → v ≤ terminals bytes → v - 1 < length (blocks bytes)
-  vertex some upto = let l = as-many a in omega arith
+      asked-then : firstBroken more ≡ 0 → {x y : Answer A} → x ≡ y → triedThen (orderQ bytes index v ++ more) x ≡ y
+      asked-then k {x} e = further x ∙ sym (then-untold more x k) ∙ e
 
-  pub shown : Shows (viewOf bytes index) (forest (blocks bytes))
-  shown = subst (λ (x : List ℕ). Shows (viewOf bytes x) (forest (blocks bytes))) (sym is) (built-shows a)
+      refused-then : {k : ℕ} (x : Answer A) → firstBroken more ≡ suc k → triedThen (orderQ bytes index v ++ more) x ≡ refused (suc k)
+      refused-then x k = further x ∙ sym (then-told more x k)
 
-  pub cover : Covers (blocks bytes) (countUp 0 (length (blocks bytes)))
-  cover = vertices-cover (blocks bytes)
+    -- ---- the queries
 
-  -- ---- the marks at the two places of a wire
+    pub parent-answer : parent bytes index v ≡ answered (unlessZero (parentIn F (v - 1)))
+    unfolding parent
+    parent-answer = asked (parent-shown formed covered shown (v - 1) (vertex-of t))
 
-  module _ {u j v : ℕ} (p : Place (blocks bytes) u j v) where
-    from : u < length (blocks bytes)
-    from = source p
+    pub head-answer : head bytes index v ≡ answered (suc (headIn g F (v - 1)))
+    unfolding head
+    head-answer = asked (head-shown formed covered shown (v - 1) (vertex-of t))
 
-    other : Place (blocks bytes) v (twin (blocks bytes) u j) u
-    other = twin-place wf p
+    count-is : childCount (viewOf bytes index) (v - 1) ≡ length (childrenIn F (v - 1))
+    count-is = count-shown formed covered shown (v - 1) (vertex-of t)
 
-    pub E-at : getD (viewOf bytes index .marksE u) j false ≡ childMark F u j
-    E-at = ap (λ (t : List Bool). getD t j false) (shown .shows-E u from) ∙ each-is (childMark F u) (length (block g u)) j (p .fits)
+    pub children-answer : children bytes index v ≡ answered (length (childrenIn F (v - 1)))
+    unfolding children
+    children-answer = asked (ap answered count-is)
 
-    pub P-at : getD (viewOf bytes index .marksP v) (twin g u j) false ≡ parentMark g g F v (twin g u j)
-    P-at =
-        ap (λ (t : List Bool). getD t (twin g u j) false) (shown .shows-P v (source other))
-        ∙ each-is (parentMark g g F v) (length (block g v)) (twin g u j) (other .fits)
+    pub child-answer : {k : ℕ} → k < length (childrenIn F (v - 1)) → child bytes index v (suc k) ≡ answered (suc (getD (childrenIn F (v - 1)) k 0))
+    unfolding child childRules noChild firstBroken
+    child-answer {k} l =
+        let few = le-ltb (childCount (viewOf bytes index) (v - 1)) (suc k) (omega (arith, count-is)) in
+        let e : noChild bytes index v (suc k) ≡ false = rw (noChild, ne-eqb (suc k) 0 (λ z. omega arith), few) in
+        let rule : List Rule = (13, noChild bytes index v (suc k)) ∷ [] in
+        asked-then rule (first-kept 13 [] e) (child-shown formed covered shown (v - 1) k (vertex-of t) l)
 
-    pub B-at : getD (viewOf bytes index .marksB u) j false ≡ bridge g u j
-    B-at = ap (λ (t : List Bool). getD t j false) (shown .shows-B u from) ∙ each-is (bridge g u) (length (block g u)) j (p .fits)
+    pub child-refused : (j : ℕ) → (j ≡ 0) ⊎ (length (childrenIn F (v - 1)) < j) → child bytes index v j ≡ refused 13
+    unfolding child childRules noChild
+    child-refused j h =
+        let rule : List Rule = (13, noChild bytes index v j) ∷ [] in
+        refused-then rule (childOf (viewOf bytes index) (v - 1) j) (first-broken 13 [] (none h))
+      where
+        none : (j ≡ 0) ⊎ (length (childrenIn F (v - 1)) < j) → noChild bytes index v j ≡ true
+        none (inl e) = rw (noChild, eq-eqb j 0 e)
+        none (inr l) =
+            let many = lt-ltb (childCount (viewOf bytes index) (v - 1)) j (omega (arith, count-is)) in
+            rw (noChild, ne-eqb j 0 (λ z. omega arith), many)
 
-    pub B-there : getD (viewOf bytes index .marksB v) (twin g u j) false ≡ bridge g v (twin g u j)
-    B-there =
-        ap (λ (t : List Bool). getD t (twin g u j) false) (shown .shows-B v (source other))
-        ∙ each-is (bridge g v) (length (block g v)) (twin g u j) (other .fits)
+    pub visit-answer : visit bytes index v ≡ answered (suc (number F (v - 1)))
+    unfolding visit
+    visit-answer = asked (visit-shown formed covered shown (v - 1) (vertex-of t))
+
+    pub visited-answer : visited bytes index v ≡ answered (suc (vertexAt F (v - 1)))
+    unfolding visited
+    visited-answer = asked (visited-shown formed covered shown (v - 1) (vertex-of t))
+
+    pub ancestor-answer : {x : ℕ} → Terminal bytes x → ancestor bytes index v x ≡ answered (ancestorIn F (v - 1) (x - 1))
+    unfolding ancestor ancestorRules firstBroken
+    ancestor-answer {x} r =
+        let rule : List Rule = (11, outOfRange (terminals bytes) x) ∷ [] in
+        let k = first-kept 11 [] (inside-range (terminals bytes) x (r .some) (r .upto)) in
+        asked-then rule k (ancestor-shown formed covered shown (v - 1) (x - 1) (vertex-of r))
+
+  -- ---- visit numbers and terminals are inverse
+
+  pub visited-back : {v i : ℕ} → Terminal bytes v → visit bytes index v ≡ answered i → visited bytes index i ≡ answered v
+  visited-back {v} {i} t e =
+      let q : suc (number F (v - 1)) ≡ i = same-answer (sym (visit-answer t) ∙ e) in
+      let l = as-many (w .accepted) in
+      let k = number-in-range (formed .in-range) covered (v - 1) (vertex-of t) in
+      let r : Terminal bytes i = record { some = omega arith; upto = omega arith } in
+      let z : i - 1 ≡ number F (v - 1) = omega arith in
+      let y = vertex-of-number (formed .in-range) covered (v - 1) (vertex-of t) in
+      let x = ap (vertexAt F) z in
+      let s = t .some in
+      visited-answer r ∙ ap answered (omega arith)
+
+  pub visit-back : {v i : ℕ} → Terminal bytes i → visited bytes index i ≡ answered v → visit bytes index v ≡ answered i
+  visit-back {v} {i} t e =
+      let q : suc (vertexAt F (i - 1)) ≡ v = same-answer (sym (visited-answer t) ∙ e) in
+      let l = as-many (w .accepted) in
+      let k = vertex-in-range (formed .in-range) covered (i - 1) (vertex-of t) in
+      let r : Terminal bytes v = record { some = omega arith; upto = omega arith } in
+      let z : v - 1 ≡ vertexAt F (i - 1) = omega arith in
+      let y = number-of-vertex (formed .in-range) covered (i - 1) (vertex-of t) in
+      let x = ap (number F) z in
+      let s = t .some in
+      visit-answer r ∙ ap answered (omega arith)
+
+  -- ---- equal heads
+
+  pub heads-answer : {u v : ℕ} → Terminal bytes u → Terminal bytes v → HeadsTell bytes u v (head bytes index u) (head bytes index v)
+  heads-answer {u} {v} t r =
+      let x = head-answer t in
+      let y = head-answer r in
+      let q = same-heads formed covered (u - 1) (v - 1) (vertex-of t) (vertex-of r) in
+      record {
+        first-head = x;
+        second-head = y;
+        equal-exactly = (
+          λ e. q .0 (same-suc (same-answer (sym x ∙ e ∙ y))),
+          λ d. x ∙ ap (λ (z : ℕ). answered (suc z)) (q .1 d) ∙ sym y,
+        );
+      }

@@ -1,15 +1,16 @@
--- The view of a built index shows the forest of the record's graph.
+-- The view of a built index shows the forest of the record's graph; and the bits of that index, one by one.
 use mathlib.Core.Path.{_≡_, refl, sym, ap, ap₂, _∙_}
-use mathlib.Core.Bool.{Bool}
+use mathlib.Core.Bool.{Bool, true, false}
 use mathlib.Core.List.{List, map, flatten}
-use Prim.Native.Nat.{ℕ, suc, _+_, _*_, _<_}
+use Prim.Native.Nat.{ℕ, zero, suc, _+_, _*_, _≤_, _<_}
 use native.Mathlib.Omega.{arith}
-use lib.ListN.{length, take, drop}
+use lib.ListN.{length, take, drop, getD}
 use Rattle.bits.specs.Bits.{bits, string, select}
-use Rattle.graph.specs.Graph.{block}
+use Rattle.graph.specs.Graph.{Blocks, block, Place}
 use Rattle.graph.specs.Search.{PlaceTest, countUp, forest}
 use Rattle.graph.specs.Joined.{bridge}
 use Rattle.graph.specs.Forest.{number, childMark, parentMark}
+use Rattle.graph.specs.Laws.Places.Pairing.{source}
 use Rattle.graph.specs.Theorems.{vertices-cover, number-in-range}
 use Rattle.record.specs.Record.{terminals, wires, unary, blocks}
 use Rattle.record.specs.Rules.{checkRules}
@@ -18,14 +19,15 @@ use Rattle.record.specs.Steps.{Sound}
 use Rattle.record.specs.Laws.First.{both-kept, order-numbered}
 use Rattle.record.specs.Laws.Fields.{fieldsFrom-at}
 use Rattle.record.specs.Laws.Sound.{accepted-well-formed}
-use Rattle.record.specs.Laws.Sounded.{sound-of, sound-vertices, sound-all}
-use Rattle.record.specs.Laws.Spans.{span-one}
-use Rattle.forest.specs.Index.{section, sectionE, sectionP, sectionB, indexOf, markBytes}
-use Rattle.forest.specs.Laws.Sections.{placeBit}
-use Rattle.forest.specs.Laws.Bytes.{string-E, string-P, string-B, number-stored}
+use Rattle.record.specs.Laws.Sounded.{sound-of, sound-vertices, sound-all, sound-ones, sound-places}
+use Rattle.record.specs.Laws.Spans.{span-rises, span-ends, span-size, span-one}
+use Rattle.forest.specs.Index.{section, sectionE, sectionP, sectionB, indexOf, markBytes, indexLength}
+use Rattle.forest.specs.Laws.Sections.{blockStart, placeBit, own-bit, mark-bit}
+use Rattle.forest.specs.Laws.Bytes.{length-index, string-E, string-P, string-B, number-stored, fill-E, fill-P, fill-B, fill-numbers}
 use Rattle.forest.specs.Laws.Starts.{start-block}
-use Rattle.queries.specs.View.{blockMarks, sectionOf, numberOf, viewOf}
-use Rattle.queries.specs.Laws.Marks.{block-part}
+use Rattle.queries.specs.View.{blockMarks, sectionOf, numberOf, viewOf, sectionBit, numberBit, placeOf}
+use Rattle.queries.specs.Laws.Framed.{section-bit}
+use Rattle.queries.specs.Laws.Marks.{set-inside, one-of, block-part}
 use Rattle.queries.specs.Laws.Shown.{Shows}
 
 module _ {bytes : List ℕ} (a : Accepted bytes) where
@@ -45,26 +47,37 @@ module _ {bytes : List ℕ} (a : Accepted bytes) where
   same-places : terminals bytes + 2 * wires bytes ≡ length (blocks bytes) + 2 * wires bytes
   same-places = ap (λ (x : ℕ). x + 2 * wires bytes) (sym as-many)
 
-  -- the sections
-  E-is : sectionOf (terminals bytes) (wires bytes) (indexOf (blocks bytes)) 0 ≡ section (childMark (forest (blocks bytes))) (blocks bytes)
-  unfolding sectionOf sectionE
-  E-is =
-      let z : 8 * (0 * markBytes (terminals bytes) (wires bytes)) ≡ 0 = omega arith in
-      ap₂ (string (indexOf (blocks bytes))) z same-places ∙ string-E (blocks bytes) (forest (blocks bytes)) (wires bytes) as-many-places
+  -- ---- the sections
 
-  P-is : sectionOf (terminals bytes) (wires bytes) (indexOf (blocks bytes)) 1 ≡ section (parentMark (blocks bytes) (blocks bytes) (forest (blocks bytes))) (blocks bytes)
-  unfolding sectionOf sectionP
-  P-is =
-      let e = same-bytes in
-      let z : 8 * (1 * markBytes (terminals bytes) (wires bytes)) ≡ 8 * markBytes (length (blocks bytes)) (wires bytes) = omega arith in
-      ap₂ (string (indexOf (blocks bytes))) z same-places ∙ string-P (blocks bytes) (forest (blocks bytes)) (wires bytes) as-many-places
+  abbrev g : Blocks
+  g = blocks bytes
 
-  B-is : sectionOf (terminals bytes) (wires bytes) (indexOf (blocks bytes)) 2 ≡ section (bridge (blocks bytes)) (blocks bytes)
-  unfolding sectionOf sectionB
-  B-is =
+  abbrev n : ℕ
+  n = terminals bytes
+
+  abbrev m : ℕ
+  m = wires bytes
+
+  -- which places section k marks
+  abbrev marking : ℕ → PlaceTest
+  marking zero = childMark (forest g)
+  marking (suc zero) = parentMark g g (forest g)
+  marking (suc (suc k)) = bridge g
+
+  section-is : (k : ℕ) → k < 3 → sectionOf n m (indexOf g) k ≡ section (marking k) g
+  unfolding sectionOf sectionE sectionP sectionB
+  section-is zero h =
+      let z : 8 * (0 * markBytes n m) ≡ 0 = omega arith in
+      ap₂ (string (indexOf g)) z same-places ∙ string-E g (forest g) m as-many-places
+  section-is (suc zero) h =
       let e = same-bytes in
-      let z : 8 * (2 * markBytes (terminals bytes) (wires bytes)) ≡ 8 * (2 * markBytes (length (blocks bytes)) (wires bytes)) = omega arith in
-      ap₂ (string (indexOf (blocks bytes))) z same-places ∙ string-B (blocks bytes) (forest (blocks bytes)) (wires bytes) as-many-places
+      let z : 8 * (1 * markBytes n m) ≡ 8 * markBytes (length g) m = omega arith in
+      ap₂ (string (indexOf g)) z same-places ∙ string-P g (forest g) m as-many-places
+  section-is (suc (suc zero)) h =
+      let e = same-bytes in
+      let z : 8 * (2 * markBytes n m) ≡ 8 * (2 * markBytes (length g) m) = omega arith in
+      ap₂ (string (indexOf g)) z same-places ∙ string-B g (forest g) m as-many-places
+  section-is (suc (suc (suc k))) h = absurd (omega arith)
 
   -- a block's part of one
   marks-in : (test : PlaceTest) (u : ℕ) → u < length (blocks bytes) → blockMarks bytes (section test (blocks bytes)) u ≡ map (test u) (countUp 0 (length (block (blocks bytes) u)))
@@ -86,10 +99,95 @@ module _ {bytes : List ℕ} (a : Accepted bytes) where
       ∙ fieldsFrom-at (bits (indexOf (blocks bytes))) (8 * (3 * markBytes (length (blocks bytes)) (wires bytes))) (length (blocks bytes)) u h
       ∙ number-stored (blocks bytes) (forest (blocks bytes)) (wires bytes) as-many-places u h (omega arith)
 
+  shown-by : (k : ℕ) → k < 3 → (u : ℕ) → u < length g
+      → blockMarks bytes (sectionOf n m (indexOf g) k) u ≡ map (marking k u) (countUp 0 (length (block g u)))
+  shown-by k l u h = ap (λ (s : List Bool). blockMarks bytes s u) (section-is k l) ∙ marks-in (marking k) u h
+
   pub built-shows : Shows (viewOf bytes (indexOf (blocks bytes))) (forest (blocks bytes))
   built-shows = record {
-    shows-E = λ u h. ap (λ (s : List Bool). blockMarks bytes s u) E-is ∙ marks-in (childMark (forest (blocks bytes))) u h;
-    shows-P = λ u h. ap (λ (s : List Bool). blockMarks bytes s u) P-is ∙ marks-in (parentMark (blocks bytes) (blocks bytes) (forest (blocks bytes))) u h;
-    shows-B = λ u h. ap (λ (s : List Bool). blockMarks bytes s u) B-is ∙ marks-in (bridge (blocks bytes)) u h;
+    shows-E = shown-by 0 (omega arith);
+    shows-P = shown-by 1 (omega arith);
+    shows-B = shown-by 2 (omega arith);
     shows-numbers = stored-is;
   }
+
+  -- ---- the bits
+
+  pub built-length : length (indexOf (blocks bytes)) ≡ indexLength (terminals bytes) (wires bytes)
+  built-length = length-index g (forest g) m as-many-places ∙ ap (λ (x : ℕ). indexLength x m) as-many
+
+  -- the places of the blocks are places of D
+  place-inside : {u j v : ℕ} → Place g u j v → placeOf bytes u j < n + 2 * m
+  place-inside {u} {j} p =
+      let l = as-many in
+      let h : u < n = omega (arith, source p) in
+      let o = span-one accepted-sound h in
+      let s = span-size accepted-sound h in
+      let r = span-rises accepted-sound h in
+      let e = span-ends accepted-sound h in
+      let f = p .fits in
+      omega arith
+
+  -- at a place stands its mark
+  marked-bit : (k : ℕ) → k < 3 → {u j v : ℕ} → Place g u j v → sectionBit bytes (indexOf g) k (placeOf bytes u j) ≡ marking k u j
+  marked-bit k l {u} {j} p =
+      let h = source p in
+      let q = start-block accepted-sound u (let z = as-many in omega arith) in
+      let o = span-one accepted-sound {u = u} (let z = as-many in omega arith) in
+      let e : placeOf bytes u j ≡ placeBit g u j = omega arith in
+      sym (section-bit (indexOf g) n m built-length k (placeOf bytes u j) l (place-inside p))
+      ∙ ap₂ (λ (s : List Bool) (x : ℕ). getD s x false) (section-is k l) e
+      ∙ mark-bit (marking k) g u j h (p .fits)
+
+  pub built-E : {u j v : ℕ} → Place (blocks bytes) u j v
+      → sectionBit bytes (indexOf (blocks bytes)) 0 (placeOf bytes u j) ≡ childMark (forest (blocks bytes)) u j
+  built-E = marked-bit 0 (omega arith)
+
+  pub built-P : {u j v : ℕ} → Place (blocks bytes) u j v
+      → sectionBit bytes (indexOf (blocks bytes)) 1 (placeOf bytes u j) ≡ parentMark (blocks bytes) (blocks bytes) (forest (blocks bytes)) u j
+  built-P = marked-bit 1 (omega arith)
+
+  pub built-B : {u j v : ℕ} → Place (blocks bytes) u j v
+      → sectionBit bytes (indexOf (blocks bytes)) 2 (placeOf bytes u j) ≡ bridge (blocks bytes) u j
+  built-B = marked-bit 2 (omega arith)
+
+  -- at D's ones stand zeros
+  pub built-own : (k p : ℕ) → k < 3 → getD (unary bytes) p false ≡ true → sectionBit bytes (indexOf (blocks bytes)) k p ≡ false
+  built-own k p l one =
+      let c = sound-ones accepted-sound in
+      let d = sound-places accepted-sound in
+      let inside : p < n + 2 * m = omega (arith, set-inside (unary bytes) p one) in
+      let (u, h, at) = one-of (unary bytes) p one in
+      let o = span-one accepted-sound {u = u} (omega arith) in
+      let q = start-block accepted-sound u (omega arith) in
+      let e : p ≡ blockStart g u + u = omega arith in
+      let v : u < length g = let z = as-many in omega arith in
+      sym (section-bit (indexOf g) n m built-length k p l inside)
+      ∙ ap₂ (λ (s : List Bool) (x : ℕ). getD s x false) (section-is k l) e
+      ∙ own-bit (marking k) g u v
+
+  -- and in the fill
+  pub built-fill : (k p : ℕ) → k < 3 → terminals bytes + 2 * wires bytes ≤ p → p < 8 * markBytes (terminals bytes) (wires bytes)
+      → sectionBit bytes (indexOf (blocks bytes)) k p ≡ false
+  built-fill zero p l a b =
+      let e = same-bytes in
+      let f = same-places in
+      fill-E g (forest g) m as-many-places (8 * (0 * markBytes n m) + p) (omega arith) (omega arith)
+  built-fill (suc zero) p l a b =
+      let e = same-bytes in
+      let f = same-places in
+      fill-P g (forest g) m as-many-places (8 * (1 * markBytes n m) + p) (omega arith) (omega arith)
+  built-fill (suc (suc zero)) p l a b =
+      let e = same-bytes in
+      let f = same-places in
+      fill-B g (forest g) m as-many-places (8 * (2 * markBytes n m) + p) (omega arith) (omega arith)
+  built-fill (suc (suc (suc k))) p l a b = absurd (omega arith)
+
+  pub built-rest : (i : ℕ) → 12 * terminals bytes ≤ i
+      → 8 * (3 * markBytes (terminals bytes) (wires bytes)) + i < 8 * indexLength (terminals bytes) (wires bytes)
+      → numberBit bytes (indexOf (blocks bytes)) i ≡ false
+  built-rest i a b =
+      let e = same-bytes in
+      let z = as-many in
+      let f = ap (λ (x : ℕ). indexLength x m) as-many in
+      fill-numbers g (forest g) m as-many-places (8 * (3 * markBytes n m) + i) (omega arith) (omega arith)

@@ -22,6 +22,18 @@ set-inside [] i e = absurd (clash e refl)
 set-inside (b ∷ t) zero e = omega arith
 set-inside (b ∷ t) (suc i) e = let r = set-inside t i e in omega arith
 
+-- a one is the one that some k selects
+pub one-of : (s : List Bool) (p : ℕ) → getD s p false ≡ true → (u : ℕ) × (u < count s) × (select s (suc u) ≡ p + 1)
+one-of s p e = go (rank s (p + 1)) (select-rank s p e)
+  where
+    go : (k : ℕ) → select s k ≡ p + 1 → (u : ℕ) × (u < count s) × (select s (suc u) ≡ p + 1)
+    go zero f = let z = select-zero s in absurd (omega arith)
+    go (suc u) f = (u, few (decLt u (count s)), f)
+      where
+        few : Dec (u < count s) → u < count s
+        few (yes l) = l
+        few (no l) = let z = select-none s (suc u) (omega arith) in absurd (omega arith)
+
 -- ---- none
 
 pub none-set : (t : List Bool) → ((i : ℕ) → i < length t → getD t i false ≡ true → ⊥) → count t ≡ 0

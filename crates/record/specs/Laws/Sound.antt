@@ -8,7 +8,7 @@ use borrow.Author.Tests.{leb-false, ltb-false, eqb-true, eqb-false, not-false}
 use lib.Dec.{eqb, leb}
 use lib.ListN.{length, take}
 use Rattle.graph.specs.Graph.{Blocks, block, Place, mentions, position, WellFormed}
-use Rattle.graph.specs.Laws.Places.Mentions.{mention-found}
+use Rattle.graph.specs.Laws.Places.Mentions.{mention-at, mention-found}
 use Rattle.graph.specs.Laws.Places.Pairing.{well-formed-at}
 use Rattle.record.specs.Record.{blocks}
 use Rattle.record.specs.Rules.{anyPlace, stray, doubled, oneSided}
@@ -42,3 +42,11 @@ module _ {bytes : List ℕ} (accepted : Accepted bytes) where
 
   pub accepted-simple : (u i j v : ℕ) → Place (blocks bytes) u i v → Place (blocks bytes) u j v → i ≡ j
   accepted-simple = one-place (blocks bytes) (checked accepted .no-double)
+
+  -- so it stands where it is mentioned first
+  pub accepted-first : {u j v : ℕ} → Place (blocks bytes) u j v → j ≡ position v (block (blocks bytes) u) 0
+  accepted-first {u} {j} {v} p =
+      let l = block (blocks bytes) u in
+      let c = mention-found v l j (p .fits) (p .leads) .counted in
+      let f = mention-at v l 0 (omega arith) in
+      accepted-simple u j (position v l 0) v p (record { fits = f .inside; leads = f .there })

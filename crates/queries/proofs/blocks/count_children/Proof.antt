@@ -1,6 +1,6 @@
 -- `blocks::count_children` meets its contract.
 use Rattle.queries.proofs.Laws.Ones.{counted-none, counted-more, counted-all}
-use Rattle.queries.proofs.Laws.Marks.{length-E}
+use Rattle.queries.specs.Laws.Framed.{length-E}
 use Rattle.queries.specs.View.{sectionOf}
 use Rattle.bits.specs.Laws.Rank.{count-take-le}
 use Rattle.bits.specs.Bits.{count}

@@ -1,6 +1,6 @@
 -- `blocks::first_parent` meets its contract.
 use Rattle.queries.proofs.Laws.Ones.{counted-none, first-found, first-more, nth-none}
-use Rattle.queries.proofs.Laws.Marks.{length-P}
+use Rattle.queries.specs.Laws.Framed.{length-P}
 use Rattle.queries.specs.View.{sectionOf}
 use Rattle.bits.specs.Bits.{count}
 use lib.ListN.{take, drop}

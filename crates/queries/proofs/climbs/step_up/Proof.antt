@@ -1,6 +1,6 @@
 -- `climbs::step_up` meets its contract.
 use Rattle.queries.proofs.Laws.Stepping.{block-bounds, first-fits, step-root, step-doubled, step-risen, step-stray, below-end}
-use Rattle.queries.proofs.Laws.Marks.{length-P}
+use Rattle.queries.specs.Laws.Framed.{length-P}
 use Rattle.queries.specs.View.{sectionOf}
 use Prim.Native.Nat.{_+_, _-_}
 use native.Mathlib.Omega.{arith}

@@ -1,5 +1,5 @@
 -- `marks::bridge_mark` meets its contract.
-use Rattle.queries.proofs.Laws.Marks.{section-at, marks-fit}
+use Rattle.queries.specs.Laws.Framed.{section-at, marks-fit}
 use native.Mathlib.Omega.{arith}
 use Prim.Native.Nat.{_*_}
 use mathlib.Core.Path.{_∙_}

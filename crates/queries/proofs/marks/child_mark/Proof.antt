@@ -1,5 +1,5 @@
 -- `marks::child_mark` meets its contract.
-use Rattle.queries.proofs.Laws.Marks.{section-at, marks-fit}
+use Rattle.queries.specs.Laws.Framed.{section-at, marks-fit}
 use native.Mathlib.Omega.{arith}
 use mathlib.Core.Path.{_∙_}
 use Rattle.queries.proofs.marks.child_mark.Statement.{statement}

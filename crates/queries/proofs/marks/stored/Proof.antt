@@ -1,5 +1,5 @@
 -- `marks::stored` meets its contract.
-use Rattle.queries.proofs.Laws.Marks.{numbers-fit}
+use Rattle.queries.specs.Laws.Framed.{numbers-fit}
 use Rattle.queries.specs.View.{numberOf}
 use Rattle.bits.specs.Bits.{bits, field}
 use Rattle.record.specs.Laws.Fields.{fieldsFrom-at}

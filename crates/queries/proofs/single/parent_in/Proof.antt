@@ -1,6 +1,6 @@
 -- `single::parent_in` meets its contract.
 use Rattle.queries.proofs.Laws.Climbing.{rise-to}
-use Rattle.queries.proofs.Laws.Marks.{length-P}
+use Rattle.queries.specs.Laws.Framed.{length-P}
 use Rattle.queries.specs.Steps.{stepOf}
 use Rattle.queries.specs.Queries.{parentBy, parentOf}
 use Rattle.queries.specs.View.{sectionOf}

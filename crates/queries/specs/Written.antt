@@ -1,0 +1,47 @@
+-- What demands 2 and 3 speak of: a record with the index that Build writes for it, and its terminals.
+use mathlib.Core.Path.{_≡_}
+use mathlib.Core.Logic.{_↔_}
+use mathlib.Core.Bool.{Bool, true}
+use mathlib.Core.List.{List}
+use Prim.Native.Nat.{ℕ, suc, _-_, _≤_, _<_}
+use Rattle.graph.specs.Search.{forest}
+use Rattle.graph.specs.Joined.{DoublyJoined}
+use Rattle.graph.specs.Forest.{head as headIn}
+use Rattle.record.specs.Record.{terminals, blocks}
+use Rattle.record.specs.Answers.{Answer, answered}
+use Rattle.record.specs.Operations.{Accepted}
+use Rattle.forest.specs.Index.{indexOf}
+use Rattle.queries.specs.Operations.{parent, head, ancestor, children, child, visit, visited}
+
+-- the record is accepted, and the index is the one that Build writes for it
+pub record Written (bytes index : List ℕ) : Type 0 where
+  pub accepted : Accepted bytes
+  pub is : index ≡ indexOf (blocks bytes)
+
+-- v is a terminal of the record, or a visit number
+pub record Terminal (bytes : List ℕ) (v : ℕ) : Type 0 where
+  pub some : 0 < v
+  pub upto : v ≤ terminals bytes
+
+-- just one of the numbers below k passes
+pub record Once (test : ℕ → Bool) (k : ℕ) : Type 0 where
+  pub at : ℕ
+  pub inside : at < k
+  pub passes : test at ≡ true
+  pub only : (i : ℕ) → i < k → test i ≡ true → i ≡ at
+
+-- Head's answers for u and v: the heads, and equal exactly when wires join the two and, whichever one wire is taken out, the others still do
+pub record HeadsTell (bytes : List ℕ) (u v : ℕ) (x y : Answer ℕ) : Type 0 where
+  pub first-head : x ≡ answered (suc (headIn (blocks bytes) (forest (blocks bytes)) (u - 1)))
+  pub second-head : y ≡ answered (suc (headIn (blocks bytes) (forest (blocks bytes)) (v - 1)))
+  pub equal-exactly : (x ≡ y) ↔ DoublyJoined (blocks bytes) (u - 1) (v - 1)
+
+-- every query has the same answer on two indexes
+pub record SameAnswers (bytes a b : List ℕ) : Type 0 where
+  pub same-parent : (v : ℕ) → parent bytes a v ≡ parent bytes b v
+  pub same-head : (v : ℕ) → head bytes a v ≡ head bytes b v
+  pub same-ancestor : (u v : ℕ) → ancestor bytes a u v ≡ ancestor bytes b u v
+  pub same-children : (v : ℕ) → children bytes a v ≡ children bytes b v
+  pub same-child : (v j : ℕ) → child bytes a v j ≡ child bytes b v j
+  pub same-visit : (v : ℕ) → visit bytes a v ≡ visit bytes b v
+  pub same-visited : (i : ℕ) → visited bytes a i ≡ visited bytes b i
