@@ -6,7 +6,6 @@ ghost use lib.ListN.{length};
 ghost use Rattle.record.specs.Steps.{Sound};
 ghost use Rattle.queries.specs.Table.{Ready};
 use libc::STDIN_FILENO;
-use libc::STDOUT_FILENO;
 use print::refused;
 use record::Shape;
 use record::Verdict;

@@ -1,6 +1,6 @@
 // The lines of the listing, which go out in one piece: 5 numbers of at most 5 digits each, and a byte behind each.
 ghost use mathlib.Core.Path.{_≡_};
-ghost use Prim.Native.Nat.{_+_, _*_, _≤_, _<_};
+ghost use Prim.Native.Nat.{_+_, _≤_, _<_};
 ghost use lib.ListN.{length};
 use libc::STDOUT_FILENO;
 use record::Refusal;

@@ -27,7 +27,10 @@ pub fn parent_in(bytes: &[u8], index: &[u8], n: usize, m: usize, v: Vertex) -> A
     match super::climbs::step_up(bytes, index, n, m, u, a, b) {
         Step::Stuck => Above::Refused(Refusal::BadIndex),
         Step::Top => Above::Root,
-        Step::Rise(r) => Above::Parent(Vertex(r.to + 1)),
+        Step::Rise(r) => {
+            let p = r.to + 1;
+            Above::Parent(Vertex(p))
+        }
     }
 }
 

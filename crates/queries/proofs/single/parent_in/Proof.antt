@@ -39,8 +39,8 @@ enum-told-2 c = search needs
 enum-known-r : tie.Need-enum-known-r
 enum-known-r c = search needs
 
-add-t14 : tie.Need-add-t14
-add-t14 c =
+add-p : tie.Need-add-p
+add-p c =
     let pre = c .before .before .before .before .before .before .before .before .before .before .pre in
     let s = sectionOf (c .before .before .before .before .before .before .before .before .before .before .args .n) (c .before .before .before .before .before .before .before .before .before .before .args .m) (c .before .before .before .before .before .before .before .before .before .before .args .index .now) 1 in
     let a = c .before .before .before .before .before .before .start-of .ensures in
@@ -77,7 +77,7 @@ parent-in-spec =
     enum-told
     enum-told-2
     enum-known-r
-    add-t14
+    add-p
     returns
     returns-2
     returns-3)
