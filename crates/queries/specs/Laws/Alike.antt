@@ -102,7 +102,7 @@ module _ {bytes a b : List ℕ} (s : Alike bytes a b) where
       let f = fields-same n (8 * (3 * markBytes n m)) (bits a) (bits b) l (s .same-numbers) in
       fun-ext (λ u. ap (λ (t : List ℕ). getD t u 0) f)
 
-  alike-view : viewOf bytes a ≡ viewOf bytes b
+  pub alike-view : viewOf bytes a ≡ viewOf bytes b
   alike-view =
       let e = marks-same 0 (omega arith) in
       let p = marks-same 1 (omega arith) in
