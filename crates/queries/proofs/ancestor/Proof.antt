@@ -31,19 +31,29 @@ out-of-range-requires c κs = search needs
 returns : tie.Need-returns
 unfolding ancestor ancestorRules
 returns c =
-    let bytes = c .before .before .before .before .before .before .before .before .args .bytes .now in
-    let index = c .before .before .before .before .before .before .before .before .args .index .now in
-    let u = c .before .before .before .before .before .before .before .before .args .u .0 in
-    let v = c .before .before .before .before .before .before .before .before .args .v .0 in
-    let q = asked bytes index u (sym (ap shape (c .before .before .before .s .given .1)) ∙ c .before .before .before .before .before .order-q .ensures) in
-    second-outside q v (ancestorOf (viewOf bytes index) (u - 1) (v - 1)) (sym (c .before .out-of-range .ensures) ∙ c .if1 .taken)
+    let args = c .before .before .before .before .before .before .before .before .args in
+    let s = c .before .before .before .s in
+    let order-q = c .before .before .before .before .before .order-q in
+    let out-of-range = c .before .out-of-range in
+    let if1 = c .if1 in
+    let bytes = args .bytes .now in
+    let index = args .index .now in
+    let u = args .u .0 in
+    let v = args .v .0 in
+    let q = asked bytes index u (sym (ap shape (s .given .1)) ∙ order-q .ensures) in
+    second-outside q v (ancestorOf (viewOf bytes index) (u - 1) (v - 1)) (sym (out-of-range .ensures) ∙ if1 .taken)
 
 ancestor-in-requires : tie.Need-ancestor-in-requires
 ancestor-in-requires c κs =
-    let bytes = c .before .before .before .before .before .before .before .before .args .bytes .now in
-    let index = c .before .before .before .before .before .before .before .before .args .index .now in
-    let q = asked bytes index (c .before .before .before .before .before .before .before .before .args .u .0) (sym (ap shape (c .before .before .before .s .given .1)) ∙ c .before .before .before .before .before .order-q .ensures) in
-    (q .beside, q .ranged, ranged-by (c .before .out-of-range .ensures) (c .if1 .left))
+    let args = c .before .before .before .before .before .before .before .before .args in
+    let s = c .before .before .before .s in
+    let order-q = c .before .before .before .before .before .order-q in
+    let out-of-range = c .before .out-of-range in
+    let if1 = c .if1 in
+    let bytes = args .bytes .now in
+    let index = args .index .now in
+    let q = asked bytes index (args .u .0) (sym (ap shape (s .given .1)) ∙ order-q .ensures) in
+    (q .beside, q .ranged, ranged-by (out-of-range .ensures) (if1 .left))
 
 returns-2 : tie.Need-returns-2
 unfolding ancestor ancestorRules
@@ -59,11 +69,17 @@ returns-2 c =
 returns-3 : tie.Need-returns-3
 unfolding ancestor ancestorRules
 returns-3 c =
-    let u = c .before .before .before .before .before .before .before .before .before .args .u .0 in
-    let v = c .before .before .before .before .before .before .before .before .before .args .v .0 in
-    let q = asked (c .before .before .before .before .before .before .before .before .before .args .bytes .now) (c .before .before .before .before .before .before .before .before .before .args .index .now) u (sym (ap shape (c .before .before .before .before .s .given .1)) ∙ c .before .before .before .before .before .before .order-q .ensures) in
-    let i = sym (c .before .before .out-of-range .ensures) ∙ c .before .if1 .left in
-    second-passed q v (λ (w : View). ancestorOf w (u - 1) (v - 1)) i (c .ancestor-in .ensures)
+    let args = c .before .before .before .before .before .before .before .before .before .args in
+    let s = c .before .before .before .before .s in
+    let order-q = c .before .before .before .before .before .before .order-q in
+    let out-of-range = c .before .before .out-of-range in
+    let if1 = c .before .if1 in
+    let ancestor-in = c .ancestor-in in
+    let u = args .u .0 in
+    let v = args .v .0 in
+    let q = asked (args .bytes .now) (args .index .now) u (sym (ap shape (s .given .1)) ∙ order-q .ensures) in
+    let i = sym (out-of-range .ensures) ∙ if1 .left in
+    second-passed q v (λ (w : View). ancestorOf w (u - 1) (v - 1)) i (ancestor-in .ensures)
 
 pub ancestor-spec : {M : Type 1} → statement M
 ancestor-spec =

@@ -26,31 +26,41 @@ enum-known-s c = search needs
 
 child-in-requires : tie.Need-child-in-requires
 child-in-requires c κs =
-    let bytes = c .before .before .before .before .before .before .args .bytes .now in
-    let index = c .before .before .before .before .before .before .args .index .now in
-    let q = asked bytes index (c .before .before .before .before .before .before .args .v .0) (sym (ap shape (c .before .s .given .1)) ∙ c .before .before .before .order-q .ensures) in
+    let args = c .before .before .before .before .before .before .args in
+    let s = c .before .s in
+    let order-q = c .before .before .before .order-q in
+    let bytes = args .bytes .now in
+    let index = args .index .now in
+    let q = asked bytes index (args .v .0) (sym (ap shape (s .given .1)) ∙ order-q .ensures) in
     (q .beside, q .ranged)
 
 returns : tie.Need-returns
 unfolding child childRules
 returns c =
-    let bytes = c .before .before .before .before .before .before .args .bytes .now in
-    let index = c .before .before .before .before .before .before .args .index .now in
-    let v = c .before .before .before .before .before .before .args .v .0 in
-    let j = c .before .before .before .before .before .before .args .j in
+    let args = c .before .before .before .before .before .before .args in
+    let r = c .before .r in
+    let order-q = c .before .before .before .order-q in
+    let bytes = args .bytes .now in
+    let index = args .index .now in
+    let v = args .v .0 in
+    let j = args .j in
     then-refused (orderQ bytes index v) ((13, noChild bytes index v j) ∷ []) (sizesOf bytes) (childOf (viewOf bytes index) (v - 1) j)
-    (sym (ap shape (c .before .r .given .1)) ∙ c .before .before .before .order-q .ensures)
+    (sym (ap shape (r .given .1)) ∙ order-q .ensures)
 
 returns-2 : tie.Need-returns-2
 unfolding child childRules noChild
 returns-2 c =
-    let bytes = c .before .before .before .before .before .before .before .args .bytes .now in
-    let index = c .before .before .before .before .before .before .before .args .index .now in
-    let v = c .before .before .before .before .before .before .before .args .v .0 in
-    let j = c .before .before .before .before .before .before .before .args .j in
-    let q = asked bytes index v (sym (ap shape (c .before .before .s .given .1)) ∙ c .before .before .before .before .order-q .ensures) in
+    let args = c .before .before .before .before .before .before .before .args in
+    let s = c .before .before .s in
+    let order-q = c .before .before .before .before .order-q in
+    let child-in = c .child-in in
+    let bytes = args .bytes .now in
+    let index = args .index .now in
+    let v = args .v .0 in
+    let j = args .j in
+    let q = asked bytes index v (sym (ap shape (s .given .1)) ∙ order-q .ensures) in
     let same = same-view q (λ (w : View). triedThen ((13, eqb j 0 || ltb (childCount w (v - 1)) j) ∷ []) (childOf w (v - 1) j)) in
-    passed-further q ((13, noChild bytes index v j) ∷ []) (childOf (viewOf bytes index) (v - 1) j) (c .child-in .ensures ∙ same)
+    passed-further q ((13, noChild bytes index v j) ∷ []) (childOf (viewOf bytes index) (v - 1) j) (child-in .ensures ∙ same)
 
 pub child-spec : {M : Type 1} → statement M
 child-spec =

@@ -22,25 +22,35 @@ enum-known-s c = search needs
 
 parent-in-requires : tie.Need-parent-in-requires
 parent-in-requires c κs =
-    let bytes = c .before .before .before .before .before .before .args .bytes .now in
-    let index = c .before .before .before .before .before .before .args .index .now in
-    let q = asked bytes index (c .before .before .before .before .before .before .args .v .0) (sym (ap shape (c .before .s .given .1)) ∙ c .before .before .before .order-q .ensures) in
+    let args = c .before .before .before .before .before .before .args in
+    let s = c .before .s in
+    let order-q = c .before .before .before .order-q in
+    let bytes = args .bytes .now in
+    let index = args .index .now in
+    let q = asked bytes index (args .v .0) (sym (ap shape (s .given .1)) ∙ order-q .ensures) in
     (q .beside, q .ranged)
 
 returns : tie.Need-returns
 unfolding parent
 returns c =
-    let bytes = c .before .before .before .before .before .before .args .bytes .now in
-    let index = c .before .before .before .before .before .before .args .index .now in
-    let v = c .before .before .before .before .before .before .args .v .0 in
-    refused-on bytes index v (parentOf (viewOf bytes index) (v - 1)) (sym (ap shape (c .before .r .given .1)) ∙ c .before .before .before .order-q .ensures)
+    let args = c .before .before .before .before .before .before .args in
+    let r = c .before .r in
+    let order-q = c .before .before .before .order-q in
+    let bytes = args .bytes .now in
+    let index = args .index .now in
+    let v = args .v .0 in
+    refused-on bytes index v (parentOf (viewOf bytes index) (v - 1)) (sym (ap shape (r .given .1)) ∙ order-q .ensures)
 
 returns-2 : tie.Need-returns-2
 unfolding parent
 returns-2 c =
-    let v = c .before .before .before .before .before .before .before .args .v .0 in
-    let q = asked (c .before .before .before .before .before .before .before .args .bytes .now) (c .before .before .before .before .before .before .before .args .index .now) v (sym (ap shape (c .before .before .s .given .1)) ∙ c .before .before .before .before .order-q .ensures) in
-    passed-on q (λ (w : View). parentOf w (v - 1)) (c .parent-in .ensures)
+    let args = c .before .before .before .before .before .before .before .args in
+    let s = c .before .before .s in
+    let order-q = c .before .before .before .before .order-q in
+    let parent-in = c .parent-in in
+    let v = args .v .0 in
+    let q = asked (args .bytes .now) (args .index .now) v (sym (ap shape (s .given .1)) ∙ order-q .ensures) in
+    passed-on q (λ (w : View). parentOf w (v - 1)) (parent-in .ensures)
 
 pub parent-spec : {M : Type 1} → statement M
 parent-spec =

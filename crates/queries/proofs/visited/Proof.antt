@@ -22,25 +22,35 @@ enum-known-s c = search needs
 
 visited-in-requires : tie.Need-visited-in-requires
 visited-in-requires c κs =
-    let bytes = c .before .before .before .before .before .before .args .bytes .now in
-    let index = c .before .before .before .before .before .before .args .index .now in
-    let q = asked bytes index (c .before .before .before .before .before .before .args .i .0) (sym (ap shape (c .before .s .given .1)) ∙ c .before .before .before .order-q .ensures) in
+    let args = c .before .before .before .before .before .before .args in
+    let s = c .before .s in
+    let order-q = c .before .before .before .order-q in
+    let bytes = args .bytes .now in
+    let index = args .index .now in
+    let q = asked bytes index (args .i .0) (sym (ap shape (s .given .1)) ∙ order-q .ensures) in
     (q .beside, q .ranged)
 
 returns : tie.Need-returns
 unfolding visited
 returns c =
-    let bytes = c .before .before .before .before .before .before .args .bytes .now in
-    let index = c .before .before .before .before .before .before .args .index .now in
-    let i = c .before .before .before .before .before .before .args .i .0 in
-    refused-on bytes index i (visitedOf (viewOf bytes index) (i - 1)) (sym (ap shape (c .before .r .given .1)) ∙ c .before .before .before .order-q .ensures)
+    let args = c .before .before .before .before .before .before .args in
+    let r = c .before .r in
+    let order-q = c .before .before .before .order-q in
+    let bytes = args .bytes .now in
+    let index = args .index .now in
+    let i = args .i .0 in
+    refused-on bytes index i (visitedOf (viewOf bytes index) (i - 1)) (sym (ap shape (r .given .1)) ∙ order-q .ensures)
 
 returns-2 : tie.Need-returns-2
 unfolding visited
 returns-2 c =
-    let i = c .before .before .before .before .before .before .before .args .i .0 in
-    let q = asked (c .before .before .before .before .before .before .before .args .bytes .now) (c .before .before .before .before .before .before .before .args .index .now) i (sym (ap shape (c .before .before .s .given .1)) ∙ c .before .before .before .before .order-q .ensures) in
-    passed-on q (λ (w : View). visitedOf w (i - 1)) (c .visited-in .ensures)
+    let args = c .before .before .before .before .before .before .before .args in
+    let s = c .before .before .s in
+    let order-q = c .before .before .before .before .order-q in
+    let visited-in = c .visited-in in
+    let i = args .i .0 in
+    let q = asked (args .bytes .now) (args .index .now) i (sym (ap shape (s .given .1)) ∙ order-q .ensures) in
+    passed-on q (λ (w : View). visitedOf w (i - 1)) (visited-in .ensures)
 
 pub visited-spec : {M : Type 1} → statement M
 visited-spec =

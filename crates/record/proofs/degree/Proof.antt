@@ -24,14 +24,21 @@ enum-known-s : tie.Need-enum-known-s
 enum-known-s c = search needs
 
 degree-in-requires : tie.Need-degree-in-requires
-degree-in-requires c κs = told-sound (c .before .before .before .before .before .args .bytes .now) (sym (ap shape (c .before .s .given .1)) ∙ c .before .before .before .order-r .ensures)
+degree-in-requires c κs =
+    let args = c .before .before .before .before .before .args in
+    let s = c .before .s in
+    let order-r = c .before .before .before .order-r in
+    told-sound (args .bytes .now) (sym (ap shape (s .given .1)) ∙ order-r .ensures)
 
 returns : tie.Need-returns
 unfolding degree degreeRules
 returns c =
-    let bytes = c .before .before .before .before .before .args .bytes .now in
-    let v = c .before .before .before .before .before .args .v .0 in
-    told-append (orderR bytes) ((11, outOfRange (terminals bytes) v) ∷ []) (sizesOf bytes) (length (block (blocks bytes) (v - 1))) (sym (ap shape (c .before .r .given .1)) ∙ c .before .before .before .order-r .ensures)
+    let args = c .before .before .before .before .before .args in
+    let r = c .before .r in
+    let order-r = c .before .before .before .order-r in
+    let bytes = args .bytes .now in
+    let v = args .v .0 in
+    told-append (orderR bytes) ((11, outOfRange (terminals bytes) v) ∷ []) (sizesOf bytes) (length (block (blocks bytes) (v - 1))) (sym (ap shape (r .given .1)) ∙ order-r .ensures)
 
 returns-2 : tie.Need-returns-2
 returns-2 c = search needs

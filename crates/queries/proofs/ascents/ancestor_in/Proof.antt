@@ -27,8 +27,10 @@ slice-aggregate-ancestor-by c =
 
 ancestor-by-requires : tie.Need-ancestor-by-requires
 ancestor-by-requires c κs =
-    let f = c .before .before .before .before .before .pre .0 .framed .n-fits in
-    (c .before .before .before .before .before .pre .0, vertex-in (c .before .before .before .before .before .pre .2), part-zeros 4097 (c .before .before .before .before .before .args .n + 1) (omega arith))
+    let pre = c .before .before .before .before .before .pre in
+    let args = c .before .before .before .before .before .args in
+    let f = pre .0 .framed .n-fits in
+    (pre .0, vertex-in (pre .2), part-zeros 4097 (args .n + 1) (omega arith))
 
 returns : tie.Need-returns
 returns c = search needs

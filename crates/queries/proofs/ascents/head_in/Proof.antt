@@ -24,8 +24,10 @@ slice-aggregate-head-by c =
 
 head-by-requires : tie.Need-head-by-requires
 head-by-requires c κs =
-    let f = c .before .before .before .before .pre .0 .framed .n-fits in
-    (c .before .before .before .before .pre .0, vertex-in (c .before .before .before .before .pre .1), part-zeros 4097 (c .before .before .before .before .args .n + 1) (omega arith))
+    let pre = c .before .before .before .before .pre in
+    let args = c .before .before .before .before .args in
+    let f = pre .0 .framed .n-fits in
+    (pre .0, vertex-in (pre .1), part-zeros 4097 (args .n + 1) (omega arith))
 
 returns : tie.Need-returns
 returns c = search needs

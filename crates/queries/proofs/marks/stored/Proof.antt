@@ -34,13 +34,17 @@ read12-requires c κs =
 returns : tie.Need-returns
 unfolding numberOf
 returns c =
-    let index = c .before .before .before .args .index .now in
-    let n = c .before .before .before .args .n in
-    let u = c .before .before .before .args .u in
-    let k = c .before .mark-bytes .ensures .0 in
+    let args = c .before .before .before .args in
+    let mark-bytes = c .before .mark-bytes in
+    let pre = c .before .before .before .pre in
+    let read12 = c .read12 in
+    let index = args .index .now in
+    let n = args .n in
+    let u = args .u in
+    let k = mark-bytes .ensures .0 in
     let here = ap (λ (b : ℕ). field 12 (bits index) (8 * (3 * b) + 12 * u)) k in
-    let at = fieldsFrom-at (bits index) (8 * (3 * markBytes n (c .before .before .before .args .m))) n u (c .before .before .before .pre .1) in
-    (c .read12 .ensures .0 ∙ here ∙ sym at, c .read12 .ensures .1)
+    let at = fieldsFrom-at (bits index) (8 * (3 * markBytes n (args .m))) n u (pre .1) in
+    (read12 .ensures .0 ∙ here ∙ sym at, read12 .ensures .1)
 
 pub stored-spec : {M : Type 1} → statement M
 stored-spec =

@@ -22,10 +22,14 @@ same-length-2 c = search needs
 
 returns : tie.Need-returns
 returns c =
-    let (answer, buffer) = c .before .before .before .before .before .before .before .before .build .ensures in
-    let x = c .before .before .head .ensures in
-    let y = c .head2 .ensures in
-    let tell = paired (c .before .before .before .before .before .before .before .before .before .before .before .before .before .before .args .bytes .now) (c .before .before .before .before .before .before .before .before .before .before .before .before .before .before .args .work .now) (c .before .before .before .before .before .before .before .before .before .before .before .before .before .before .args .index .now) buffer x y in
+    let build = c .before .before .before .before .before .before .before .before .build in
+    let head = c .before .before .head in
+    let head2 = c .head2 in
+    let args = c .before .before .before .before .before .before .before .before .before .before .before .before .before .before .args in
+    let (answer, buffer) = build .ensures in
+    let x = head .ensures in
+    let y = head2 .ensures in
+    let tell = paired (args .bytes .now) (args .work .now) (args .index .now) buffer x y in
     (answer, buffer, x, y, λ e t r. tell (sym answer ∙ e) t r)
 
 pub heads-of-two-spec : {M : Type 1} → statement M

@@ -12,8 +12,10 @@ use Rattle.queries.proofs.single.child_in.Tie as tie
 
 returns : tie.Need-returns
 returns c =
-    let w = viewBy (c .before .before .before .args .n) (c .before .before .before .args .m) (c .before .before .before .args .bytes .now) (c .before .before .before .args .index .now) in
-    no-first w (c .before .before .before .args .v .0 - 1) (c .before .before .before .args .j) (c .if1 .taken)
+    let args = c .before .before .before .args in
+    let if1 = c .if1 in
+    let w = viewBy (args .n) (args .m) (args .bytes .now) (args .index .now) in
+    no-first w (args .v .0 - 1) (args .j) (if1 .taken)
 
 sub-u : tie.Need-sub-u
 sub-u c = let z = c .before .before .before .before .pre .1 .some in omega arith
@@ -30,7 +32,9 @@ start-of-requires-2 c κs = search needs
 add-nth-child : tie.Need-add-nth-child
 add-nth-child c =
     let pre = c .before .before .before .before .before .before .pre in
-    let (r, e) = block-bounds (pre .0 .sound) (vertex-in (pre .1)) (c .before .start-of .ensures) (c .start-of2 .ensures) in
+    let start-of = c .before .start-of in
+    let start-of2 = c .start-of2 in
+    let (r, e) = block-bounds (pre .0 .sound) (vertex-in (pre .1)) (start-of .ensures) (start-of2 .ensures) in
     let x = pre .0 .framed .n-fits in
     let y = pre .0 .framed .m-fits in
     let z = vertex-in (pre .1) in
@@ -39,7 +43,9 @@ add-nth-child c =
 add-nth-child-2 : tie.Need-add-nth-child-2
 add-nth-child-2 c =
     let pre = c .before .before .before .before .before .before .pre in
-    let (r, e) = block-bounds (pre .0 .sound) (vertex-in (pre .1)) (c .before .start-of .ensures) (c .start-of2 .ensures) in
+    let start-of = c .before .start-of in
+    let start-of2 = c .start-of2 in
+    let (r, e) = block-bounds (pre .0 .sound) (vertex-in (pre .1)) (start-of .ensures) (start-of2 .ensures) in
     let x = pre .0 .framed .n-fits in
     let y = pre .0 .framed .m-fits in
     let z = vertex-in (pre .1) in
@@ -48,20 +54,31 @@ add-nth-child-2 c =
 sub-nth-child : tie.Need-sub-nth-child
 sub-nth-child c =
     let pre = c .before .before .before .before .before .before .pre in
-    let (r, e) = block-bounds (pre .0 .sound) (vertex-in (pre .1)) (c .before .start-of .ensures) (c .start-of2 .ensures) in
+    let start-of = c .before .start-of in
+    let start-of2 = c .start-of2 in
+    let (r, e) = block-bounds (pre .0 .sound) (vertex-in (pre .1)) (start-of .ensures) (start-of2 .ensures) in
     r
 
 nth-child-requires : tie.Need-nth-child-requires
 nth-child-requires c κs =
     let pre = c .before .before .before .before .before .before .pre in
-    let (r, e) = block-bounds (pre .0 .sound) (vertex-in (pre .1)) (c .before .start-of .ensures) (c .start-of2 .ensures) in
+    let start-of = c .before .start-of in
+    let start-of2 = c .start-of2 in
+    let if1 = c .before .before .before .if1 in
+    let (r, e) = block-bounds (pre .0 .sound) (vertex-in (pre .1)) (start-of .ensures) (start-of2 .ensures) in
     let z = vertex-in (pre .1) in
-    (pre .0 .framed, omega arith, positive (c .before .before .before .if1 .left))
+    (pre .0 .framed, omega arith, positive (if1 .left))
 
 returns-2 : tie.Need-returns-2
 returns-2 c =
-    let h = vertex-in (c .before .before .before .before .before .before .before .before .pre .1) in
-    few-told (c .before .before .before .before .before .before .before .before .pre .0) h (c .before .before .before .start-of .ensures) (c .before .before .start-of2 .ensures) (c .before .before .before .before .before .if1 .left) (c .before .nth-child .ensures) (c .if2 .taken)
+    let pre = c .before .before .before .before .before .before .before .before .pre in
+    let start-of = c .before .before .before .start-of in
+    let start-of2 = c .before .before .start-of2 in
+    let if1 = c .before .before .before .before .before .if1 in
+    let nth-child = c .before .nth-child in
+    let if2 = c .if2 in
+    let h = vertex-in (pre .1) in
+    few-told (pre .0) h (start-of .ensures) (start-of2 .ensures) (if1 .left) (nth-child .ensures) (if2 .taken)
 
 sub-field : tie.Need-sub-field
 sub-field c = search needs
@@ -69,37 +86,63 @@ sub-field c = search needs
 add-field : tie.Need-add-field
 add-field c =
     let pre = c .before .before .before .before .before .before .before .before .pre in
-    let a = c .before .before .before .start-of .ensures in
-    let b = c .before .before .start-of2 .ensures in
-    let l = child-room (pre .0) (vertex-in (pre .1)) a b (c .before .before .before .before .before .if1 .left) (c .before .nth-child .ensures) (c .if2 .left) in
+    let start-of = c .before .before .before .start-of in
+    let start-of2 = c .before .before .start-of2 in
+    let if1 = c .before .before .before .before .before .if1 in
+    let nth-child = c .before .nth-child in
+    let if2 = c .if2 in
+    let a = start-of .ensures in
+    let b = start-of2 .ensures in
+    let l = child-room (pre .0) (vertex-in (pre .1)) a b (if1 .left) (nth-child .ensures) (if2 .left) in
     let y = pre .0 .framed .m-fits in
     omega arith
 
 field-requires : tie.Need-field-requires
 field-requires c κs =
     let pre = c .before .before .before .before .before .before .before .before .pre in
-    let a = c .before .before .before .start-of .ensures in
-    let b = c .before .before .start-of2 .ensures in
-    (pre .0 .sound, child-room (pre .0) (vertex-in (pre .1)) a b (c .before .before .before .before .before .if1 .left) (c .before .nth-child .ensures) (c .if2 .left))
+    let start-of = c .before .before .before .start-of in
+    let start-of2 = c .before .before .start-of2 in
+    let if1 = c .before .before .before .before .before .if1 in
+    let nth-child = c .before .nth-child in
+    let if2 = c .if2 in
+    let a = start-of .ensures in
+    let b = start-of2 .ensures in
+    (pre .0 .sound, child-room (pre .0) (vertex-in (pre .1)) a b (if1 .left) (nth-child .ensures) (if2 .left))
 
 add-t18 : tie.Need-add-t18
 add-t18 c = search needs
 
 returns-3 : tie.Need-returns-3
 returns-3 c =
-    let h = vertex-in (c .before .before .before .before .before .before .before .before .before .before .pre .1) in
-    let a = c .before .before .before .before .before .start-of .ensures in
-    let b = c .before .before .before .before .start-of2 .ensures in
-    let p = c .before .before .before .nth-child .ensures in
-    there-told (c .before .before .before .before .before .before .before .before .before .before .pre .0) h a b (c .before .before .before .before .before .before .before .if1 .left) p (c .before .before .if2 .left) (c .before .field .ensures .0) (c .if3 .taken)
+    let pre = c .before .before .before .before .before .before .before .before .before .before .pre in
+    let start-of = c .before .before .before .before .before .start-of in
+    let start-of2 = c .before .before .before .before .start-of2 in
+    let nth-child = c .before .before .before .nth-child in
+    let if1 = c .before .before .before .before .before .before .before .if1 in
+    let if2 = c .before .before .if2 in
+    let field = c .before .field in
+    let if3 = c .if3 in
+    let h = vertex-in (pre .1) in
+    let a = start-of .ensures in
+    let b = start-of2 .ensures in
+    let p = nth-child .ensures in
+    there-told (pre .0) h a b (if1 .left) p (if2 .left) (field .ensures .0) (if3 .taken)
 
 returns-4 : tie.Need-returns-4
 returns-4 c =
-    let h = vertex-in (c .before .before .before .before .before .before .before .before .before .before .pre .1) in
-    let a = c .before .before .before .before .before .start-of .ensures in
-    let b = c .before .before .before .before .start-of2 .ensures in
-    let p = c .before .before .before .nth-child .ensures in
-    stray-told (c .before .before .before .before .before .before .before .before .before .before .pre .0) h a b (c .before .before .before .before .before .before .before .if1 .left) p (c .before .before .if2 .left) (c .before .field .ensures .0) (c .if3 .left)
+    let pre = c .before .before .before .before .before .before .before .before .before .before .pre in
+    let start-of = c .before .before .before .before .before .start-of in
+    let start-of2 = c .before .before .before .before .start-of2 in
+    let nth-child = c .before .before .before .nth-child in
+    let if1 = c .before .before .before .before .before .before .before .if1 in
+    let if2 = c .before .before .if2 in
+    let field = c .before .field in
+    let if3 = c .if3 in
+    let h = vertex-in (pre .1) in
+    let a = start-of .ensures in
+    let b = start-of2 .ensures in
+    let p = nth-child .ensures in
+    stray-told (pre .0) h a b (if1 .left) p (if2 .left) (field .ensures .0) (if3 .left)
 
 pub child-in-spec : {M : Type 1} → statement M
 child-in-spec =

@@ -22,7 +22,9 @@ start-of-requires-2 c κs = search needs
 add-count-children : tie.Need-add-count-children
 add-count-children c =
     let pre = c .before .before .before .before .before .pre in
-    let (r, e) = block-bounds (pre .0 .sound) (vertex-in (pre .1)) (c .before .start-of .ensures) (c .start-of2 .ensures) in
+    let start-of = c .before .start-of in
+    let start-of2 = c .start-of2 in
+    let (r, e) = block-bounds (pre .0 .sound) (vertex-in (pre .1)) (start-of .ensures) (start-of2 .ensures) in
     let x = pre .0 .framed .n-fits in
     let y = pre .0 .framed .m-fits in
     let z = vertex-in (pre .1) in
@@ -31,7 +33,9 @@ add-count-children c =
 add-count-children-2 : tie.Need-add-count-children-2
 add-count-children-2 c =
     let pre = c .before .before .before .before .before .pre in
-    let (r, e) = block-bounds (pre .0 .sound) (vertex-in (pre .1)) (c .before .start-of .ensures) (c .start-of2 .ensures) in
+    let start-of = c .before .start-of in
+    let start-of2 = c .start-of2 in
+    let (r, e) = block-bounds (pre .0 .sound) (vertex-in (pre .1)) (start-of .ensures) (start-of2 .ensures) in
     let x = pre .0 .framed .n-fits in
     let y = pre .0 .framed .m-fits in
     let z = vertex-in (pre .1) in
@@ -40,22 +44,31 @@ add-count-children-2 c =
 sub-count-children : tie.Need-sub-count-children
 sub-count-children c =
     let pre = c .before .before .before .before .before .pre in
-    let (r, e) = block-bounds (pre .0 .sound) (vertex-in (pre .1)) (c .before .start-of .ensures) (c .start-of2 .ensures) in
+    let start-of = c .before .start-of in
+    let start-of2 = c .start-of2 in
+    let (r, e) = block-bounds (pre .0 .sound) (vertex-in (pre .1)) (start-of .ensures) (start-of2 .ensures) in
     r
 
 count-children-requires : tie.Need-count-children-requires
 count-children-requires c κs =
     let pre = c .before .before .before .before .before .pre in
-    let (r, e) = block-bounds (pre .0 .sound) (vertex-in (pre .1)) (c .before .start-of .ensures) (c .start-of2 .ensures) in
+    let start-of = c .before .start-of in
+    let start-of2 = c .start-of2 in
+    let (r, e) = block-bounds (pre .0 .sound) (vertex-in (pre .1)) (start-of .ensures) (start-of2 .ensures) in
     let z = vertex-in (pre .1) in
     (pre .0 .framed, omega arith)
 
 returns : tie.Need-returns
 returns c =
-    let h = vertex-in (c .before .before .before .before .before .before .pre .1) in
-    let a = c .before .before .start-of .ensures in
-    let b = c .before .start-of2 .ensures in
-    children-counted (c .before .before .before .before .before .before .args .index .now) (c .before .before .before .before .before .before .pre .0 .sound) h a b (c .count-children .ensures)
+    let pre = c .before .before .before .before .before .before .pre in
+    let start-of = c .before .before .start-of in
+    let start-of2 = c .before .start-of2 in
+    let args = c .before .before .before .before .before .before .args in
+    let count-children = c .count-children in
+    let h = vertex-in (pre .1) in
+    let a = start-of .ensures in
+    let b = start-of2 .ensures in
+    children-counted (args .index .now) (pre .0 .sound) h a b (count-children .ensures)
 
 pub children-in-spec : {M : Type 1} → statement M
 children-in-spec =

@@ -42,10 +42,15 @@ enum-known-r c = search needs
 add-p : tie.Need-add-p
 add-p c =
     let pre = c .before .before .before .before .before .before .before .before .before .before .pre in
-    let s = sectionOf (c .before .before .before .before .before .before .before .before .before .before .args .n) (c .before .before .before .before .before .before .before .before .before .before .args .m) (c .before .before .before .before .before .before .before .before .before .before .args .index .now) 1 in
-    let a = c .before .before .before .before .before .before .start-of .ensures in
-    let b = c .before .before .before .before .before .start-of2 .ensures in
-    let e = sym (ap stepOf (c .before .before .r .given .1)) ∙ c .before .before .before .before .step-up .ensures in
+    let args = c .before .before .before .before .before .before .before .before .before .before .args in
+    let start-of = c .before .before .before .before .before .before .start-of in
+    let start-of2 = c .before .before .before .before .before .start-of2 in
+    let r = c .before .before .r in
+    let step-up = c .before .before .before .before .step-up in
+    let s = sectionOf (args .n) (args .m) (args .index .now) 1 in
+    let a = start-of .ensures in
+    let b = start-of2 .ensures in
+    let e = sym (ap stepOf (r .given .1)) ∙ step-up .ensures in
     let t = rise-to (pre .0 .sound) (vertex-in (pre .1)) a b s (length-P (pre .0 .framed)) e in
     let f = pre .0 .framed .n-fits in
     omega arith

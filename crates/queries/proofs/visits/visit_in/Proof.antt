@@ -20,15 +20,21 @@ add-t9 c = search needs
 
 returns : tie.Need-returns
 returns c =
-    let k = sound-vertices (c .before .before .before .before .before .pre .0 .sound) in
-    let w = viewBy (c .before .before .before .before .before .args .n) (c .before .before .before .before .before .args .m) (c .before .before .before .before .before .args .bytes .now) (c .before .before .before .before .before .args .index .now) in
-    visit-told w {u = c .before .before .before .before .before .args .v .0 - 1} (c .before .stored .ensures .0) (omega arith)
+    let pre = c .before .before .before .before .before .pre in
+    let args = c .before .before .before .before .before .args in
+    let stored = c .before .stored in
+    let k = sound-vertices (pre .0 .sound) in
+    let w = viewBy (args .n) (args .m) (args .bytes .now) (args .index .now) in
+    visit-told w {u = args .v .0 - 1} (stored .ensures .0) (omega arith)
 
 returns-2 : tie.Need-returns-2
 returns-2 c =
-    let k = sound-vertices (c .before .before .before .before .before .pre .0 .sound) in
-    let w = viewBy (c .before .before .before .before .before .args .n) (c .before .before .before .before .before .args .m) (c .before .before .before .before .before .args .bytes .now) (c .before .before .before .before .before .args .index .now) in
-    visit-stray w {u = c .before .before .before .before .before .args .v .0 - 1} (c .before .stored .ensures .0) (omega arith)
+    let pre = c .before .before .before .before .before .pre in
+    let args = c .before .before .before .before .before .args in
+    let stored = c .before .stored in
+    let k = sound-vertices (pre .0 .sound) in
+    let w = viewBy (args .n) (args .m) (args .bytes .now) (args .index .now) in
+    visit-stray w {u = args .v .0 - 1} (stored .ensures .0) (omega arith)
 
 pub visit-in-spec : {M : Type 1} → statement M
 visit-in-spec = tie.close (tie.spec sub-stored stored-requires add-t9 returns returns-2)

@@ -18,8 +18,9 @@ sub-k c = let z = c .before .before .before .pre .1 .some in omega arith
 
 loop-holds : tie.Need-loop-holds Inv-loop μ-loop
 loop-holds c =
-    let w = viewBy (c .before .before .before .args .n) (c .before .before .before .args .m) (c .before .before .before .args .bytes .now) (c .before .before .before .args .index .now) in
-    unmet-begin w (c .before .before .before .args .i .0 - 1)
+    let args = c .before .before .before .args in
+    let w = viewBy (args .n) (args .m) (args .bytes .now) (args .index .now) in
+    unmet-begin w (args .i .0 - 1)
 
 stored-requires : tie.Need-stored-requires Inv-loop μ-loop
 stored-requires c κs = (c .before .before .before .before .before .pre .0 .framed, c .loop-test .taken)
@@ -29,9 +30,14 @@ add-t10 c = let f = c .before .before .before .before .before .before .before .p
 
 returns : tie.Need-returns Inv-loop μ-loop
 returns c =
-    let k = sound-vertices (c .before .before .before .before .before .before .before .pre .0 .sound) in
-    let w = viewBy (c .before .before .before .before .before .before .before .args .n) (c .before .before .before .before .before .before .before .args .m) (c .before .before .before .before .before .before .before .args .bytes .now) (c .before .before .before .before .before .before .before .args .index .now) in
-    met w (c .before .before .before .before .before .before .before .args .i .0 - 1) {u = c .before .before .before .loop .u} (omega arith) (c .before .stored .ensures .0) (c .before .before .before .loop .inv) (c .if1 .taken)
+    let pre = c .before .before .before .before .before .before .before .pre in
+    let args = c .before .before .before .before .before .before .before .args in
+    let loop = c .before .before .before .loop in
+    let stored = c .before .stored in
+    let if1 = c .if1 in
+    let k = sound-vertices (pre .0 .sound) in
+    let w = viewBy (args .n) (args .m) (args .bytes .now) (args .index .now) in
+    met w (args .i .0 - 1) {u = loop .u} (omega arith) (stored .ensures .0) (loop .inv) (if1 .taken)
 
 add-u : tie.Need-add-u Inv-loop μ-loop
 add-u c = let f = c .before .before .before .before .before .before .before .pre .0 .framed .n-fits in omega arith
@@ -41,15 +47,23 @@ loop-less c = omega arith
 
 loop-again : tie.Need-loop-again Inv-loop μ-loop
 loop-again c =
-    let k = sound-vertices (c .before .before .before .before .before .before .before .pre .0 .sound) in
-    let w = viewBy (c .before .before .before .before .before .before .before .args .n) (c .before .before .before .before .before .before .before .args .m) (c .before .before .before .before .before .before .before .args .bytes .now) (c .before .before .before .before .before .before .before .args .index .now) in
-    unmet-more w (c .before .before .before .before .before .before .before .args .i .0 - 1) {u = c .before .before .before .loop .u} (omega arith) (c .before .stored .ensures .0) (c .before .before .before .loop .inv) (c .if1 .left)
+    let pre = c .before .before .before .before .before .before .before .pre in
+    let args = c .before .before .before .before .before .before .before .args in
+    let loop = c .before .before .before .loop in
+    let stored = c .before .stored in
+    let if1 = c .if1 in
+    let k = sound-vertices (pre .0 .sound) in
+    let w = viewBy (args .n) (args .m) (args .bytes .now) (args .index .now) in
+    unmet-more w (args .i .0 - 1) {u = loop .u} (omega arith) (stored .ensures .0) (loop .inv) (if1 .left)
 
 returns-2 : tie.Need-returns-2 Inv-loop μ-loop
 returns-2 c =
-    let k = sound-vertices (c .before .before .before .before .before .pre .0 .sound) in
-    let w = viewBy (c .before .before .before .before .before .args .n) (c .before .before .before .before .before .args .m) (c .before .before .before .before .before .args .bytes .now) (c .before .before .before .before .before .args .index .now) in
-    unmet-end w (c .before .before .before .before .before .args .i .0 - 1) {u = c .before .loop .u} (omega arith) (c .before .loop .inv)
+    let pre = c .before .before .before .before .before .pre in
+    let args = c .before .before .before .before .before .args in
+    let loop = c .before .loop in
+    let k = sound-vertices (pre .0 .sound) in
+    let w = viewBy (args .n) (args .m) (args .bytes .now) (args .index .now) in
+    unmet-end w (args .i .0 - 1) {u = loop .u} (omega arith) (loop .inv)
 
 pub visited-in-spec : {M : Type 1} → statement M
 visited-in-spec =

@@ -18,22 +18,57 @@ out-of-range-requires c κs = search needs
 
 returns : tie.Need-returns
 unfolding degree
-returns c = told (length (block (blocks (c .before .before .before .args .bytes .now)) (c .before .before .before .args .v .0 - 1))) (outside (c .before .before .before .pre) (c .before .before .before .args .v .0) (sym (c .before .out-of-range .ensures) ∙ c .if1 .taken))
+returns c =
+    let args = c .before .before .before .args in
+    let pre = c .before .before .before .pre in
+    let out-of-range = c .before .out-of-range in
+    let if1 = c .if1 in
+    told (length (block (blocks (args .bytes .now)) (args .v .0 - 1))) (outside pre (args .v .0) (sym (out-of-range .ensures) ∙ if1 .taken))
 
 start-of-requires : tie.Need-start-of-requires
-start-of-requires c κs = (c .before .before .before .pre, range-inside (c .before .before .before .args .n) (c .before .before .before .args .v .0) (sym (c .before .out-of-range .ensures) ∙ c .if1 .left) .1)
+start-of-requires c κs =
+    let pre = c .before .before .before .pre in
+    let args = c .before .before .before .args in
+    let out-of-range = c .before .out-of-range in
+    let if1 = c .if1 in
+    (pre, range-inside (args .n) (args .v .0) (sym (out-of-range .ensures) ∙ if1 .left) .1)
 
 sub-start-of : tie.Need-sub-start-of
-sub-start-of c = let z = range-inside (c .before .before .before .before .args .n) (c .before .before .before .before .args .v .0) (sym (c .before .before .out-of-range .ensures) ∙ c .before .if1 .left) .0 in omega arith
+sub-start-of c =
+    let args = c .before .before .before .before .args in
+    let out-of-range = c .before .before .out-of-range in
+    let if1 = c .before .if1 in
+    let z = range-inside (args .n) (args .v .0) (sym (out-of-range .ensures) ∙ if1 .left) .0 in
+    omega arith
 
 start-of-requires-2 : tie.Need-start-of-requires-2
-start-of-requires-2 c κs = let z = range-inside (c .before .before .before .before .args .n) (c .before .before .before .before .args .v .0) (sym (c .before .before .out-of-range .ensures) ∙ c .before .if1 .left) .1 in (c .before .before .before .before .pre, omega arith)
+start-of-requires-2 c κs =
+    let args = c .before .before .before .before .args in
+    let out-of-range = c .before .before .out-of-range in
+    let if1 = c .before .if1 in
+    let pre = c .before .before .before .before .pre in
+    let z = range-inside (args .n) (args .v .0) (sym (out-of-range .ensures) ∙ if1 .left) .1 in
+    (pre, omega arith)
 
 sub-t11 : tie.Need-sub-t11
-sub-t11 c = block-rises (c .before .before .before .before .before .pre) (c .before .before .before .before .before .args .v .0) (sym (c .before .before .before .out-of-range .ensures) ∙ c .before .before .if1 .left) (c .start-of2 .ensures) (c .before .start-of .ensures)
+sub-t11 c =
+    let pre = c .before .before .before .before .before .pre in
+    let args = c .before .before .before .before .before .args in
+    let out-of-range = c .before .before .before .out-of-range in
+    let if1 = c .before .before .if1 in
+    let start-of2 = c .start-of2 in
+    let start-of = c .before .start-of in
+    block-rises pre (args .v .0) (sym (out-of-range .ensures) ∙ if1 .left) (start-of2 .ensures) (start-of .ensures)
 
 returns-2 : tie.Need-returns-2
-returns-2 c = degree-is (c .before .before .before .before .before .pre) (c .before .before .before .before .before .args .v .0) (sym (c .before .before .before .out-of-range .ensures) ∙ c .before .before .if1 .left) (c .start-of2 .ensures) (c .before .start-of .ensures)
+returns-2 c =
+    let pre = c .before .before .before .before .before .pre in
+    let args = c .before .before .before .before .before .args in
+    let out-of-range = c .before .before .before .out-of-range in
+    let if1 = c .before .before .if1 in
+    let start-of2 = c .start-of2 in
+    let start-of = c .before .start-of in
+    degree-is pre (args .v .0) (sym (out-of-range .ensures) ∙ if1 .left) (start-of2 .ensures) (start-of .ensures)
 
 pub degree-in-spec : {M : Type 1} → statement M
 degree-in-spec =

@@ -16,9 +16,13 @@ slice-aggregate-result c = search needs
 
 returns : tie.Need-returns
 returns c =
-    let list = c .before .before .before .before .before .args .list .now in
-    let v = c .before .before .before .before .before .args .v .0 in
-    front (c .before .before .before .before .before .args .bytes .now) list v (c .before .before .before .before .before .args .list .ptr) (outside-ungiven (c .before .before .before .before .before .pre) v list (outside (c .before .before .before .before .before .pre) (c .before .before .before .before .before .args .v .0) (sym (c .before .before .out-of-range .ensures) ∙ c .before .if1 .taken)))
+    let args = c .before .before .before .before .before .args in
+    let pre = c .before .before .before .before .before .pre in
+    let out-of-range = c .before .before .out-of-range in
+    let if1 = c .before .if1 in
+    let list = args .list .now in
+    let v = args .v .0 in
+    front (args .bytes .now) list v (args .list .ptr) (outside-ungiven pre v list (outside pre (args .v .0) (sym (out-of-range .ensures) ∙ if1 .taken)))
 
 mul-if2 : tie.Need-mul-if2
 mul-if2 c = search needs
@@ -28,49 +32,101 @@ slice-aggregate-result-2 c = search needs
 
 returns-2 : tie.Need-returns-2
 returns-2 c =
-    let list = c .before .before .before .before .before .before .args .list .now in
-    let v = c .before .before .before .before .before .before .args .v .0 in
-    front (c .before .before .before .before .before .before .args .bytes .now) list v (c .before .before .before .before .before .before .args .list .ptr) (misfit-ungiven (c .before .before .before .before .before .before .pre) v list (sym (c .before .before .before .out-of-range .ensures) ∙ c .before .before .if1 .left) (c .before .if2 .taken))
+    let args = c .before .before .before .before .before .before .args in
+    let pre = c .before .before .before .before .before .before .pre in
+    let out-of-range = c .before .before .before .out-of-range in
+    let if1 = c .before .before .if1 in
+    let if2 = c .before .if2 in
+    let list = args .list .now in
+    let v = args .v .0 in
+    front (args .bytes .now) list v (args .list .ptr) (misfit-ungiven pre v list (sym (out-of-range .ensures) ∙ if1 .left) (if2 .taken))
 
 sub-start-of : tie.Need-sub-start-of
-sub-start-of c = let z = range-inside (c .before .before .before .before .before .args .n) (c .before .before .before .before .before .args .v .0) (sym (c .before .before .out-of-range .ensures) ∙ c .before .if1 .left) .0 in omega arith
+sub-start-of c =
+    let args = c .before .before .before .before .before .args in
+    let out-of-range = c .before .before .out-of-range in
+    let if1 = c .before .if1 in
+    let z = range-inside (args .n) (args .v .0) (sym (out-of-range .ensures) ∙ if1 .left) .0 in
+    omega arith
 
 start-of-requires : tie.Need-start-of-requires
-start-of-requires c κs = let z = range-inside (c .before .before .before .before .before .args .n) (c .before .before .before .before .before .args .v .0) (sym (c .before .before .out-of-range .ensures) ∙ c .before .if1 .left) .1 in (c .before .before .before .before .before .pre, omega arith)
+start-of-requires c κs =
+    let args = c .before .before .before .before .before .args in
+    let out-of-range = c .before .before .out-of-range in
+    let if1 = c .before .if1 in
+    let pre = c .before .before .before .before .before .pre in
+    let z = range-inside (args .n) (args .v .0) (sym (out-of-range .ensures) ∙ if1 .left) .1 in
+    (pre, omega arith)
 
 start-of-requires-2 : tie.Need-start-of-requires-2
-start-of-requires-2 c κs = (c .before .before .before .before .before .before .pre, range-inside (c .before .before .before .before .before .before .args .n) (c .before .before .before .before .before .before .args .v .0) (sym (c .before .before .before .out-of-range .ensures) ∙ c .before .before .if1 .left) .1)
+start-of-requires-2 c κs =
+    let pre = c .before .before .before .before .before .before .pre in
+    let args = c .before .before .before .before .before .before .args in
+    let out-of-range = c .before .before .before .out-of-range in
+    let if1 = c .before .before .if1 in
+    (pre, range-inside (args .n) (args .v .0) (sym (out-of-range .ensures) ∙ if1 .left) .1)
 
 mul-result : tie.Need-mul-result
 mul-result c =
-    let e = block-ends (c .before .before .before .before .before .before .before .pre) (c .before .before .before .before .before .before .before .args .v .0) (sym (c .before .before .before .before .out-of-range .ensures) ∙ c .before .before .before .if1 .left) (c .before .start-of .ensures) (c .start-of2 .ensures) in
-    let r = block-rises (c .before .before .before .before .before .before .before .pre) (c .before .before .before .before .before .before .before .args .v .0) (sym (c .before .before .before .before .out-of-range .ensures) ∙ c .before .before .before .if1 .left) (c .before .start-of .ensures) (c .start-of2 .ensures) in
+    let pre = c .before .before .before .before .before .before .before .pre in
+    let args = c .before .before .before .before .before .before .before .args in
+    let out-of-range = c .before .before .before .before .out-of-range in
+    let if1 = c .before .before .before .if1 in
+    let start-of = c .before .start-of in
+    let start-of2 = c .start-of2 in
+    let e = block-ends pre (args .v .0) (sym (out-of-range .ensures) ∙ if1 .left) (start-of .ensures) (start-of2 .ensures) in
+    let r = block-rises pre (args .v .0) (sym (out-of-range .ensures) ∙ if1 .left) (start-of .ensures) (start-of2 .ensures) in
     omega arith
 
 sub-result : tie.Need-sub-result
 sub-result c =
-    let r = block-rises (c .before .before .before .before .before .before .before .pre) (c .before .before .before .before .before .before .before .args .v .0) (sym (c .before .before .before .before .out-of-range .ensures) ∙ c .before .before .before .if1 .left) (c .before .start-of .ensures) (c .start-of2 .ensures) in
+    let pre = c .before .before .before .before .before .before .before .pre in
+    let args = c .before .before .before .before .before .before .before .args in
+    let out-of-range = c .before .before .before .before .out-of-range in
+    let if1 = c .before .before .before .if1 in
+    let start-of = c .before .start-of in
+    let start-of2 = c .start-of2 in
+    let r = block-rises pre (args .v .0) (sym (out-of-range .ensures) ∙ if1 .left) (start-of .ensures) (start-of2 .ensures) in
     omega arith
 
 part-result-start : tie.Need-part-result-start
 part-result-start c =
-    let e = block-ends (c .before .before .before .before .before .before .before .pre) (c .before .before .before .before .before .before .before .args .v .0) (sym (c .before .before .before .before .out-of-range .ensures) ∙ c .before .before .before .if1 .left) (c .before .start-of .ensures) (c .start-of2 .ensures) in
-    let r = block-rises (c .before .before .before .before .before .before .before .pre) (c .before .before .before .before .before .before .before .args .v .0) (sym (c .before .before .before .before .out-of-range .ensures) ∙ c .before .before .before .if1 .left) (c .before .start-of .ensures) (c .start-of2 .ensures) in
+    let pre = c .before .before .before .before .before .before .before .pre in
+    let args = c .before .before .before .before .before .before .before .args in
+    let out-of-range = c .before .before .before .before .out-of-range in
+    let if1 = c .before .before .before .if1 in
+    let start-of = c .before .start-of in
+    let start-of2 = c .start-of2 in
+    let e = block-ends pre (args .v .0) (sym (out-of-range .ensures) ∙ if1 .left) (start-of .ensures) (start-of2 .ensures) in
+    let r = block-rises pre (args .v .0) (sym (out-of-range .ensures) ∙ if1 .left) (start-of .ensures) (start-of2 .ensures) in
     omega arith
 
 part-result-end : tie.Need-part-result-end
 part-result-end c =
-    let e = block-ends (c .before .before .before .before .before .before .before .pre) (c .before .before .before .before .before .before .before .args .v .0) (sym (c .before .before .before .before .out-of-range .ensures) ∙ c .before .before .before .if1 .left) (c .before .start-of .ensures) (c .start-of2 .ensures) in
-    let r = block-rises (c .before .before .before .before .before .before .before .pre) (c .before .before .before .before .before .before .before .args .v .0) (sym (c .before .before .before .before .out-of-range .ensures) ∙ c .before .before .before .if1 .left) (c .before .start-of .ensures) (c .start-of2 .ensures) in
+    let pre = c .before .before .before .before .before .before .before .pre in
+    let args = c .before .before .before .before .before .before .before .args in
+    let out-of-range = c .before .before .before .before .out-of-range in
+    let if1 = c .before .before .before .if1 in
+    let start-of = c .before .start-of in
+    let start-of2 = c .start-of2 in
+    let e = block-ends pre (args .v .0) (sym (out-of-range .ensures) ∙ if1 .left) (start-of .ensures) (start-of2 .ensures) in
+    let r = block-rises pre (args .v .0) (sym (out-of-range .ensures) ∙ if1 .left) (start-of .ensures) (start-of2 .ensures) in
     omega arith
 
 returns-3 : tie.Need-returns-3
 returns-3 c =
-    let list = c .before .before .before .before .before .before .before .before .args .list .now in
-    let i = sym (c .before .before .before .before .before .out-of-range .ensures) ∙ c .before .before .before .before .if1 .left in
-    let a = c .before .before .start-of .ensures in
-    let b = c .before .start-of2 .ensures in
-    (part-is (c .before .before .before .before .before .before .before .before .pre) (c .before .before .before .before .before .before .before .before .args .v .0) i a b list (c .before .before .before .if2 .left), ap (further (c .before .before .before .before .before .before .before .before .args .list .ptr)) (part-begins (c .before .before .before .before .before .before .before .before .pre) (c .before .before .before .before .before .before .before .before .args .v .0) i a b list (c .before .before .before .if2 .left)))
+    let args = c .before .before .before .before .before .before .before .before .args in
+    let out-of-range = c .before .before .before .before .before .out-of-range in
+    let if1 = c .before .before .before .before .if1 in
+    let start-of = c .before .before .start-of in
+    let start-of2 = c .before .start-of2 in
+    let pre = c .before .before .before .before .before .before .before .before .pre in
+    let if2 = c .before .before .before .if2 in
+    let list = args .list .now in
+    let i = sym (out-of-range .ensures) ∙ if1 .left in
+    let a = start-of .ensures in
+    let b = start-of2 .ensures in
+    (part-is pre (args .v .0) i a b list (if2 .left), ap (further (args .list .ptr)) (part-begins pre (args .v .0) i a b list (if2 .left)))
 
 pub neighbours-in-spec : {M : Type 1} → statement M
 neighbours-in-spec =
