@@ -1,6 +1,6 @@
--- Demands 2 and 3 as theorems: open this file first. The index is any that Build writes for the record (`Written`), and the marks are the bits
--- of that index; the answers are those of the operations, as `Operations` defines them and as the contracts of the code say. Vertex v - 1 of
--- the graph is terminal v, and position j of a block is its place j + 1.
+-- Demands 2 and 3 as theorems: open this file first. The index is any that Build writes for the record (`Written`), and
+-- the marks are the bits of that index; the answers are those of the operations, as `Operations` defines them and as
+-- the contracts of the code say. Vertex v - 1 of the graph is terminal v; positions of a block count from 0.
 use mathlib.Core.Path.{_≡_, ap, _∙_}
 use mathlib.Core.Logic.{_⊎_, _↔_}
 use mathlib.Core.Bool.{Bool, true, false}
@@ -90,7 +90,8 @@ module _ {bytes index : List ℕ} (w : Written bytes index) where
   pub own-unmarked : (k p : ℕ) → k < 3 → getD (unary bytes) p false ≡ true → sectionBit bytes index k p ≡ false
   own-unmarked k p l e = ap (λ (x : List ℕ). sectionBit bytes x k p) (w .is) ∙ built-own (w .accepted) k p l e
 
-  pub fill-unmarked : (k p : ℕ) → k < 3 → terminals bytes + 2 * wires bytes ≤ p → p < 8 * markBytes (terminals bytes) (wires bytes)
+  pub fill-unmarked : (k p : ℕ) → k < 3 → terminals bytes + 2 * wires bytes ≤ p
+      → p < 8 * markBytes (terminals bytes) (wires bytes)
       → sectionBit bytes index k p ≡ false
   fill-unmarked k p l a b = ap (λ (x : List ℕ). sectionBit bytes x k p) (w .is) ∙ built-fill (w .accepted) k p l a b
 
@@ -135,11 +136,13 @@ module _ {bytes index : List ℕ} (w : Written bytes index) where
     visit-of-visited = Answered.visit-back w t
 
     -- Ancestor: yes or no, by the forest's relation
-    pub ancestor-answered : {x : ℕ} → Terminal bytes x → ancestor bytes index v x ≡ answered (ancestorIn F (v - 1) (x - 1))
+    pub ancestor-answered : {x : ℕ} → Terminal bytes x
+        → ancestor bytes index v x ≡ answered (ancestorIn F (v - 1) (x - 1))
     ancestor-answered = Answered.ancestor-answer w t
 
     pub ancestor-relation : (u : ℕ) → (ancestorIn F (u - 1) (v - 1) ≡ true) ↔ Ancestor F (u - 1) (v - 1)
-    ancestor-relation u = ancestor-told (Answered.formed w .in-range) (Answered.covered w) (u - 1) (v - 1) (Answered.vertex-of w t)
+    ancestor-relation u =
+        ancestor-told (Answered.formed w .in-range) (Answered.covered w) (u - 1) (v - 1) (Answered.vertex-of w t)
 
   -- ---- Demand 3
 

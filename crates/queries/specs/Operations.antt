@@ -1,16 +1,16 @@
 -- What the queries answer for every record, index and number: order Q, their own rules, and then what the view gives.
-use mathlib.Core.Bool.{Bool, _||_}
+use mathlib.Core.Bool.{Bool}
 use mathlib.Core.List.{List, [], _∷_, _++_}
 use mathlib.Core.Option.{Option}
 use Prim.Native.Nat.{ℕ, _-_}
-use lib.Dec.{eqb, ltb}
 use Rattle.record.specs.Record.{terminals, wires}
 use Rattle.record.specs.Rules.{Rule, orderR}
 use Rattle.record.specs.Answers.{Answer, answered, triedThen}
 use Rattle.record.specs.Operations.{otherLength, outOfRange}
 use Rattle.forest.specs.Index.{indexLength}
 use Rattle.queries.specs.View.{viewOf}
-use Rattle.queries.specs.Queries.{parentOf, headOf, ancestorOf, childCount, childOf, visitOf, visitedOf}
+use Rattle.queries.specs.Queries.{parentOf, headOf, ancestorOf, childCount, childOf, pastCount}
+use Rattle.queries.specs.Queries.{visitOf, visitedOf}
 
 -- order Q: order R, then 10, then 11 for a number that counts from 1, a terminal's or a visit's
 unfoldable pub orderQ : List ℕ → List ℕ → ℕ → List Rule
@@ -36,9 +36,9 @@ ancestor bytes index u v = triedThen (ancestorRules bytes index u v) (ancestorOf
 unfoldable pub children : List ℕ → List ℕ → ℕ → Answer ℕ
 children bytes index v = triedThen (orderQ bytes index v) (answered (childCount (viewOf bytes index) (v - 1)))
 
--- 13: j is 0 or above the count
+-- 13
 unfoldable pub noChild : List ℕ → List ℕ → ℕ → ℕ → Bool
-noChild bytes index v j = eqb j 0 || ltb (childCount (viewOf bytes index) (v - 1)) j
+noChild bytes index v j = pastCount (viewOf bytes index) (v - 1) j
 
 unfoldable pub childRules : List ℕ → List ℕ → ℕ → ℕ → List Rule
 childRules bytes index v j = orderQ bytes index v ++ ((13, noChild bytes index v j) ∷ [])

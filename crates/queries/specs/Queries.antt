@@ -1,6 +1,6 @@
 -- What the queries answer on a view (document 01, "Operations and their answers"), once nothing of order Q is broken. Vertices count from 0
 -- here, and answers are document 01's numbers.
-use mathlib.Core.Bool.{Bool, true, false}
+use mathlib.Core.Bool.{Bool, true, false, _||_}
 use mathlib.Core.List.{List, map}
 use mathlib.Core.Logic.{_⊎_, inl, inr}
 use mathlib.Core.Option.{Option, none, some}
@@ -90,6 +90,10 @@ vertexOr w v = elim (ltb v (length (w .graph))) [ true ↦ answered (suc v) | fa
 -- the neighbour at the j-th one of E in the block
 unfoldable pub childOf : View → ℕ → ℕ → Answer ℕ
 childOf w u j = vertexOr w (target (w .graph) u (select (w .marksE u) j - 1))
+
+-- 13: j is 0 or above the count
+abbrev pub pastCount : View → ℕ → ℕ → Bool
+pastCount w u j = eqb j 0 || ltb (childCount w u) j
 
 -- ---- Visit and Visited
 

@@ -30,7 +30,8 @@ pub record Once (test : ℕ → Bool) (k : ℕ) : Type 0 where
   pub passes : test at ≡ true
   pub only : (i : ℕ) → i < k → test i ≡ true → i ≡ at
 
--- Head's answers for u and v: the heads, and equal exactly when wires join the two and, whichever one wire is taken out, the others still do
+-- Head's answers for u and v: the heads, and equal exactly when wires join the two and, whichever one wire is taken
+-- out, the others still do
 pub record HeadsTell (bytes : List ℕ) (u v : ℕ) (x y : Answer ℕ) : Type 0 where
   pub first-head : x ≡ answered (suc (headIn (blocks bytes) (forest (blocks bytes)) (u - 1)))
   pub second-head : y ≡ answered (suc (headIn (blocks bytes) (forest (blocks bytes)) (v - 1)))

@@ -49,7 +49,9 @@ fn ancestor_by(
 // Whether terminal u is v or above it.
 pub fn ancestor_in(bytes: &[u8], index: &[u8], n: usize, m: usize, u: Vertex, v: Vertex) -> Related
     requires { ⌜ (Beside (now bytes) (now index) n m) × (Ranged n (u .0)) × (Ranged n (v .0)) ⌝ }
-    ensures { λ r. ⌜ related r ≡ ancestorOf (viewBy n m (now (bytes .entry)) (now (index .entry))) (u .0 - 1) (v .0 - 1) ⌝ }
+    ensures { λ r. ⌜
+        related r ≡ ancestorOf (viewBy n m (now (bytes .entry)) (now (index .entry))) (u .0 - 1) (v .0 - 1)
+        ⌝ }
 {
     let mut starts = [0u16; 4097];
     ancestor_by(bytes, index, n, m, u.0 - 1, v.0 - 1, &mut starts[..n + 1])

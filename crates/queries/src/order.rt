@@ -9,7 +9,9 @@ use record::range::out_of_range;
 
 // Order Q, with n and m handed on. The number k, from 1, is that of a terminal or of a visit: its range is the same.
 pub fn order_q(bytes: &[u8], index: &[u8], k: usize) -> Shape
-    ensures { λ r. ⌜ shape r ≡ tried (orderQ (now (bytes .entry)) (now (index .entry)) k) (sizesOf (now (bytes .entry))) ⌝ }
+    ensures { λ r. ⌜
+        shape r ≡ tried (orderQ (now (bytes .entry)) (now (index .entry)) k) (sizesOf (now (bytes .entry)))
+        ⌝ }
 {
     match record::header::order_r(bytes) {
         Shape::Refused(r) => Shape::Refused(r),

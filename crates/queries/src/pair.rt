@@ -16,9 +16,10 @@ pub struct Heads {
     pub second: Found,
 }
 
-// Builds the index of a record and asks for the heads of terminals u and v, with the buffer as Build left it. Where Build refuses nothing
-// and both are terminals of the record, Head refuses neither, its answers are the heads, and they are equal exactly when wires of the
-// record join u and v and, whichever one wire is taken out, the others still join them.
+// Builds the index of a record and asks for the heads of terminals u and v, with the buffer as Build left it. Where
+// Build refuses nothing and both are terminals of the record, Head refuses neither, its answers are the heads, and they
+// are equal exactly when wires of the record join u and v and, whichever one wire is taken out, the others still join
+// them.
 pub fn heads_of_two(bytes: &[u8], work: &mut [u16], index: &mut [u8], u: Vertex, v: Vertex) -> Heads
     ensures { λ r. ⌜
         (verdict (r .built) ≡ build (now (bytes .entry)) (now (work .entry)) (now (index .entry)))

@@ -1,12 +1,10 @@
 // Questions about the block of one terminal.
 ghost use mathlib.Core.Path.{_≡_};
-ghost use mathlib.Core.Bool.{_||_};
 ghost use mathlib.Core.List.{[], _∷_};
 ghost use Prim.Native.Nat.{_-_};
-ghost use lib.Dec.{eqb, ltb};
 ghost use Rattle.record.specs.Answers.{triedThen};
 ghost use Rattle.queries.specs.View.{viewBy};
-ghost use Rattle.queries.specs.Queries.{parentOf, childCount, childOf};
+ghost use Rattle.queries.specs.Queries.{parentOf, childCount, childOf, pastCount};
 ghost use Rattle.queries.specs.Answers.{above, terminal};
 ghost use Rattle.queries.specs.Steps.{Beside, Ranged};
 use super::Above;
@@ -48,7 +46,12 @@ pub fn children_in(bytes: &[u8], index: &[u8], n: usize, m: usize, v: Vertex) ->
 // Its j-th child: 13, and then 12.
 pub fn child_in(bytes: &[u8], index: &[u8], n: usize, m: usize, v: Vertex, j: usize) -> Found
     requires { ⌜ (Beside (now bytes) (now index) n m) × (Ranged n (v .0)) ⌝ }
-    ensures { λ r. ⌜ terminal r ≡ triedThen ((13, eqb j 0 || ltb (childCount (viewBy n m (now (bytes .entry)) (now (index .entry))) (v .0 - 1)) j) ∷ []) (childOf (viewBy n m (now (bytes .entry)) (now (index .entry))) (v .0 - 1) j) ⌝ }
+    ensures { λ r. ⌜
+        terminal r
+        ≡ triedThen
+        ((13, pastCount (viewBy n m (now (bytes .entry)) (now (index .entry))) (v .0 - 1) j) ∷ [])
+        (childOf (viewBy n m (now (bytes .entry)) (now (index .entry))) (v .0 - 1) j)
+        ⌝ }
 {
     if j == 0 {
         return Found::Refused(Refusal::NoChild);

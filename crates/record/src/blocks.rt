@@ -30,7 +30,10 @@ pub fn neighbours_in<'a, 'b>(
     v: Vertex,
 ) -> &'b [u16]
     requires { ⌜ Sound (now bytes) n m ⌝ }
-    ensures { λ r. ⌜ (now r ≡ neighboursOf (now (bytes .entry)) (now (list .entry)) (v .0)) × (r .ptr ≡ further (list .entry .ptr) (neighboursBefore (now (bytes .entry)) (now (list .entry)) (v .0))) ⌝ }
+    ensures { λ r. ⌜
+        (now r ≡ neighboursOf (now (bytes .entry)) (now (list .entry)) (v .0))
+        × (r .ptr ≡ further (list .entry .ptr) (neighboursBefore (now (bytes .entry)) (now (list .entry)) (v .0)))
+        ⌝ }
 {
     let t = v.0;
     if out_of_range(n, t) {

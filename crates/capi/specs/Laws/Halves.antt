@@ -69,7 +69,8 @@ pub halves-number : {a : Answer ℕ} → Small a → (code itself a / 65536 ≡ 
 unfolding itself
 halves-number s = halves itself (λ k h. h) s
 
-pub halves-parent : {a : Answer (Option ℕ)} → SmallParent a → (code orZero a / 65536 ≡ refusal a) × (code orZero a % 65536 ≡ said orZero a)
+pub halves-parent : {a : Answer (Option ℕ)} → SmallParent a
+    → (code orZero a / 65536 ≡ refusal a) × (code orZero a % 65536 ≡ said orZero a)
 halves-parent s = halves orZero (λ p h. h) s
 
 pub halves-figure : {a : Answer ℤ} → Short a → (code complement a / 65536 ≡ refusal a) × (code complement a % 65536 ≡ said complement a)

@@ -39,10 +39,12 @@ module _ {bytes index : List ℕ} {u n m : ℕ} (q : Asked bytes index u n m) (v
   last-is : firstBroken last ≡ firstBroken ((11, outOfRange n v) ∷ [])
   last-is = ap (λ (x : ℕ). firstBroken ((11, outOfRange x v) ∷ [])) (sym (q .beside .sound .is-n))
 
-  pub second-outside : {A : Type 0} (a : Answer A) → outOfRange n v ≡ true → refused 11 ≡ triedThen (orderQ bytes index u ++ last) a
+  pub second-outside : {A : Type 0} (a : Answer A) → outOfRange n v ≡ true
+      → refused 11 ≡ triedThen (orderQ bytes index u ++ last) a
   second-outside a e = passed-further q last a (then-told last a (last-is ∙ first-broken 11 [] e))
 
-  pub second-passed : {A : Type 0} (f : View → Answer A) {a : Answer A} → outOfRange n v ≡ false → a ≡ f (viewBy n m bytes index)
+  pub second-passed : {A : Type 0} (f : View → Answer A) {a : Answer A} → outOfRange n v ≡ false
+      → a ≡ f (viewBy n m bytes index)
       → a ≡ triedThen (orderQ bytes index u ++ last) (f (viewOf bytes index))
   unfolding firstBroken
   second-passed f i e =

@@ -19,9 +19,11 @@ use Rattle.queries.specs.Operations.{orderQ}
 module _ (bytes index : List ℕ) (k : ℕ) where
   -- 10 and 11
   abbrev more : List Rule
-  more = (10, otherLength index (indexLength (terminals bytes) (wires bytes))) ∷ (11, outOfRange (terminals bytes) k) ∷ []
+  more =
+      (10, otherLength index (indexLength (terminals bytes) (wires bytes))) ∷ (11, outOfRange (terminals bytes) k) ∷ []
 
-  pub order-refused : {r : ℕ} → refused r ≡ tried (orderR bytes) (sizesOf bytes) → refused r ≡ tried (orderQ bytes index k) (sizesOf bytes)
+  pub order-refused : {r : ℕ} → refused r ≡ tried (orderR bytes) (sizesOf bytes)
+      → refused r ≡ tried (orderQ bytes index k) (sizesOf bytes)
   unfolding orderQ
   order-refused e = told-append (orderR bytes) more (sizesOf bytes) (sizesOf bytes) e
 
@@ -43,13 +45,15 @@ module _ (bytes index : List ℕ) (k : ℕ) where
       unfolding otherLength
       index-fits =
           more-told
-          ∙ first-kept 10 _ (ap not (eq-eqb (length index) (indexLength (terminals bytes) (wires bytes)) (l ∙ same-length)))
+          ∙ first-kept 10 _
+          (ap not (eq-eqb (length index) (indexLength (terminals bytes) (wires bytes)) (l ∙ same-length)))
           ∙ ap (λ (x : ℕ). firstBroken ((11, outOfRange x k) ∷ [])) (sym (s .is-n))
 
       pub number-outside : outOfRange n k ≡ true → refused 11 ≡ tried (orderQ bytes index k) (sizesOf bytes)
       number-outside e = told (sizesOf bytes) (index-fits ∙ first-broken 11 [] e)
 
-      pub order-passed : outOfRange n k ≡ false → answered (record { n = n; m = m }) ≡ tried (orderQ bytes index k) (sizesOf bytes)
+      pub order-passed : outOfRange n k ≡ false
+          → answered (record { n = n; m = m }) ≡ tried (orderQ bytes index k) (sizesOf bytes)
       unfolding firstBroken
       order-passed i =
           let f : firstBroken (orderQ bytes index k) ≡ 0 = index-fits ∙ first-kept 11 [] i in

@@ -1,13 +1,13 @@
 -- Answers about one vertex: its parent, its children, its number.
 use mathlib.Core.Path.{_≡_, refl, sym, ap, ap₂, _∙_}
-use mathlib.Core.Bool.{Bool, true, false, _||_}
+use mathlib.Core.Bool.{Bool, true, false}
 use mathlib.Core.List.{List, [], _∷_, map}
 use Prim.Native.Nat.{ℕ, _+_, _-_, _*_, _≤_, _<_}
 use native.Mathlib.Numerals.{add-one}
 use native.Mathlib.Decide.{decLt}
 use native.Mathlib.Omega.{arith}
 use borrow.Author.Tests.{eq-eqb, ne-eqb, lt-ltb, le-ltb}
-use lib.Dec.{eqb, ltb}
+use lib.Dec.{eqb}
 use lib.ListN.{length, take, drop, getD}
 use Rattle.bits.specs.Bits.{bit, count, select}
 use Rattle.bits.specs.Laws.Select.{select-none, select-bounds, select-le}
@@ -23,7 +23,7 @@ use Rattle.record.specs.Laws.Sounded.{sound-vertices}
 use Rattle.record.specs.Laws.Told.{then-told, then-untold}
 use Rattle.forest.specs.Laws.Sections.{length-each, each-at}
 use Rattle.queries.specs.View.{View, viewBy, blockMarks, sectionOf}
-use Rattle.queries.specs.Queries.{childCount, vertexOr, childOf, visitOf, found, visitedOf}
+use Rattle.queries.specs.Queries.{childCount, vertexOr, childOf, pastCount, visitOf, found, visitedOf}
 use Rattle.queries.proofs.Laws.Ones.{positive, part-length, count-next, found-here, found-none}
 use Rattle.queries.specs.Steps.{Beside}
 use Rattle.queries.specs.Laws.Framed.{length-E}
@@ -41,7 +41,7 @@ module _ (w : View) where
   -- 13, and then the child
   module _ (u j : ℕ) where
     abbrev rule : Bool
-    rule = eqb j 0 || ltb (childCount w u) j
+    rule = pastCount w u j
 
     pub no-first : j ≡ 0 → refused 13 ≡ triedThen ((13, rule) ∷ []) (childOf w u j)
     no-first e = then-told ((13, rule) ∷ []) (childOf w u j) (first-broken 13 [] (rw (eq-eqb j 0 e)))
@@ -157,7 +157,7 @@ module _ {bytes index : List ℕ} {n m u a b j p : ℕ} (o : Beside bytes index 
       let y = select-le (take (b - a) (drop (a + u + 1) (sectionOf n m index 0))) j in
       omega arith
 
-  pub few-told : p ≡ 0 → refused 13 ≡ triedThen ((13, eqb j 0 || ltb (childCount view u) j) ∷ []) (childOf view u j)
+  pub few-told : p ≡ 0 → refused 13 ≡ triedThen ((13, pastCount view u j) ∷ []) (childOf view u j)
   few-told z = too-few view u j nz place z
 
   module _ (some : p ≡ 0 → ⊥) where
@@ -168,8 +168,8 @@ module _ {bytes index : List ℕ} {n m u a b j p : ℕ} (o : Beside bytes index 
       leads : target (blocks bytes) u (p - 1) ≡ t
       leads = block-neighbour (o .sound) h ea eb (p - 1) (let f = fits in let q = positive some in omega arith) ∙ sym et
 
-      pub there-told : t < n → answered (t + 1) ≡ triedThen ((13, eqb j 0 || ltb (childCount view u) j) ∷ []) (childOf view u j)
+      pub there-told : t < n → answered (t + 1) ≡ triedThen ((13, pastCount view u j) ∷ []) (childOf view u j)
       there-told l = child-there view u j nz place some leads (let k = sound-vertices (o .sound) in omega arith)
 
-      pub stray-told : n ≤ t → refused 12 ≡ triedThen ((13, eqb j 0 || ltb (childCount view u) j) ∷ []) (childOf view u j)
+      pub stray-told : n ≤ t → refused 12 ≡ triedThen ((13, pastCount view u j) ∷ []) (childOf view u j)
       stray-told l = child-stray view u j nz place some leads (let k = sound-vertices (o .sound) in omega arith)

@@ -20,7 +20,8 @@ use Rattle.record.specs.Answers.{answered}
 use Rattle.record.specs.Starts.{startsOf}
 use Rattle.record.specs.Laws.Stores.{cell-same, cell-other}
 use Rattle.queries.specs.View.{viewBy, sectionOf, numberOf, blockMarks}
-use Rattle.queries.specs.Queries.{Step, stuck, top, rise, stepUp, parentBy, unlessZero, parentOf, headBy, headNext}
+use Rattle.queries.specs.Queries.{Step, stuck, top, rise, stepUp, parentBy, unlessZero, parentOf, headBy}
+use Rattle.queries.specs.Queries.{headNext}
 use Rattle.queries.specs.Written.{Terminal}
 use Rattle.queries.specs.Demands.{visit-told, parent-told, children-told, head-told}
 use Rattle.queries.specs.Table.{Tabled, Ready, Cells, HeadsTo, ParentsTo}
@@ -79,7 +80,8 @@ module _ {bytes index : List ℕ} {n m : ℕ} (r : Ready bytes index n m) where
   shows : Shows (viewBy n m bytes index) (forest (blocks bytes))
   shows =
       subst (λ (x : ℕ). Shows (viewBy x m bytes index) (forest (blocks bytes))) (sym (r .is-n))
-      (subst (λ (y : ℕ). Shows (viewBy (terminals bytes) y bytes index) (forest (blocks bytes))) (sym (r .is-m)) (Answered.shown (r .written)))
+      (subst (λ (y : ℕ). Shows (viewBy (terminals bytes) y bytes index) (forest (blocks bytes))) (sym (r .is-m))
+      (Answered.shown (r .written)))
 
   -- ---- visit numbers and children
 
@@ -99,7 +101,8 @@ module _ {bytes index : List ℕ} {n m : ℕ} (r : Ready bytes index n m) where
 
     module _ {c : ℕ} (ec : c ≡ count (take (b - a) (drop (a + v + 1) (sectionOf n m index 0)))) where
       pub count-cell : c ≡ length (children (forest (blocks bytes)) v)
-      count-cell = children-counted index (ready-beside r .sound) h from to ec ∙ count-shown formed covered shows v (inside h)
+      count-cell =
+          children-counted index (ready-beside r .sound) h from to ec ∙ count-shown formed covered shows v (inside h)
 
       pub count-small : c < 65536
       count-small =
@@ -206,7 +209,10 @@ module _ {bytes index : List ℕ} {n m : ℕ} (r : Ready bytes index n m) where
         → Tabled bytes index visits parents counts heads
     tabled cv cp cc ch = record {
       visits-are = λ {v} t. visit-told (r .written) t ∙ ap answered (sym (cv .cells (v - 1) (vertex-of t)));
-      parents-are = λ {v} t. parent-told (r .written) t ∙ ap (λ (x : ℕ). answered (unlessZero x)) (sym (by-visit (parent (forest (blocks bytes))) (cp .hold) (vertex-of t)));
+      parents-are =
+          λ {v} t. parent-told (r .written) t
+          ∙ ap (λ (x : ℕ). answered (unlessZero x))
+          (sym (by-visit (parent (forest (blocks bytes))) (cp .hold) (vertex-of t)));
       counts-are = λ {v} t. children-told (r .written) t ∙ ap answered (sym (cc .cells (v - 1) (vertex-of t)));
       heads-are = λ {v} t. head-told (r .written) t ∙ ap answered (sym (by-visit (λ u. suc (head (blocks bytes) (forest (blocks bytes)) u)) (ch .hold) (vertex-of t)));
     }

@@ -1,11 +1,9 @@
 -- `child` meets its contract.
 use Rattle.queries.proofs.Laws.Asking.{same-view, passed-further}
 use Rattle.queries.specs.Operations.{orderQ, noChild, childRules, child}
-use Rattle.queries.specs.Queries.{childCount, childOf}
+use Rattle.queries.specs.Queries.{childOf, pastCount}
 use Rattle.record.specs.Laws.Told.{then-refused}
-use lib.Dec.{eqb, ltb}
 use mathlib.Core.List.{[], _∷_}
-use mathlib.Core.Bool.{_||_}
 use Rattle.queries.specs.Laws.Asked.{asked}
 use Rattle.queries.specs.View.{View, viewOf}
 use Rattle.record.specs.Answers.{shape, triedThen, sizesOf}
@@ -44,7 +42,8 @@ returns c =
     let index = args .index .now in
     let v = args .v .0 in
     let j = args .j in
-    then-refused (orderQ bytes index v) ((13, noChild bytes index v j) ∷ []) (sizesOf bytes) (childOf (viewOf bytes index) (v - 1) j)
+    then-refused (orderQ bytes index v) ((13, noChild bytes index v j) ∷ []) (sizesOf bytes)
+    (childOf (viewOf bytes index) (v - 1) j)
     (sym (ap shape (r .given .1)) ∙ order-q .ensures)
 
 returns-2 : tie.Need-returns-2
@@ -59,8 +58,10 @@ returns-2 c =
     let v = args .v .0 in
     let j = args .j in
     let q = asked bytes index v (sym (ap shape (s .given .1)) ∙ order-q .ensures) in
-    let same = same-view q (λ (w : View). triedThen ((13, eqb j 0 || ltb (childCount w (v - 1)) j) ∷ []) (childOf w (v - 1) j)) in
-    passed-further q ((13, noChild bytes index v j) ∷ []) (childOf (viewOf bytes index) (v - 1) j) (child-in .ensures ∙ same)
+    let same =
+    same-view q (λ (w : View). triedThen ((13, pastCount w (v - 1) j) ∷ []) (childOf w (v - 1) j)) in
+    passed-further q ((13, noChild bytes index v j) ∷ []) (childOf (viewOf bytes index) (v - 1) j)
+    (child-in .ensures ∙ same)
 
 pub child-spec : {M : Type 1} → statement M
 child-spec =

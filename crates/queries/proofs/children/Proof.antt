@@ -39,7 +39,8 @@ returns c =
     let bytes = args .bytes .now in
     let index = args .index .now in
     let v = args .v .0 in
-    refused-on bytes index v (answered (childCount (viewOf bytes index) (v - 1))) (sym (ap shape (r .given .1)) ∙ order-q .ensures)
+    refused-on bytes index v (answered (childCount (viewOf bytes index) (v - 1)))
+    (sym (ap shape (r .given .1)) ∙ order-q .ensures)
 
 returns-2 : tie.Need-returns-2
 unfolding children

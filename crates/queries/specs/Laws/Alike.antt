@@ -1,11 +1,10 @@
 -- Two indexes that agree where the queries look show the same view, so every query has the same answer on both.
 use mathlib.Core.Path.{_≡_, refl, sym, ap, ap₂, _∙_, fun-ext}
-use mathlib.Core.Bool.{Bool, false, _||_}
+use mathlib.Core.Bool.{Bool, false}
 use mathlib.Core.List.{List, [], _∷_, _++_}
 use Prim.Native.Nat.{ℕ, zero, suc, _+_, _-_, _*_, _<_}
 use native.Mathlib.Decide.{decLt}
 use native.Mathlib.Omega.{arith}
-use lib.Dec.{eqb, ltb}
 use lib.ListN.{length, take, drop, getD, length-take, length-drop, List·getD-eq-default}
 use lib.Seq.{ext-getD, getD-take, getD-drop}
 use Rattle.bits.specs.Bits.{bits, value, field, select}
@@ -18,7 +17,9 @@ use Rattle.record.specs.Operations.{otherLength, outOfRange}
 use Rattle.forest.specs.Index.{markBytes}
 use Rattle.queries.specs.View.{View, blockMarks, sectionOf, numberOf, viewOf, placeOf, Alike}
 use Rattle.queries.specs.Queries.{parentOf, headOf, ancestorOf, childCount, childOf, visitOf, visitedOf}
-use Rattle.queries.specs.Operations.{orderQ, parent, head, ancestorRules, ancestor, children, noChild, childRules, child, visit, visited}
+use Rattle.queries.specs.Queries.{pastCount}
+use Rattle.queries.specs.Operations.{orderQ, parent, head, ancestorRules, ancestor, children, noChild}
+use Rattle.queries.specs.Operations.{childRules, child, visit, visited}
 use Rattle.queries.specs.Written.{SameAnswers}
 use Rattle.queries.specs.Laws.Framed.{section-length, section-bit}
 
@@ -26,13 +27,15 @@ use Rattle.queries.specs.Laws.Framed.{section-length, section-bit}
 
 -- parts of two lists that agree there
 part-same : (w start : ℕ) (s t : List Bool) → length s ≡ length t
-    → ((i : ℕ) → i < w → getD s (start + i) false ≡ getD t (start + i) false) → take w (drop start s) ≡ take w (drop start t)
+    → ((i : ℕ) → i < w → getD s (start + i) false ≡ getD t (start + i) false)
+    → take w (drop start s) ≡ take w (drop start t)
 part-same w start s t e h = ext-getD false (take w (drop start s)) (take w (drop start t)) long each
   where
     long : length (take w (drop start s)) ≡ length (take w (drop start t))
     long = simp (length-take, length-drop) (rw e)
 
-    each : (i : ℕ) → i < length (take w (drop start s)) → getD (take w (drop start s)) i false ≡ getD (take w (drop start t)) i false
+    each : (i : ℕ) → i < length (take w (drop start s))
+        → getD (take w (drop start s)) i false ≡ getD (take w (drop start t)) i false
     each i l =
         let k = length-take w (drop start s) in
         let j : i < w = omega arith in
@@ -43,7 +46,8 @@ part-same w start s t e h = ext-getD false (take w (drop start s)) (take w (drop
 
 -- fields of two lists that agree there
 fields-same : (k start : ℕ) (s t : List Bool) → length s ≡ length t
-    → ((i : ℕ) → i < 12 * k → getD s (start + i) false ≡ getD t (start + i) false) → fieldsFrom s start k ≡ fieldsFrom t start k
+    → ((i : ℕ) → i < 12 * k → getD s (start + i) false ≡ getD t (start + i) false)
+    → fieldsFrom s start k ≡ fieldsFrom t start k
 unfolding fieldsFrom field
 fields-same zero start s t e h = refl
 fields-same (suc k) start s t e h =
@@ -70,7 +74,10 @@ module _ {bytes a b : List ℕ} (s : Alike bytes a b) where
 
   marks-same : (k : ℕ) → k < 3 → blockMarks bytes (sectionOf n m a k) ≡ blockMarks bytes (sectionOf n m b k)
   unfolding blockMarks
-  marks-same k h = fun-ext (λ u. part-same (length (block (blocks bytes) u)) (select (unary bytes) (suc u)) (sectionOf n m a k) (sectionOf n m b k) long (each u))
+  marks-same k h =
+      fun-ext (λ u.
+      part-same (length (block (blocks bytes) u)) (select (unary bytes) (suc u)) (sectionOf n m a k) (sectionOf n m b k)
+      long (each u))
     where
       long-a : length (sectionOf n m a k) ≡ n + 2 * m
       long-a = section-length a n m (s .first-length) k h
@@ -98,7 +105,8 @@ module _ {bytes a b : List ℕ} (s : Alike bytes a b) where
   numbers-same : numberOf n m a ≡ numberOf n m b
   unfolding numberOf
   numbers-same =
-      let l : length (bits a) ≡ length (bits b) = length-bits a ∙ ap (λ (x : ℕ). 8 * x) same-length ∙ sym (length-bits b) in
+      let l : length (bits a) ≡ length (bits b) =
+      length-bits a ∙ ap (λ (x : ℕ). 8 * x) same-length ∙ sym (length-bits b) in
       let f = fields-same n (8 * (3 * markBytes n m)) (bits a) (bits b) l (s .same-numbers) in
       fun-ext (λ u. ap (λ (t : List ℕ). getD t u 0) f)
 
@@ -124,10 +132,11 @@ module _ {bytes a b : List ℕ} (s : Alike bytes a b) where
   alike-answers = record {
     same-parent = λ v. asked-alike v (λ q w. triedThen q (parentOf w (v - 1)));
     same-head = λ v. asked-alike v (λ q w. triedThen q (headOf w (v - 1)));
-    same-ancestor = λ u v. asked-alike u (λ q w. triedThen (q ++ ((11, outOfRange n v) ∷ [])) (ancestorOf w (u - 1) (v - 1)));
+    same-ancestor =
+        λ u v. asked-alike u (λ q w. triedThen (q ++ ((11, outOfRange n v) ∷ [])) (ancestorOf w (u - 1) (v - 1)));
     same-children = λ v. asked-alike v (λ q w. triedThen q (answered (childCount w (v - 1))));
     same-child = λ v j. asked-alike v (λ q w.
-        triedThen (q ++ ((13, eqb j 0 || ltb (childCount w (v - 1)) j) ∷ [])) (childOf w (v - 1) j));
+        triedThen (q ++ ((13, pastCount w (v - 1) j) ∷ [])) (childOf w (v - 1) j));
     same-visit = λ v. asked-alike v (λ q w. triedThen q (visitOf w (v - 1)));
     same-visited = λ i. asked-alike i (λ q w. triedThen q (visitedOf w (i - 1)));
   }

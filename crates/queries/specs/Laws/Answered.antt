@@ -10,7 +10,8 @@ use lib.ListN.{length, getD}
 use Rattle.graph.specs.Graph.{Blocks, WellFormed}
 use Rattle.graph.specs.Search.{Forest, countUp, forest}
 use Rattle.graph.specs.Forest.{number, vertexAt, parent as parentIn, head as headIn, children as childrenIn}
-use Rattle.graph.specs.Theorems.{vertices-cover, number-in-range, vertex-in-range, vertex-of-number, number-of-vertex, same-heads}
+use Rattle.graph.specs.Theorems.{vertices-cover, number-in-range, vertex-in-range, vertex-of-number, number-of-vertex}
+use Rattle.graph.specs.Theorems.{same-heads}
 use Rattle.graph.specs.Laws.Tree.Ancestors.{ancestor as ancestorIn}
 use Rattle.graph.specs.Laws.Joined.Spanning.{Covers}
 use Rattle.record.specs.Record.{terminals, wires, blocks}
@@ -25,9 +26,11 @@ use Rattle.forest.specs.Index.{indexOf, indexLength}
 use Rattle.forest.specs.Operations.{buildRules, build, built}
 use Rattle.queries.specs.View.{viewOf}
 use Rattle.queries.specs.Queries.{childCount, childOf, unlessZero}
-use Rattle.queries.specs.Operations.{orderQ, parent, head, ancestorRules, ancestor, children, noChild, childRules, child, visit, visited}
+use Rattle.queries.specs.Operations.{orderQ, parent, head, ancestorRules, ancestor, children, noChild}
+use Rattle.queries.specs.Operations.{childRules, child, visit, visited}
 use Rattle.queries.specs.Written.{Written, Terminal, HeadsTell}
-use Rattle.queries.specs.Laws.Shown.{Shows, parent-shown, head-shown, ancestor-shown, count-shown, child-shown, visit-shown, visited-shown}
+use Rattle.queries.specs.Laws.Shown.{Shows, parent-shown, head-shown, ancestor-shown, count-shown, child-shown}
+use Rattle.queries.specs.Laws.Shown.{visit-shown, visited-shown}
 use Rattle.queries.specs.Laws.Asked.{order-numbered-q}
 use Rattle.queries.specs.Laws.Built.{accepted-sound, as-many, built-length, built-shows}
 
@@ -38,10 +41,12 @@ same-suc : {a b : ℕ} → suc a ≡ suc b → a ≡ b
 same-suc e = omega arith
 
 -- where Build refuses nothing, it has written the index
-pub written-by : (bytes work buffer : List ℕ) → build bytes work buffer ≡ answered tt → Written bytes (built bytes work buffer)
+pub written-by : (bytes work buffer : List ℕ) → build bytes work buffer ≡ answered tt
+    → Written bytes (built bytes work buffer)
 unfolding build built buildRules
 written-by bytes work buffer e =
-    let k : firstBroken (buildRules bytes work buffer) ≡ 0 = untold-back (firstBroken (buildRules bytes work buffer)) tt (sym e) .0 in
+    let k : firstBroken (buildRules bytes work buffer) ≡ 0 =
+    untold-back (firstBroken (buildRules bytes work buffer)) tt (sym e) .0 in
     record {
       accepted = record { unbroken = both-kept (check-numbered bytes) _ k .0 };
       is = sym (buffer-written (buildRules bytes work buffer) (indexOf (blocks bytes)) buffer k);
@@ -61,7 +66,8 @@ module _ {bytes index : List ℕ} (w : Written bytes index) where
   covered = vertices-cover (blocks bytes)
 
   pub shown : Shows (viewOf bytes index) (forest (blocks bytes))
-  shown = subst (λ (x : List ℕ). Shows (viewOf bytes x) (forest (blocks bytes))) (sym (w .is)) (built-shows (w .accepted))
+  shown =
+      subst (λ (x : List ℕ). Shows (viewOf bytes x) (forest (blocks bytes))) (sym (w .is)) (built-shows (w .accepted))
 
   pub vertex-of : {v : ℕ} → Terminal bytes v → v - 1 < length (blocks bytes)
   vertex-of t = let l = as-many (w .accepted) in let s = t .some in let u = t .upto in omega arith
@@ -72,10 +78,12 @@ module _ {bytes index : List ℕ} (w : Written bytes index) where
     kept : firstBroken (orderQ bytes index v) ≡ 0
     unfolding orderQ otherLength firstBroken
     kept =
-        let l : length index ≡ indexLength (terminals bytes) (wires bytes) = ap length (w .is) ∙ built-length (w .accepted) in
+        let l : length index ≡ indexLength (terminals bytes) (wires bytes) =
+        ap length (w .is) ∙ built-length (w .accepted) in
         let last : List Rule = (11, outOfRange (terminals bytes) v) ∷ [] in
         let o = accepted-sound (w .accepted) .kept in
-        append-kept (order-numbered bytes) ((10, otherLength index (indexLength (terminals bytes) (wires bytes))) ∷ last) o
+        append-kept (order-numbered bytes)
+        ((10, otherLength index (indexLength (terminals bytes) (wires bytes))) ∷ last) o
         ∙ first-kept 10 last (ap not (eq-eqb (length index) (indexLength (terminals bytes) (wires bytes)) l))
         ∙ first-kept 11 [] (inside-range (terminals bytes) v (t .some) (t .upto))
 
@@ -90,7 +98,8 @@ module _ {bytes index : List ℕ} (w : Written bytes index) where
       asked-then : firstBroken more ≡ 0 → {x y : Answer A} → x ≡ y → triedThen (orderQ bytes index v ++ more) x ≡ y
       asked-then k {x} e = further x ∙ sym (then-untold more x k) ∙ e
 
-      refused-then : {k : ℕ} (x : Answer A) → firstBroken more ≡ suc k → triedThen (orderQ bytes index v ++ more) x ≡ refused (suc k)
+      refused-then : {k : ℕ} (x : Answer A) → firstBroken more ≡ suc k
+          → triedThen (orderQ bytes index v ++ more) x ≡ refused (suc k)
       refused-then x k = further x ∙ sym (then-told more x k)
 
     -- ---- the queries
@@ -110,7 +119,8 @@ module _ {bytes index : List ℕ} (w : Written bytes index) where
     unfolding children
     children-answer = asked (ap answered count-is)
 
-    pub child-answer : {k : ℕ} → k < length (childrenIn F (v - 1)) → child bytes index v (suc k) ≡ answered (suc (getD (childrenIn F (v - 1)) k 0))
+    pub child-answer : {k : ℕ} → k < length (childrenIn F (v - 1))
+        → child bytes index v (suc k) ≡ answered (suc (getD (childrenIn F (v - 1)) k 0))
     unfolding child childRules noChild firstBroken
     child-answer {k} l =
         let few = le-ltb (childCount (viewOf bytes index) (v - 1)) (suc k) (omega (arith, count-is)) in
@@ -138,7 +148,8 @@ module _ {bytes index : List ℕ} (w : Written bytes index) where
     unfolding visited
     visited-answer = asked (visited-shown formed covered shown (v - 1) (vertex-of t))
 
-    pub ancestor-answer : {x : ℕ} → Terminal bytes x → ancestor bytes index v x ≡ answered (ancestorIn F (v - 1) (x - 1))
+    pub ancestor-answer : {x : ℕ} → Terminal bytes x
+        → ancestor bytes index v x ≡ answered (ancestorIn F (v - 1) (x - 1))
     unfolding ancestor ancestorRules firstBroken
     ancestor-answer {x} r =
         let rule : List Rule = (11, outOfRange (terminals bytes) x) ∷ [] in
@@ -147,7 +158,8 @@ module _ {bytes index : List ℕ} (w : Written bytes index) where
 
   -- ---- visit numbers and terminals are inverse
 
-  pub visited-back : {v i : ℕ} → Terminal bytes v → visit bytes index v ≡ answered i → visited bytes index i ≡ answered v
+  pub visited-back : {v i : ℕ} → Terminal bytes v → visit bytes index v ≡ answered i
+      → visited bytes index i ≡ answered v
   visited-back {v} {i} t e =
       let q : suc (number F (v - 1)) ≡ i = same-answer (sym (visit-answer t) ∙ e) in
       let l = as-many (w .accepted) in
@@ -173,7 +185,8 @@ module _ {bytes index : List ℕ} (w : Written bytes index) where
 
   -- ---- equal heads
 
-  pub heads-answer : {u v : ℕ} → Terminal bytes u → Terminal bytes v → HeadsTell bytes u v (head bytes index u) (head bytes index v)
+  pub heads-answer : {u v : ℕ} → Terminal bytes u → Terminal bytes v
+      → HeadsTell bytes u v (head bytes index u) (head bytes index v)
   heads-answer {u} {v} t r =
       let x = head-answer t in
       let y = head-answer r in

@@ -23,7 +23,8 @@ use Rattle.record.specs.Laws.Sounded.{sound-of, sound-vertices, sound-all, soun
 use Rattle.record.specs.Laws.Spans.{span-rises, span-ends, span-size, span-one}
 use Rattle.forest.specs.Index.{section, sectionE, sectionP, sectionB, indexOf, markBytes, indexLength}
 use Rattle.forest.specs.Laws.Sections.{blockStart, placeBit, own-bit, mark-bit}
-use Rattle.forest.specs.Laws.Bytes.{length-index, string-E, string-P, string-B, number-stored, fill-E, fill-P, fill-B, fill-numbers}
+use Rattle.forest.specs.Laws.Bytes.{length-index, string-E, string-P, string-B, number-stored, fill-E, fill-P, fill-B}
+use Rattle.forest.specs.Laws.Bytes.{fill-numbers}
 use Rattle.forest.specs.Laws.Starts.{start-block}
 use Rattle.queries.specs.View.{blockMarks, sectionOf, numberOf, viewOf, sectionBit, numberBit, placeOf}
 use Rattle.queries.specs.Laws.Framed.{section-bit}
@@ -96,7 +97,8 @@ module _ {bytes : List ℕ} (a : Accepted bytes) where
       let f = accepted-sound .n-fits in
       let r = number-in-range (accepted-well-formed a .in-range) (vertices-cover (blocks bytes)) u h in
       ap (λ (x : ℕ). numberOf x (wires bytes) (indexOf (blocks bytes)) u) (sym as-many)
-      ∙ fieldsFrom-at (bits (indexOf (blocks bytes))) (8 * (3 * markBytes (length (blocks bytes)) (wires bytes))) (length (blocks bytes)) u h
+      ∙ fieldsFrom-at (bits (indexOf (blocks bytes))) (8 * (3 * markBytes (length (blocks bytes)) (wires bytes)))
+      (length (blocks bytes)) u h
       ∙ number-stored (blocks bytes) (forest (blocks bytes)) (wires bytes) as-many-places u h (omega arith)
 
   shown-by : (k : ℕ) → k < 3 → (u : ℕ) → u < length g
@@ -129,7 +131,8 @@ module _ {bytes : List ℕ} (a : Accepted bytes) where
       omega arith
 
   -- at a place stands its mark
-  marked-bit : (k : ℕ) → k < 3 → {u j v : ℕ} → Place g u j v → sectionBit bytes (indexOf g) k (placeOf bytes u j) ≡ marking k u j
+  marked-bit : (k : ℕ) → k < 3 → {u j v : ℕ} → Place g u j v
+      → sectionBit bytes (indexOf g) k (placeOf bytes u j) ≡ marking k u j
   marked-bit k l {u} {j} p =
       let h = source p in
       let q = start-block accepted-sound u (let z = as-many in omega arith) in
@@ -144,7 +147,8 @@ module _ {bytes : List ℕ} (a : Accepted bytes) where
   built-E = marked-bit 0 (omega arith)
 
   pub built-P : {u j v : ℕ} → Place (blocks bytes) u j v
-      → sectionBit bytes (indexOf (blocks bytes)) 1 (placeOf bytes u j) ≡ parentMark (blocks bytes) (blocks bytes) (forest (blocks bytes)) u j
+      → sectionBit bytes (indexOf (blocks bytes)) 1 (placeOf bytes u j)
+      ≡ parentMark (blocks bytes) (blocks bytes) (forest (blocks bytes)) u j
   built-P = marked-bit 1 (omega arith)
 
   pub built-B : {u j v : ℕ} → Place (blocks bytes) u j v
@@ -152,7 +156,8 @@ module _ {bytes : List ℕ} (a : Accepted bytes) where
   built-B = marked-bit 2 (omega arith)
 
   -- at D's ones stand zeros
-  pub built-own : (k p : ℕ) → k < 3 → getD (unary bytes) p false ≡ true → sectionBit bytes (indexOf (blocks bytes)) k p ≡ false
+  pub built-own : (k p : ℕ) → k < 3 → getD (unary bytes) p false ≡ true
+      → sectionBit bytes (indexOf (blocks bytes)) k p ≡ false
   built-own k p l one =
       let c = sound-ones accepted-sound in
       let d = sound-places accepted-sound in
@@ -167,7 +172,8 @@ module _ {bytes : List ℕ} (a : Accepted bytes) where
       ∙ own-bit (marking k) g u v
 
   -- and in the fill
-  pub built-fill : (k p : ℕ) → k < 3 → terminals bytes + 2 * wires bytes ≤ p → p < 8 * markBytes (terminals bytes) (wires bytes)
+  pub built-fill : (k p : ℕ) → k < 3 → terminals bytes + 2 * wires bytes ≤ p
+      → p < 8 * markBytes (terminals bytes) (wires bytes)
       → sectionBit bytes (indexOf (blocks bytes)) k p ≡ false
   built-fill zero p l a b =
       let e = same-bytes in

@@ -9,7 +9,8 @@ use Rattle.graph.specs.Graph.{Blocks, block, Place, position, twin}
 use Rattle.graph.specs.Search.{Forest, forest}
 use Rattle.graph.specs.Joined.{Chain, without, bridge}
 use Rattle.graph.specs.Forest.{parent as parentIn, childMark, parentMark}
-use Rattle.graph.specs.Theorems.{wires-balance, child-marks, parent-marks, marks-at-pairs, parent-mark-once, parent-mark-none, bridge-told, bridge-both}
+use Rattle.graph.specs.Theorems.{wires-balance, child-marks, parent-marks, marks-at-pairs, parent-mark-once}
+use Rattle.graph.specs.Theorems.{parent-mark-none, bridge-told, bridge-both}
 use Rattle.graph.specs.Laws.Places.Basics.{clash}
 use Rattle.graph.specs.Laws.Places.Pairing.{source, place-at, twin-place, twin-twin}
 use Rattle.graph.specs.Laws.Joined.Spanning.{search-spans}
@@ -101,5 +102,7 @@ module _ {bytes index : List ℕ} (w : Written bytes index) where
               at = position v (block g u) 0;
               inside = l;
               passes = P-at (place-at l) ∙ mark;
-              only = λ i k q. parent-mark-once (formed w .in-range) (covered w) bal (place-at k) (place-at l) (sym (P-at (place-at k)) ∙ q) mark;
+              only =
+                  λ i k q. parent-mark-once (formed w .in-range) (covered w) bal (place-at k) (place-at l)
+                  (sym (P-at (place-at k)) ∙ q) mark;
             }

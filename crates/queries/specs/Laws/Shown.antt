@@ -25,7 +25,9 @@ use Rattle.graph.specs.Laws.Heads.Walks.{walk-stop, HeadSteps, AncestorSteps}
 use Rattle.record.specs.Answers.{Answer, refused, answered}
 use Rattle.forest.specs.Laws.Sections.{length-each, each-at}
 use Rattle.queries.specs.View.{View}
-use Rattle.queries.specs.Queries.{top, rise, stepBy, stepUp, parentBy, unlessZero, parentOf, headBy, headNext, headOf, ancestorBy, ancestorNext, ancestorOf, childCount, vertexOr, childOf, visitOf, found, visitedOf}
+use Rattle.queries.specs.Queries.{top, rise, stepBy, stepUp, parentBy, unlessZero, parentOf, headBy, headNext}
+use Rattle.queries.specs.Queries.{headOf, ancestorBy, ancestorNext, ancestorOf, childCount, vertexOr, childOf}
+use Rattle.queries.specs.Queries.{visitOf, found, visitedOf}
 use Rattle.queries.specs.Laws.Marks.{set-inside, none-set, first-set, one-set, count-each, select-each}
 
 -- the marks of each block and the stored numbers are the forest's
@@ -95,7 +97,9 @@ module _ {w : View} {starts : List ℕ} (wf : WellFormed (w .graph)) (cov : Cove
           let bal = wires-balance wf in
           let b = first-back span bal h e in
           let q = back-parent bal (span .built) b in
-          ap parentBy (child-step u (position p (block (w .graph) u) 0) (back-place bal (span .built) b) (back-marked bal (span .built) b)) ∙ ap (λ (x : ℕ). answered (unlessZero x)) (sym q)
+          let at = position p (block (w .graph) u) 0 in
+          let up = child-step u at (back-place bal (span .built) b) (back-marked bal (span .built) b) in
+          ap parentBy up ∙ ap (λ (x : ℕ). answered (unlessZero x)) (sym q)
 
   -- ---- Head
 

@@ -38,7 +38,8 @@ returns c =
     let order-r = c .before .before .before .order-r in
     let bytes = args .bytes .now in
     let v = args .v .0 in
-    told-append (orderR bytes) ((11, outOfRange (terminals bytes) v) ∷ []) (sizesOf bytes) (length (block (blocks bytes) (v - 1))) (sym (ap shape (r .given .1)) ∙ order-r .ensures)
+    told-append (orderR bytes) ((11, outOfRange (terminals bytes) v) ∷ []) (sizesOf bytes)
+    (length (block (blocks bytes) (v - 1))) (sym (ap shape (r .given .1)) ∙ order-r .ensures)
 
 returns-2 : tie.Need-returns-2
 returns-2 c = search needs

@@ -1,4 +1,5 @@
--- An answer settles the code's value: for each kind of answer there is a function back, so a contract `said r ≡ a` leaves r no choice.
+-- An answer settles the code's value: for each kind of answer there is a function back, so a contract `said r ≡ a`
+-- leaves r no choice.
 --
 --   named            the refusal of a number
 --   settled          what has a way back is settled
@@ -62,7 +63,8 @@ named-number Refusal.NoChild = refl
 
 -- ---- enums
 
-pub settled : {A B : Type 0} (said : A → B) (back : B → A) → ((a : A) → back (said a) ≡ a) → (a : A) {b : B} → said a ≡ b → a ≡ back b
+pub settled : {A B : Type 0} (said : A → B) (back : B → A) → ((a : A) → back (said a) ≡ a) → (a : A) {b : B}
+    → said a ≡ b → a ≡ back b
 settled said back h a e = sym (h a) ∙ ap back e
 
 pub verdictOf : Answer (Unit {0}) → Verdict

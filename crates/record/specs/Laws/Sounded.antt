@@ -51,7 +51,8 @@ module _ (bytes : List ℕ) {s : Sizes} (e : answered s ≡ tried (checkRules by
   pub accepted-sound : Sound bytes (s .n) (s .m)
   unfolding checkRules
   accepted-sound =
-      sound-of bytes (both-kept (order-numbered bytes) _ accepted-kept .0) (ap (λ (x : Sizes). x .n) accepted-sizes) (ap (λ (x : Sizes). x .m) accepted-sizes)
+      sound-of bytes (both-kept (order-numbered bytes) _ accepted-kept .0) (ap (λ (x : Sizes). x .n) accepted-sizes)
+      (ap (λ (x : Sizes). x .m) accepted-sizes)
 
 module _ {bytes : List ℕ} {n m : ℕ} (s : Sound bytes n m) where
   pub sound-shaped : Shaped bytes

@@ -22,13 +22,11 @@ same-length-2 c = search needs
 
 returns : tie.Need-returns
 returns c =
-    let build = c .before .before .before .before .before .before .before .before .build in
-    let head = c .before .before .head in
-    let head2 = c .head2 in
-    let args = c .before .before .before .before .before .before .before .before .before .before .before .before .before .before .args in
-    let (answer, buffer) = build .ensures in
-    let x = head .ensures in
-    let y = head2 .ensures in
+    let after-build = c .before .before .before .before .before .before .before .before in
+    let args = after-build .before .before .before .before .before .before .args in
+    let (answer, buffer) = after-build .build .ensures in
+    let x = c .before .before .head .ensures in
+    let y = c .head2 .ensures in
     let tell = paired (args .bytes .now) (args .work .now) (args .index .now) buffer x y in
     (answer, buffer, x, y, λ e t r. tell (sym answer ∙ e) t r)
 

@@ -1,6 +1,7 @@
 -- `table::fill_counts` meets its contract.
 use Rattle.queries.specs.Laws.Ready.{ready-beside}
-use Rattle.queries.proofs.Laws.Tabling.{cells-begin, cells-put, cells-end, apart-self, block-span, count-cell, count-small}
+use Rattle.queries.proofs.Laws.Tabling.{cells-begin, cells-put, cells-end, apart-self, block-span, count-cell}
+use Rattle.queries.proofs.Laws.Tabling.{count-small}
 use Rattle.queries.proofs.Laws.Climbing.{starts-long}
 use Rattle.queries.specs.Table.{Cells}
 use Rattle.graph.specs.Forest.{children}
@@ -95,7 +96,8 @@ put-requires c κs =
 
 add-v : tie.Need-add-v Inv-loop μ-loop
 add-v c =
-    let pre = c .before .before .before .before .before .before .before .before .before .before .before .before .before .pre in
+    let pre =
+    c .before .before .before .before .before .before .before .before .before .before .before .before .before .pre in
     let loop-test = c .before .before .before .before .before .before .before .loop-test in
     let f = ready-beside (pre .0) .framed .n-fits in
     let t = loop-test .taken in
@@ -106,7 +108,8 @@ loop-less c = let t = c .before .before .before .before .before .before .before 
 
 loop-again : tie.Need-loop-again Inv-loop μ-loop
 loop-again c =
-    let pre = c .before .before .before .before .before .before .before .before .before .before .before .before .before .pre in
+    let pre =
+    c .before .before .before .before .before .before .before .before .before .before .before .before .before .pre in
     let loop-test = c .before .before .before .before .before .before .before .loop-test in
     let get = c .before .before .before .before .before .before .get in
     let get2 = c .before .before .before .before .before .get2 in

@@ -1,6 +1,7 @@
 -- `table::place_of` meets its contract.
 use Rattle.queries.specs.Laws.Ready.{ready-beside}
-use Rattle.queries.proofs.Laws.Tabling.{at-inside, never-stuck, root-parent, root-head, risen-to, risen-parent, risen-head, stopped}
+use Rattle.queries.proofs.Laws.Tabling.{at-inside, never-stuck, root-parent, root-head, risen-to, risen-parent}
+use Rattle.queries.proofs.Laws.Tabling.{risen-head, stopped}
 use Rattle.queries.proofs.Laws.Climbing.{starts-long, block-from, block-to, rise-room, head-stops, head-rises}
 use Rattle.queries.specs.Steps.{stepOf}
 use native.Mathlib.Omega.{arith}
@@ -37,7 +38,9 @@ step-up-requires c κs =
     let get2 = c .get2 in
     let b = ready-beside (pre .0) in
     let h = at-inside (pre .0) (pre .2) (pre .3) in
-    (b, h, block-from b (pre .1) h (get .ensures .0) (get2 .ensures .0), block-to b (pre .1) h (get .ensures .0) (get2 .ensures .0))
+    let x = get .ensures .0 in
+    let y = get2 .ensures .0 in
+    (b, h, block-from b (pre .1) h x y, block-to b (pre .1) h x y)
 
 enum-told : tie.Need-enum-told
 enum-told c = search needs
@@ -134,7 +137,8 @@ returns c =
     let e = sym (ap stepOf (r .given .1)) ∙ step-up .ensures in
     let l = risen-to (pre .0) h (pre .1) (get .ensures .0) (get2 .ensures .0) e in
     let f = b .framed .n-fits in
-    (risen-parent (pre .0) h e, stopped (pre .0) h (head-stops b (pre .1) h (get .ensures .0) (get2 .ensures .0) e (bridge-mark .ensures) (if1 .taken)), omega arith, omega arith)
+    let s = head-stops b (pre .1) h (get .ensures .0) (get2 .ensures .0) e (bridge-mark .ensures) (if1 .taken) in
+    (risen-parent (pre .0) h e, stopped (pre .0) h s, omega arith, omega arith)
 
 add-t19 : tie.Need-add-t19
 add-t19 c =
@@ -182,7 +186,8 @@ returns-3 c =
 
 returns-4 : tie.Need-returns-4
 returns-4 c =
-    let pre = c .before .before .before .before .before .before .before .before .before .before .before .before .before .pre in
+    let pre =
+    c .before .before .before .before .before .before .before .before .before .before .before .before .before .pre in
     let r = c .before .before .before .before .r in
     let step-up = c .before .before .before .before .before .before .step-up in
     let get = c .before .before .before .before .before .before .before .before .get in

@@ -11,7 +11,8 @@ use Rattle.record.specs.Record.{terminals, wires, unary, blocks}
 use Rattle.record.specs.Rules.{firstBroken, orderR}
 use Rattle.record.specs.Starts.{startsOf}
 use Rattle.record.specs.Answers.{refused, answered, tried, sizesOf}
-use Rattle.record.specs.Operations.{otherLength, outOfRange, degreeRules, degree, neighboursGiven, neighbours, neighboursBefore, further}
+use Rattle.record.specs.Operations.{otherLength, outOfRange, degreeRules, degree, neighboursGiven, neighbours}
+use Rattle.record.specs.Operations.{neighboursBefore, further}
 use Rattle.record.specs.Steps.{Sound}
 use Rattle.record.specs.Laws.First.{first-broken, first-kept, append-kept, append-broken, order-numbered}
 use Rattle.record.specs.Laws.Range.{range-inside}
@@ -38,7 +39,8 @@ module _ {bytes : List ℕ} {n m : ℕ} (s : Sound bytes n m) where
 
   -- ---- the block
 
-  module _ (v : ℕ) {a b : ℕ} (i : outOfRange n v ≡ false) (ea : a ≡ getD (startsOf (unary bytes)) (v - 1) 0) (eb : b ≡ getD (startsOf (unary bytes)) v 0) where
+  module _ (v : ℕ) {a b : ℕ} (i : outOfRange n v ≡ false) (ea : a ≡ getD (startsOf (unary bytes)) (v - 1) 0)
+      (eb : b ≡ getD (startsOf (unary bytes)) v 0) where
     some : 0 < v
     some = range-inside n v i .0
 
@@ -75,7 +77,8 @@ module _ {bytes : List ℕ} {n m : ℕ} (s : Sound bytes n m) where
       unfolding neighboursGiven otherLength
       given =
           let f = s .is-m in
-          rw (eq-eqb (firstBroken (degreeRules bytes v)) 0 (inside v i), eq-eqb (length list) (2 * wires bytes) (omega arith))
+          let kept = eq-eqb (firstBroken (degreeRules bytes v)) 0 (inside v i) in
+          rw (kept, eq-eqb (length list) (2 * wires bytes) (omega arith))
 
       pub part-is : take (b - a) (drop a list) ≡ neighbours bytes list v
       unfolding neighbours
@@ -100,14 +103,16 @@ module _ {bytes : List ℕ} {n m : ℕ} (s : Sound bytes n m) where
     unfolding neighboursGiven otherLength
     misfit-ungiven i d =
         let f = s .is-m in
-        rw (eq-eqb (firstBroken (degreeRules bytes v)) 0 (inside v i), ne-eqb (length list) (2 * wires bytes) (λ e. d (omega arith)))
+        let kept = eq-eqb (firstBroken (degreeRules bytes v)) 0 (inside v i) in
+        rw (kept, ne-eqb (length list) (2 * wires bytes) (λ e. d (omega arith)))
 
 -- order R refuses
 pub order-ungiven : (bytes list : List ℕ) (v : ℕ) {k : ℕ} → refused k ≡ tried (orderR bytes) (sizesOf bytes) → neighboursGiven bytes list v ≡ false
 unfolding degreeRules neighboursGiven
 order-ungiven bytes list v e =
     let (i, f, g) = told-back (firstBroken (orderR bytes)) (sizesOf bytes) e in
-    rw (append-broken (orderR bytes) ((11, outOfRange (terminals bytes) v) ∷ []) i f, ne-eqb (suc i) 0 (λ z. omega arith))
+    let broken = append-broken (orderR bytes) ((11, outOfRange (terminals bytes) v) ∷ []) i f in
+    rw (broken, ne-eqb (suc i) 0 (λ z. omega arith))
 
 -- a refusal is the empty part, at the front
 pub front : (bytes list : List ℕ) (v : ℕ) (a : ℕ × ℕ) → neighboursGiven bytes list v ≡ false → ([] ≡ neighbours bytes list v) × (a ≡ further a (neighboursBefore bytes list v))

@@ -23,7 +23,8 @@ returns c =
     let pre = c .before .before .before .pre in
     let out-of-range = c .before .out-of-range in
     let if1 = c .if1 in
-    told (length (block (blocks (args .bytes .now)) (args .v .0 - 1))) (outside pre (args .v .0) (sym (out-of-range .ensures) ∙ if1 .taken))
+    told (length (block (blocks (args .bytes .now)) (args .v .0 - 1)))
+    (outside pre (args .v .0) (sym (out-of-range .ensures) ∙ if1 .taken))
 
 start-of-requires : tie.Need-start-of-requires
 start-of-requires c κs =

@@ -4,7 +4,8 @@ use native.Mathlib.Omega.{arith}
 use borrow.Author.Needs.{needs}
 use Rattle.record.specs.Operations.{further}
 use Rattle.record.specs.Laws.Range.{range-inside}
-use Rattle.record.proofs.Laws.Reading.OneBlock.{outside, block-rises, block-ends, outside-ungiven, misfit-ungiven, front, part-is, part-begins}
+use Rattle.record.proofs.Laws.Reading.OneBlock.{outside, block-rises, block-ends, outside-ungiven}
+use Rattle.record.proofs.Laws.Reading.OneBlock.{misfit-ungiven, front, part-is, part-begins}
 use Rattle.record.proofs.blocks.neighbours_in.Statement.{statement}
 use Rattle.record.proofs.blocks.neighbours_in.Tie as tie
 
@@ -22,7 +23,8 @@ returns c =
     let if1 = c .before .if1 in
     let list = args .list .now in
     let v = args .v .0 in
-    front (args .bytes .now) list v (args .list .ptr) (outside-ungiven pre v list (outside pre (args .v .0) (sym (out-of-range .ensures) ∙ if1 .taken)))
+    front (args .bytes .now) list v (args .list .ptr)
+    (outside-ungiven pre v list (outside pre (args .v .0) (sym (out-of-range .ensures) ∙ if1 .taken)))
 
 mul-if2 : tie.Need-mul-if2
 mul-if2 c = search needs
@@ -39,7 +41,8 @@ returns-2 c =
     let if2 = c .before .if2 in
     let list = args .list .now in
     let v = args .v .0 in
-    front (args .bytes .now) list v (args .list .ptr) (misfit-ungiven pre v list (sym (out-of-range .ensures) ∙ if1 .left) (if2 .taken))
+    front (args .bytes .now) list v (args .list .ptr)
+    (misfit-ungiven pre v list (sym (out-of-range .ensures) ∙ if1 .left) (if2 .taken))
 
 sub-start-of : tie.Need-sub-start-of
 sub-start-of c =
@@ -74,8 +77,10 @@ mul-result c =
     let if1 = c .before .before .before .if1 in
     let start-of = c .before .start-of in
     let start-of2 = c .start-of2 in
-    let e = block-ends pre (args .v .0) (sym (out-of-range .ensures) ∙ if1 .left) (start-of .ensures) (start-of2 .ensures) in
-    let r = block-rises pre (args .v .0) (sym (out-of-range .ensures) ∙ if1 .left) (start-of .ensures) (start-of2 .ensures) in
+    let e =
+    block-ends pre (args .v .0) (sym (out-of-range .ensures) ∙ if1 .left) (start-of .ensures) (start-of2 .ensures) in
+    let r =
+    block-rises pre (args .v .0) (sym (out-of-range .ensures) ∙ if1 .left) (start-of .ensures) (start-of2 .ensures) in
     omega arith
 
 sub-result : tie.Need-sub-result
@@ -86,7 +91,8 @@ sub-result c =
     let if1 = c .before .before .before .if1 in
     let start-of = c .before .start-of in
     let start-of2 = c .start-of2 in
-    let r = block-rises pre (args .v .0) (sym (out-of-range .ensures) ∙ if1 .left) (start-of .ensures) (start-of2 .ensures) in
+    let r =
+    block-rises pre (args .v .0) (sym (out-of-range .ensures) ∙ if1 .left) (start-of .ensures) (start-of2 .ensures) in
     omega arith
 
 part-result-start : tie.Need-part-result-start
@@ -97,8 +103,10 @@ part-result-start c =
     let if1 = c .before .before .before .if1 in
     let start-of = c .before .start-of in
     let start-of2 = c .start-of2 in
-    let e = block-ends pre (args .v .0) (sym (out-of-range .ensures) ∙ if1 .left) (start-of .ensures) (start-of2 .ensures) in
-    let r = block-rises pre (args .v .0) (sym (out-of-range .ensures) ∙ if1 .left) (start-of .ensures) (start-of2 .ensures) in
+    let e =
+    block-ends pre (args .v .0) (sym (out-of-range .ensures) ∙ if1 .left) (start-of .ensures) (start-of2 .ensures) in
+    let r =
+    block-rises pre (args .v .0) (sym (out-of-range .ensures) ∙ if1 .left) (start-of .ensures) (start-of2 .ensures) in
     omega arith
 
 part-result-end : tie.Need-part-result-end
@@ -109,8 +117,10 @@ part-result-end c =
     let if1 = c .before .before .before .if1 in
     let start-of = c .before .start-of in
     let start-of2 = c .start-of2 in
-    let e = block-ends pre (args .v .0) (sym (out-of-range .ensures) ∙ if1 .left) (start-of .ensures) (start-of2 .ensures) in
-    let r = block-rises pre (args .v .0) (sym (out-of-range .ensures) ∙ if1 .left) (start-of .ensures) (start-of2 .ensures) in
+    let e =
+    block-ends pre (args .v .0) (sym (out-of-range .ensures) ∙ if1 .left) (start-of .ensures) (start-of2 .ensures) in
+    let r =
+    block-rises pre (args .v .0) (sym (out-of-range .ensures) ∙ if1 .left) (start-of .ensures) (start-of2 .ensures) in
     omega arith
 
 returns-3 : tie.Need-returns-3
@@ -126,7 +136,9 @@ returns-3 c =
     let i = sym (out-of-range .ensures) ∙ if1 .left in
     let a = start-of .ensures in
     let b = start-of2 .ensures in
-    (part-is pre (args .v .0) i a b list (if2 .left), ap (further (args .list .ptr)) (part-begins pre (args .v .0) i a b list (if2 .left)))
+    let v = args .v .0 in
+    let is = part-is pre v i a b list (if2 .left) in
+    (is, ap (further (args .list .ptr)) (part-begins pre v i a b list (if2 .left)))
 
 pub neighbours-in-spec : {M : Type 1} → statement M
 neighbours-in-spec =
