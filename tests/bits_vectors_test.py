@@ -26,10 +26,10 @@ def fields(data, start):
     yield f"fields {start}: " + " ".join(map(str, found))
 
 
-def write(start, v, on):
+def write(start, v):
     s = put("0" * 32 + "1" * 32, start, binary(v, 12))
     yield f"field {start}: " + packed(s).hex(" ")
-    s = put(s, start, binary(on, 1))
+    s = put(s, start, "1")
     yield f"bit {start}: " + packed(s).hex(" ")
 
 
@@ -53,9 +53,9 @@ def lines():
         yield from ask(MIXED, 60 + shift, 5)
         yield from fields(MIXED, 192 + shift)
         yield from fields(MIXED, 361 + shift)
-        yield from write(shift, 0xABC, 0)
-        yield from write(20 + shift, 0x543, 1)
-        yield from write(44 + shift, 0xABC, 0)
+        yield from write(shift, 0xABC)
+        yield from write(20 + shift, 0x543)
+        yield from write(44 + shift, 0xABC)
 
 
 if __name__ == "__main__":

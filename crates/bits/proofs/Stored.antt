@@ -99,7 +99,8 @@ write bytes vs start w k v x y h e hv ex ey eb =
     ∙ ap (put w v (bits bytes)) s
 
 -- what a write of one, two or three bytes leaves
-pub write-one : {bytes : List ℕ} {x : ℕ} (start w k v y : ℕ) → IsByte bytes (start / 8) x → start % 8 + (w + k) ≡ 8 → v < 2 ^ w → y ≡ replace x w k v
+write-one : {bytes : List ℕ} {x : ℕ} (start w k v y : ℕ) → IsByte bytes (start / 8) x → start % 8 + (w + k) ≡ 8
+    → v < 2 ^ w → y ≡ replace x w k v
     → bits (set bytes (start / 8) (y % 256)) ≡ put w v (bits bytes) start
 write-one {bytes} {x} start w k v y byte e hv ey =
     write bytes (y % 256 ∷ []) start w k v x y (let h = byte .inside in omega arith) e hv (sym (byte-field byte)) ey (bits-one y)

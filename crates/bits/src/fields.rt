@@ -3,7 +3,7 @@ ghost use mathlib.Core.Path.{_≡_};
 ghost use mathlib.Core.Bool.{true, false};
 ghost use Prim.Native.Nat.{_+_, _*_, _/_, _%_, _^_, _<_, _≤_};
 ghost use lib.ListN.{length, getD, set};
-ghost use Rattle.bits.specs.Bits.{bits, bit as bitOf, field, put};
+ghost use Rattle.bits.specs.Bits.{bits, field, put};
 ghost use Rattle.bits.specs.Steps.{FourAt, replace};
 use super::words::byte_at;
 use super::words::join;
@@ -99,12 +99,6 @@ fn low_byte(x: u64) -> u8
     (x & 0xFF) as u8
 }
 
-fn bit(on: bool) -> u64
-    ensures { λ r. ⌜ (r ≡ bitOf on) × (r < 2) ⌝ }
-{
-    if on { 1 } else { 0 }
-}
-
 // x with v in the `width` bits above its `low` lowest.
 fn replaced(x: u64, width: usize, low: usize, v: u64) -> u64
     requires { ⌜ (width + low ≤ 24) × (x < 2 ^ 24) × (v < 2 ^ width) ⌝ }
@@ -112,16 +106,6 @@ fn replaced(x: u64, width: usize, low: usize, v: u64) -> u64
 {
     let top = width + low;
     ((x >> top) << top) | (v << low) | (x & ((1 << low) - 1))
-}
-
-// The bit `index` becomes `on`, and nothing else changes.
-pub fn write_bit(bytes: &mut [u8], index: usize, on: bool)
-    requires { ⌜ index < 8 * length (now bytes) ⌝ }
-    ensures { λ _. ⌜ (bits (now (bytes .exit)) ≡ set (bits (now (bytes .entry))) index on) × (length (now (bytes .exit)) ≡ length (now (bytes .entry))) ⌝ }
-{
-    let at = index / 8;
-    let x = byte_at(bytes, at);
-    bytes[at] = low_byte(replaced(x, 1, 7 - index % 8, bit(on)));
 }
 
 // The bit `index` becomes a one, and nothing else changes.

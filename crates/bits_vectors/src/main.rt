@@ -186,8 +186,8 @@ fn show(bytes: &[u8]) {
     text(b"\n");
 }
 
-// Four bytes of zeros and four of ones, after a field was written from bit `start` on, and then after that bit was written.
-fn write(start: usize, v: usize, on: bool)
+// Four bytes of zeros and four of ones, after a field was written from bit `start` on, and then after that bit was set.
+fn write(start: usize, v: usize)
     requires { ⌜ (start ≤ 52) × (v < 4096) ⌝ }
 {
     let mut bytes = [0x00, 0x00, 0x00, 0x00, 0xFF, 0xFF, 0xFF, 0xFF];
@@ -195,7 +195,7 @@ fn write(start: usize, v: usize, on: bool)
     bits::fields::write12(buffer, start, v);
     title(b"field ", start);
     show(buffer);
-    bits::fields::write_bit(buffer, start, on);
+    bits::fields::set_bit(buffer, start);
     title(b"bit ", start);
     show(buffer);
 }
@@ -231,9 +231,9 @@ fn at(shift: usize)
     string(bytes, 60 + shift, 5);
     fields(bytes, 192 + shift);
     fields(bytes, 361 + shift);
-    write(shift, 0xABC, false);
-    write(20 + shift, 0x543, true);
-    write(44 + shift, 0xABC, false);
+    write(shift, 0xABC);
+    write(20 + shift, 0x543);
+    write(44 + shift, 0xABC);
 }
 
 fn main() {

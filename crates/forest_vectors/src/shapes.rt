@@ -142,10 +142,12 @@ fn neighbour(s: Shape, v: usize, j: usize) -> usize
     }
 }
 
-// Bit i, where the bytes hold it.
+// Bit i, where the bytes hold it. It is a zero before.
 fn put_bit(bytes: &mut [u8], i: usize, on: bool) {
-    if i / 8 < bytes.len() {
-        bits::fields::write_bit(bytes, i, on);
+    if on {
+        if i / 8 < bytes.len() {
+            bits::fields::set_bit(bytes, i);
+        }
     }
 }
 

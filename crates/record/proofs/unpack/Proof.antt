@@ -29,7 +29,8 @@ returns c =
     let bytes = c .before .before .before .before .before .before .before .args .bytes .now in
     let list = c .before .before .before .before .before .before .before .args .list .now in
     let accept = c .before .before .before .before .accept in
-    unpack-misfit bytes list (accepted-kept bytes (sym (ap shape (c .before .before .s .given .1)) ∙ accept .ensures)) (accepted-sound bytes (sym (ap shape (c .before .before .s .given .1)) ∙ accept .ensures) .is-m) (c .if1 .taken)
+    let e = (sym (ap shape (c .before .before .s .given .1)) ∙ accept .ensures) in
+    unpack-misfit bytes list (accepted-kept bytes e) (accepted-sound bytes e .is-m) (λ same. omega arith)
 
 mul-read-fields : tie.Need-mul-read-fields
 mul-read-fields c = search needs
