@@ -5,7 +5,7 @@ ghost use lib.Signed.{mag};
 ghost use Rattle.bits.specs.Bits.{bit};
 ghost use Rattle.record.specs.Answers.{number, verdict, counted, figure};
 ghost use Rattle.queries.specs.Answers.{above, terminal, related, numbered};
-ghost use Rattle.queries.specs.Queries.{orZero};
+ghost use Rattle.queries.specs.Answers.{orZero};
 ghost use Rattle.capi.specs.Code.{code, nothing, itself, complement};
 ghost use Rattle.capi.specs.Laws.Halves.{Small, SmallParent, Short};
 use queries::Above;

@@ -4,7 +4,7 @@ ghost use mathlib.Core.Path.{_≡_};
 ghost use Rattle.bits.specs.Bits.{bit, string, rank, select};
 ghost use Rattle.record.specs.Operations.{check, degree, unpack, unpacked, loopFigure};
 ghost use Rattle.forest.specs.Operations.{build, built};
-ghost use Rattle.queries.specs.Queries.{orZero};
+ghost use Rattle.queries.specs.Answers.{orZero};
 ghost use Rattle.queries.specs.Operations.{parent, head, ancestor, children, child, visit, visited};
 ghost use Rattle.capi.specs.Code.{code, nothing, itself, complement};
 use forest::Dfi;

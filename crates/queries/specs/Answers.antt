@@ -1,7 +1,7 @@
--- Document 01's number for each named case of the queries' answers.
+-- What each named case of the queries' answers says, in document 01's numbers.
 use mathlib.Core.Bool.{Bool, true, false}
 use mathlib.Core.Option.{Option, none, some}
-use Prim.Native.Nat.{ℕ}
+use Prim.Native.Nat.{ℕ, zero, suc}
 use Rattle.record.specs.Answers.{Answer, refused, answered, number}
 use Rattle.queries.specs.declared.Above.{Above}
 use Rattle.queries.specs.declared.Above.the-variants as Above
@@ -12,11 +12,20 @@ use Rattle.queries.specs.declared.Related.the-variants as Related
 use Rattle.queries.specs.declared.Numbered.{Numbered}
 use Rattle.queries.specs.declared.Numbered.the-variants as Numbered
 
--- a parent, or none; document 01's number is `orZero` of it
+-- a parent, or none for a root, so that no parent's number stands for it
 abbrev pub above : Above → Answer (Option ℕ)
 above Above.Root = answered none
 above (Above.Parent v) = answered (some (v .0))
 above (Above.Refused r) = refused (number r)
+
+-- document 01's number of it: 0 for a root; and the other way round
+abbrev pub orZero : Option ℕ → ℕ
+orZero none = 0
+orZero (some v) = v
+
+abbrev pub unlessZero : ℕ → Option ℕ
+unlessZero zero = none
+unlessZero (suc v) = some (suc v)
 
 -- a terminal
 abbrev pub terminal : Found → Answer ℕ

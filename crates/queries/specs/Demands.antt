@@ -18,7 +18,7 @@ use Rattle.record.specs.Answers.{refused, answered}
 use Rattle.forest.specs.Index.{markBytes, indexLength}
 use Rattle.forest.specs.Operations.{build, built}
 use Rattle.queries.specs.View.{sectionBit, numberBit, placeOf, Alike}
-use Rattle.queries.specs.Queries.{unlessZero}
+use Rattle.queries.specs.Answers.{unlessZero}
 use Rattle.queries.specs.Operations.{parent, head, ancestor, children, child, visit, visited}
 use Rattle.queries.specs.Written.{Written, Terminal, Once, HeadsTell, SameAnswers}
 use Rattle.queries.specs.Laws.Answered as Answered

@@ -1,5 +1,5 @@
 -- What the queries answer on a view (document 01, "Operations and their answers"), once nothing of order Q is broken. Vertices count from 0
--- here, and answers are document 01's numbers.
+-- here, and answers are document 01's numbers, but for the parent of a root, which is none.
 use mathlib.Core.Bool.{Bool, true, false, _||_}
 use mathlib.Core.List.{List, map}
 use mathlib.Core.Logic.{_⊎_, inl, inr}
@@ -37,15 +37,6 @@ abbrev pub parentBy : Step → Answer (Option ℕ)
 parentBy stuck = refused 12
 parentBy top = answered none
 parentBy (rise j p) = answered (some (suc p))
-
--- document 01's number of a parent, which is 0 for a root; and the other way round
-abbrev pub orZero : Option ℕ → ℕ
-orZero none = 0
-orZero (some v) = v
-
-abbrev pub unlessZero : ℕ → Option ℕ
-unlessZero zero = none
-unlessZero (suc v) = some (suc v)
 
 unfoldable pub parentOf : View → ℕ → Answer (Option ℕ)
 parentOf w u = parentBy (stepUp (w .graph) (w .marksP) u)

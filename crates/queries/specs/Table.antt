@@ -7,7 +7,7 @@ use Rattle.graph.specs.Search.{forest}
 use Rattle.graph.specs.Forest.{vertexAt, parent as parentIn, head as headIn}
 use Rattle.record.specs.Record.{terminals, wires, blocks}
 use Rattle.record.specs.Answers.{answered}
-use Rattle.queries.specs.Queries.{unlessZero}
+use Rattle.queries.specs.Answers.{unlessZero}
 use Rattle.queries.specs.Operations.{parent, head, children, visit}
 use Rattle.queries.specs.Written.{Written, Terminal}
 

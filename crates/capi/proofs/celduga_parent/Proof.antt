@@ -1,6 +1,6 @@
 -- `celduga_parent` meets its contract.
 use Rattle.capi.proofs.Laws.Coded.{valued-call, code-call}
-use Rattle.queries.specs.Queries.{orZero}
+use Rattle.queries.specs.Answers.{orZero}
 use Rattle.capi.specs.Laws.Small.{parent-small}
 use borrow.Author.Needs.{needs}
 use Rattle.capi.proofs.celduga_parent.Statement.{statement}

@@ -8,7 +8,7 @@ use lib.IntN.{ℤ, pos, negsuc}
 use lib.Signed.{mag}
 use Rattle.bits.specs.Bits.{bit}
 use Rattle.record.specs.Answers.{Answer, refused, answered}
-use Rattle.queries.specs.Queries.{orZero}
+use Rattle.queries.specs.Answers.{orZero}
 use Rattle.capi.specs.Code.{code, nothing, itself, complement}
 
 -- the value of an answer, if it has one, is such a value

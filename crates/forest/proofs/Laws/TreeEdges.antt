@@ -1,5 +1,5 @@
 -- What the work slice says of the tree edge that leads to a vertex: the bits of its two places, and the marks that the vertex owns.
-use mathlib.Core.Path.{_≡_, refl, sym, ap, subst, _∙_}
+use mathlib.Core.Path.{_≡_, refl, sym, subst, _∙_}
 use mathlib.Core.Logic.{_⊎_, inl, inr}
 use mathlib.Core.Bool.{true, false}
 use mathlib.Core.List.{List, List·Memᴰ, flatten}
@@ -20,7 +20,6 @@ use Rattle.graph.specs.Laws.Tree.Climbs.{slot, parent-child, child-entry}
 use Rattle.graph.specs.Laws.Joined.Spanning.{tree-place}
 use Rattle.graph.specs.Laws.Edges.Marks.{Back, child-mark, child-mark-entry, back-place, back-marked, marked-back, back-parent, back-once, first-back}
 use Rattle.record.specs.Record.{blocks}
-use Rattle.record.specs.Steps.{Sound}
 use Rattle.record.specs.Laws.Sounded.{sound-all}
 use Rattle.forest.specs.Steps.{Holding}
 use Rattle.forest.specs.Lows.{Passed, Lifting}

@@ -1,61 +1,72 @@
--- Order Q: which rule is the first broken one.
+-- Order Q: which rule is the first broken one, by what the code tests in turn.
 use mathlib.Core.Path.{_≡_, sym, ap, ap₂, _∙_}
-use mathlib.Core.Bool.{true, false, not}
+use mathlib.Core.Bool.{Bool, true, false, not}
 use mathlib.Core.List.{List, [], _∷_}
 use Prim.Native.Nat.{ℕ}
 use borrow.Author.Tests.{eq-eqb, ne-eqb}
 use lib.ListN.{length}
 use Rattle.record.specs.Record.{terminals, wires}
 use Rattle.record.specs.Rules.{Rule, firstBroken, orderR}
-use Rattle.record.specs.Answers.{refused, answered, tried, sizesOf}
+use Rattle.record.specs.Answers.{refused, answered, tried, sizesOf, shape, number}
 use Rattle.record.specs.Operations.{otherLength, outOfRange}
 use Rattle.record.specs.Steps.{Sound}
 use Rattle.record.specs.declared.Sizes.{Sizes}
+use Rattle.record.specs.declared.Refusal.{Refusal}
+use Rattle.record.specs.declared.Shape.{Shape}
+use Rattle.record.specs.declared.Shape.the-variants as Shape
 use Rattle.record.specs.Laws.First.{first-broken, first-kept, append-kept, order-numbered}
+use Rattle.record.specs.Laws.Sounded.{told-sound}
 use Rattle.record.specs.Laws.Told.{told, untold, told-append}
 use Rattle.forest.specs.Index.{indexLength}
 use Rattle.queries.specs.Operations.{orderQ}
 
-module _ (bytes index : List ℕ) (k : ℕ) where
-  -- 10 and 11
-  abbrev more : List Rule
-  more =
-      (10, otherLength index (indexLength (terminals bytes) (wires bytes))) ∷ (11, outOfRange (terminals bytes) k) ∷ []
+-- 10 and 11
+abbrev more : List ℕ → List ℕ → ℕ → List Rule
+more bytes index k =
+    (10, otherLength index (indexLength (terminals bytes) (wires bytes))) ∷ (11, outOfRange (terminals bytes) k) ∷ []
 
-  pub order-refused : {r : ℕ} → refused r ≡ tried (orderR bytes) (sizesOf bytes)
-      → refused r ≡ tried (orderQ bytes index k) (sizesOf bytes)
+-- r is what order R hands on
+module _ (bytes index : List ℕ) (k : ℕ) {r : Shape} (e : shape r ≡ tried (orderR bytes) (sizesOf bytes)) where
+  pub order-refused : {q : Refusal} → r ≡ Shape.Refused q
+      → refused (number q) ≡ tried (orderQ bytes index k) (sizesOf bytes)
   unfolding orderQ
-  order-refused e = told-append (orderR bytes) more (sizesOf bytes) (sizesOf bytes) e
+  order-refused f =
+      told-append (orderR bytes) (more bytes index k) (sizesOf bytes) (sizesOf bytes) (sym (ap shape f) ∙ e)
 
-  module _ {n m : ℕ} (s : Sound bytes n m) where
-    more-told : firstBroken (orderQ bytes index k) ≡ firstBroken more
+  module _ {s : Sizes} (f : r ≡ Shape.Passed s) where
+    pub order-sound : Sound bytes (s .n) (s .m)
+    order-sound = told-sound bytes (sym (ap shape f) ∙ e)
+
+    more-told : firstBroken (orderQ bytes index k) ≡ firstBroken (more bytes index k)
     unfolding orderQ
-    more-told = append-kept (order-numbered bytes) more (s .kept)
+    more-told = append-kept (order-numbered bytes) (more bytes index k) (order-sound .kept)
 
-    same-length : indexLength n m ≡ indexLength (terminals bytes) (wires bytes)
-    same-length = ap₂ indexLength (s .is-n) (s .is-m)
+    -- x is the length that the index must have
+    module _ {x : ℕ} (l : x ≡ indexLength (s .n) (s .m)) where
+      right : x ≡ indexLength (terminals bytes) (wires bytes)
+      right = l ∙ ap₂ indexLength (order-sound .is-n) (order-sound .is-m)
 
-    pub index-misfit : (length index ≡ indexLength n m → ⊥) → refused 10 ≡ tried (orderQ bytes index k) (sizesOf bytes)
-    unfolding otherLength
-    index-misfit h =
-        told (sizesOf bytes) (more-told ∙ first-broken 10 _ (ap not (ne-eqb (length index) (indexLength (terminals bytes) (wires bytes)) (λ z. h (z ∙ sym same-length)))))
-
-    module _ (l : length index ≡ indexLength n m) where
-      index-fits : firstBroken (orderQ bytes index k) ≡ firstBroken ((11, outOfRange n k) ∷ [])
+      pub index-misfit : (length index ≡ x → ⊥) → refused 10 ≡ tried (orderQ bytes index k) (sizesOf bytes)
       unfolding otherLength
-      index-fits =
-          more-told
-          ∙ first-kept 10 _
-          (ap not (eq-eqb (length index) (indexLength (terminals bytes) (wires bytes)) (l ∙ same-length)))
-          ∙ ap (λ (x : ℕ). firstBroken ((11, outOfRange x k) ∷ [])) (sym (s .is-n))
+      index-misfit h =
+          let other = ne-eqb (length index) (indexLength (terminals bytes) (wires bytes)) (λ z. h (z ∙ sym right)) in
+          told (sizesOf bytes) (more-told ∙ first-broken 10 _ (ap not other))
 
-      pub number-outside : outOfRange n k ≡ true → refused 11 ≡ tried (orderQ bytes index k) (sizesOf bytes)
-      number-outside e = told (sizesOf bytes) (index-fits ∙ first-broken 11 [] e)
+      -- t is the test of the number
+      module _ (h : length index ≡ x) {t : Bool} (g : t ≡ outOfRange (s .n) k) where
+        last-told : firstBroken (orderQ bytes index k) ≡ firstBroken ((11, t) ∷ [])
+        unfolding otherLength
+        last-told =
+            let same = eq-eqb (length index) (indexLength (terminals bytes) (wires bytes)) (h ∙ right) in
+            let test = ap (λ (y : ℕ). outOfRange y k) (sym (order-sound .is-n)) ∙ sym g in
+            more-told ∙ first-kept 10 _ (ap not same) ∙ ap (λ (b : Bool). firstBroken ((11, b) ∷ [])) test
 
-      pub order-passed : outOfRange n k ≡ false
-          → answered (record { n = n; m = m }) ≡ tried (orderQ bytes index k) (sizesOf bytes)
-      unfolding firstBroken
-      order-passed i =
-          let f : firstBroken (orderQ bytes index k) ≡ 0 = index-fits ∙ first-kept 11 [] i in
-          let e : _≡_ {A = Sizes} (record { n = n; m = m }) (sizesOf bytes) = ap₂ (λ (x y : ℕ). record { n = x; m = y }) (s .is-n) (s .is-m) in
-          ap answered e ∙ untold (sizesOf bytes) f
+        pub number-outside : t ≡ true → refused 11 ≡ tried (orderQ bytes index k) (sizesOf bytes)
+        number-outside o = told (sizesOf bytes) (last-told ∙ first-broken 11 [] o)
+
+        pub order-passed : t ≡ false → answered s ≡ tried (orderQ bytes index k) (sizesOf bytes)
+        unfolding firstBroken
+        order-passed i =
+            let sizes : ℕ → ℕ → Sizes = λ x y. record { n = x; m = y } in
+            ap answered (ap₂ sizes (order-sound .is-n) (order-sound .is-m))
+            ∙ untold (sizesOf bytes) (last-told ∙ first-kept 11 [] i)

@@ -25,7 +25,8 @@ use Rattle.forest.specs.Laws.Sections.{length-each, each-at}
 use Rattle.queries.specs.View.{View, viewBy, blockMarks, sectionOf}
 use Rattle.queries.specs.Queries.{childCount, vertexOr, childOf, pastCount, visitOf, found, visitedOf}
 use Rattle.queries.proofs.Laws.Ones.{positive, part-length, count-next, found-here, found-none}
-use Rattle.queries.specs.Steps.{Beside}
+use Rattle.queries.specs.Steps.{Beside, Ranged}
+use Rattle.queries.specs.Laws.Asked.{vertex-in}
 use Rattle.queries.specs.Laws.Framed.{length-E}
 use Rattle.queries.proofs.Laws.Stepping.{block-bounds, block-marks, block-neighbour, below-end}
 
@@ -135,41 +136,74 @@ module _ (w : View) where
 
 -- ---- the block of u, whose fields are those from a up to b
 
+-- its numbers are small
+pub block-room : {bytes index : List ℕ} {n m v a b : ℕ} → Beside bytes index n m → Ranged n v
+    → a ≡ getD (startsOf (unary bytes)) (v - 1) 0 → b ≡ getD (startsOf (unary bytes)) (v - 1 + 1) 0
+    → (a ≤ b) × (b ≤ 2 * m) × (v - 1 < n) × (n ≤ 4096) × (m ≤ 16384)
+block-room o r ea eb =
+    let h = vertex-in r in
+    let (x, y) = block-bounds (o .sound) h ea eb in
+    (x, y, h, o .framed .n-fits, o .framed .m-fits)
+
 module _ {bytes : List ℕ} {n m u a b : ℕ} (index : List ℕ) (o : Sound bytes n m) (h : u < n) (ea : a ≡ getD (startsOf (unary bytes)) u 0) (eb : b ≡ getD (startsOf (unary bytes)) (u + 1) 0) where
   pub children-counted : {r : ℕ} → r ≡ count (take (b - a) (drop (a + u + 1) (sectionOf n m index 0))) → r ≡ childCount (viewBy n m bytes index) u
   unfolding childCount
   children-counted e = e ∙ ap count (sym (block-marks o h ea eb (sectionOf n m index 0)))
 
 -- Child, from the numbers that the code reads: p is the place of E's j-th one in the block
-module _ {bytes index : List ℕ} {n m u a b j p : ℕ} (o : Beside bytes index n m) (h : u < n) (ea : a ≡ getD (startsOf (unary bytes)) u 0) (eb : b ≡ getD (startsOf (unary bytes)) (u + 1) 0)
-    (nz : j ≡ 0 → ⊥) (ep : p ≡ select (take (b - a) (drop (a + u + 1) (sectionOf n m index 0))) j) where
+pub record Chosen (bytes index : List ℕ) (n m v a b j p : ℕ) : Type 0 where
+  pub beside : Beside bytes index n m
+  pub ranged : Ranged n v
+  pub from : a ≡ getD (startsOf (unary bytes)) (v - 1) 0
+  pub to : b ≡ getD (startsOf (unary bytes)) (v - 1 + 1) 0
+  pub asked : j ≡ 0 → ⊥
+  pub chosen : p ≡ select (take (b - a) (drop (a + (v - 1) + 1) (sectionOf n m index 0))) j
+
+module _ {bytes index : List ℕ} {n m v a b j p : ℕ} (c : Chosen bytes index n m v a b j p) where
   abbrev view : View
   view = viewBy n m bytes index
 
+  abbrev u : ℕ
+  u = v - 1
+
+  inside : v - 1 < n
+  inside = vertex-in (c .ranged)
+
   place : p ≡ select (blockMarks bytes (sectionOf n m index 0) u) j
-  place = ep ∙ ap (λ (t : List Bool). select t j) (sym (block-marks (o .sound) h ea eb (sectionOf n m index 0)))
+  place =
+      let marks = block-marks (c .beside .sound) inside (c .from) (c .to) (sectionOf n m index 0) in
+      c .chosen ∙ ap (λ (t : List Bool). select t j) (sym marks)
 
   fits : p ≤ b - a
   fits =
-      let k = length-E (o .framed) in
-      let (r, l) = block-bounds (o .sound) h ea eb in
+      let k = length-E (c .beside .framed) in
+      let (r, l, h, y, z) = block-room (c .beside) (c .ranged) (c .from) (c .to) in
       let x = part-length (sectionOf n m index 0) (a + u + 1) (b - a) (omega arith) in
-      let y = select-le (take (b - a) (drop (a + u + 1) (sectionOf n m index 0))) j in
+      let q = select-le (take (b - a) (drop (a + u + 1) (sectionOf n m index 0))) j in
+      let o = c .chosen in
       omega arith
 
   pub few-told : p ≡ 0 → refused 13 ≡ triedThen ((13, pastCount view u j) ∷ []) (childOf view u j)
-  few-told z = too-few view u j nz place z
+  few-told z = too-few view u j (c .asked) place z
 
   module _ (some : p ≡ 0 → ⊥) where
-    pub child-room : a + (p - 1) < 2 * m
-    child-room = let (r, l) = block-bounds (o .sound) h ea eb in below-end r l fits some
+    pub child-room : (a + (p - 1) < 2 * m) × (m ≤ 16384)
+    child-room =
+        let (r, l, h, y, z) = block-room (c .beside) (c .ranged) (c .from) (c .to) in
+        (below-end r l fits some, c .beside .framed .m-fits)
 
     module _ {t : ℕ} (et : t ≡ getD (fields bytes) (a + (p - 1)) 0) where
       leads : target (blocks bytes) u (p - 1) ≡ t
-      leads = block-neighbour (o .sound) h ea eb (p - 1) (let f = fits in let q = positive some in omega arith) ∙ sym et
+      leads =
+          let f = fits in
+          let q = positive some in
+          block-neighbour (c .beside .sound) inside (c .from) (c .to) (p - 1) (omega arith) ∙ sym et
+
+      vertices : length (blocks bytes) ≡ n
+      vertices = sound-vertices (c .beside .sound)
 
       pub there-told : t < n → answered (t + 1) ≡ triedThen ((13, pastCount view u j) ∷ []) (childOf view u j)
-      there-told l = child-there view u j nz place some leads (let k = sound-vertices (o .sound) in omega arith)
+      there-told l = child-there view u j (c .asked) place some leads (omega (arith, vertices))
 
       pub stray-told : n ≤ t → refused 12 ≡ triedThen ((13, pastCount view u j) ∷ []) (childOf view u j)
-      stray-told l = child-stray view u j nz place some leads (let k = sound-vertices (o .sound) in omega arith)
+      stray-told l = child-stray view u j (c .asked) place some leads (omega (arith, vertices))

@@ -20,7 +20,8 @@ use Rattle.record.specs.Answers.{answered}
 use Rattle.record.specs.Starts.{startsOf}
 use Rattle.record.specs.Laws.Stores.{cell-same, cell-other}
 use Rattle.queries.specs.View.{viewBy, sectionOf, numberOf, blockMarks}
-use Rattle.queries.specs.Queries.{Step, stuck, top, rise, stepUp, parentBy, unlessZero, parentOf, headBy}
+use Rattle.queries.specs.Queries.{Step, stuck, top, rise, stepUp, parentBy, parentOf, headBy}
+use Rattle.queries.specs.Answers.{unlessZero}
 use Rattle.queries.specs.Queries.{headNext}
 use Rattle.queries.specs.Written.{Terminal}
 use Rattle.queries.specs.Demands.{visit-told, parent-told, children-told, head-told}

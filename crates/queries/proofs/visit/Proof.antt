@@ -1,12 +1,9 @@
 -- `visit` meets its contract.
-use Rattle.queries.proofs.Laws.Asking.{passed-on, refused-on}
+use Rattle.queries.proofs.Laws.Asking.{asked-for, query-refused, query-answered}
 use Rattle.queries.specs.Operations.{visit}
 use Rattle.queries.specs.Queries.{visitOf}
-use Rattle.queries.specs.Laws.Asked.{asked}
-use Rattle.queries.specs.View.{View, viewOf}
-use Rattle.record.specs.Answers.{shape}
+use Rattle.queries.specs.View.{View}
 use Prim.Native.Nat.{_-_}
-use mathlib.Core.Path.{sym, ap, _∙_}
 use borrow.Author.Needs.{needs}
 use Rattle.queries.proofs.visit.Statement.{statement}
 use Rattle.queries.proofs.visit.Tie as tie
@@ -23,42 +20,25 @@ enum-known-s c = search needs
 visit-in-requires : tie.Need-visit-in-requires
 visit-in-requires c κs =
     let args = c .before .before .before .before .before .before .args in
-    let s = c .before .s in
-    let order-q = c .before .before .before .order-q in
-    let bytes = args .bytes .now in
-    let index = args .index .now in
-    let q = asked bytes index (args .v .0) (sym (ap shape (s .given .1)) ∙ order-q .ensures) in
-    (q .beside, q .ranged)
+    asked-for (args .bytes .now) (args .index .now) (args .v .0) (c .before .before .before .order-q .ensures)
+    (c .before .s .given .1)
 
 returns : tie.Need-returns
 unfolding visit
 returns c =
     let args = c .before .before .before .before .before .before .args in
-    let r = c .before .r in
-    let order-q = c .before .before .before .order-q in
-    let bytes = args .bytes .now in
-    let index = args .index .now in
-    let v = args .v .0 in
-    refused-on bytes index v (visitOf (viewOf bytes index) (v - 1)) (sym (ap shape (r .given .1)) ∙ order-q .ensures)
+    query-refused (args .bytes .now) (args .index .now) (args .v .0) (c .before .before .before .order-q .ensures)
+    (λ (w : View). visitOf w (args .v .0 - 1)) (c .before .r .given .1)
 
 returns-2 : tie.Need-returns-2
 unfolding visit
 returns-2 c =
     let args = c .before .before .before .before .before .before .before .args in
-    let s = c .before .before .s in
-    let order-q = c .before .before .before .before .order-q in
-    let visit-in = c .visit-in in
-    let v = args .v .0 in
-    let q = asked (args .bytes .now) (args .index .now) v (sym (ap shape (s .given .1)) ∙ order-q .ensures) in
-    passed-on q (λ (w : View). visitOf w (v - 1)) (visit-in .ensures)
+    query-answered (args .bytes .now) (args .index .now) (args .v .0)
+    (c .before .before .before .before .order-q .ensures)
+    (λ (w : View). visitOf w (args .v .0 - 1)) (c .before .before .s .given .1) (c .visit-in .ensures)
 
 pub visit-spec : {M : Type 1} → statement M
 visit-spec =
     tie.close
-    (tie.spec
-    order-q-requires
-    enum-known-r
-    enum-known-s
-    visit-in-requires
-    returns
-    returns-2)
+    (tie.spec order-q-requires enum-known-r enum-known-s visit-in-requires returns returns-2)

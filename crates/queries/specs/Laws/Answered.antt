@@ -1,9 +1,9 @@
 -- From what the laws say of a built view to the answers of the operations, for an index that Build wrote.
-use mathlib.Core.Path.{_≡_, sym, ap, ap₂, subst, _∙_}
+use mathlib.Core.Path.{_≡_, sym, ap, subst, _∙_}
 use mathlib.Core.Logic.{_⊎_, inl, inr}
-use mathlib.Core.Bool.{Bool, true, false, not}
+use mathlib.Core.Bool.{true, false, not}
 use mathlib.Core.List.{List, [], _∷_, _++_}
-use Prim.Native.Nat.{ℕ, suc, _-_, _≤_, _<_}
+use Prim.Native.Nat.{ℕ, suc, _-_, _<_}
 use native.Mathlib.Omega.{arith}
 use borrow.Author.Tests.{eq-eqb, ne-eqb, lt-ltb, le-ltb}
 use lib.ListN.{length, getD}
@@ -25,7 +25,8 @@ use Rattle.record.specs.Laws.Told.{untold-back, then-told, then-untold, then-pa
 use Rattle.forest.specs.Index.{indexOf, indexLength}
 use Rattle.forest.specs.Operations.{buildRules, build, built}
 use Rattle.queries.specs.View.{viewOf}
-use Rattle.queries.specs.Queries.{childCount, childOf, unlessZero}
+use Rattle.queries.specs.Queries.{childCount, childOf}
+use Rattle.queries.specs.Answers.{unlessZero}
 use Rattle.queries.specs.Operations.{orderQ, parent, head, ancestorRules, ancestor, children, noChild}
 use Rattle.queries.specs.Operations.{childRules, child, visit, visited}
 use Rattle.queries.specs.Written.{Written, Terminal, HeadsTell}

@@ -25,7 +25,8 @@ use Rattle.graph.specs.Laws.Heads.Walks.{walk-stop, HeadSteps, AncestorSteps}
 use Rattle.record.specs.Answers.{Answer, refused, answered}
 use Rattle.forest.specs.Laws.Sections.{length-each, each-at}
 use Rattle.queries.specs.View.{View}
-use Rattle.queries.specs.Queries.{top, rise, stepBy, stepUp, parentBy, unlessZero, parentOf, headBy, headNext}
+use Rattle.queries.specs.Queries.{top, rise, stepBy, stepUp, parentBy, parentOf, headBy, headNext}
+use Rattle.queries.specs.Answers.{unlessZero}
 use Rattle.queries.specs.Queries.{headOf, ancestorBy, ancestorNext, ancestorOf, childCount, vertexOr, childOf}
 use Rattle.queries.specs.Queries.{visitOf, found, visitedOf}
 use Rattle.queries.specs.Laws.Marks.{set-inside, none-set, first-set, one-set, count-each, select-each}

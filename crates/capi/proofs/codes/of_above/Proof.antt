@@ -1,6 +1,6 @@
 -- `codes::of_above` meets its contract.
 use Rattle.capi.proofs.Laws.Coded.{code-refused, code-answered, value-at}
-use Rattle.queries.specs.Queries.{orZero}
+use Rattle.queries.specs.Answers.{orZero}
 use Rattle.queries.specs.Answers.{above}
 use mathlib.Core.Path.{refl, sym, ap}
 use borrow.Author.Needs.{needs}

@@ -1,7 +1,7 @@
 -- `single::children_in` meets its contract.
-use Rattle.queries.proofs.Laws.Singles.{children-counted}
-use Rattle.queries.proofs.Laws.Stepping.{block-bounds}
+use Rattle.queries.proofs.Laws.Singles.{block-room, children-counted}
 use Rattle.queries.specs.Laws.Asked.{vertex-in}
+use Prim.Native.Nat.{_-_, _*_, _≤_, _<_}
 use native.Mathlib.Omega.{arith}
 use borrow.Author.Needs.{needs}
 use Rattle.queries.proofs.single.children_in.Statement.{statement}
@@ -19,56 +19,38 @@ add-start-of c = search needs
 start-of-requires-2 : tie.Need-start-of-requires-2
 start-of-requires-2 c κs = search needs
 
+-- the block's fields are those from a up to b
+abbrev start : tie.After-start-of2 → tie.Start
+start c = c .before .before .before .before .before
+
+room : (c : tie.After-start-of2)
+    → (c .before .start-of .result ≤ c .start-of2 .result)
+    × (c .start-of2 .result ≤ 2 * start c .args .m)
+    × (start c .args .v .0 - 1 < start c .args .n)
+    × (start c .args .n ≤ 4096)
+    × (start c .args .m ≤ 16384)
+room c = block-room (start c .pre .0) (start c .pre .1) (c .before .start-of .ensures) (c .start-of2 .ensures)
+
 add-count-children : tie.Need-add-count-children
-add-count-children c =
-    let pre = c .before .before .before .before .before .pre in
-    let start-of = c .before .start-of in
-    let start-of2 = c .start-of2 in
-    let (r, e) = block-bounds (pre .0 .sound) (vertex-in (pre .1)) (start-of .ensures) (start-of2 .ensures) in
-    let x = pre .0 .framed .n-fits in
-    let y = pre .0 .framed .m-fits in
-    let z = vertex-in (pre .1) in
-    omega arith
+add-count-children c = let (r, e, h, n, m) = room c in omega arith
 
 add-count-children-2 : tie.Need-add-count-children-2
-add-count-children-2 c =
-    let pre = c .before .before .before .before .before .pre in
-    let start-of = c .before .start-of in
-    let start-of2 = c .start-of2 in
-    let (r, e) = block-bounds (pre .0 .sound) (vertex-in (pre .1)) (start-of .ensures) (start-of2 .ensures) in
-    let x = pre .0 .framed .n-fits in
-    let y = pre .0 .framed .m-fits in
-    let z = vertex-in (pre .1) in
-    omega arith
+add-count-children-2 c = let (r, e, h, n, m) = room c in omega arith
 
 sub-count-children : tie.Need-sub-count-children
-sub-count-children c =
-    let pre = c .before .before .before .before .before .pre in
-    let start-of = c .before .start-of in
-    let start-of2 = c .start-of2 in
-    let (r, e) = block-bounds (pre .0 .sound) (vertex-in (pre .1)) (start-of .ensures) (start-of2 .ensures) in
-    r
+sub-count-children c = room c .0
 
 count-children-requires : tie.Need-count-children-requires
 count-children-requires c κs =
-    let pre = c .before .before .before .before .before .pre in
-    let start-of = c .before .start-of in
-    let start-of2 = c .start-of2 in
-    let (r, e) = block-bounds (pre .0 .sound) (vertex-in (pre .1)) (start-of .ensures) (start-of2 .ensures) in
-    let z = vertex-in (pre .1) in
-    (pre .0 .framed, omega arith)
+    let (r, e, h, n, m) = room c in (c .before .before .before .before .before .pre .0 .framed, omega arith)
 
 returns : tie.Need-returns
 returns c =
-    let pre = c .before .before .before .before .before .before .pre in
-    let start-of = c .before .before .start-of in
-    let start-of2 = c .before .start-of2 in
-    let args = c .before .before .before .before .before .before .args in
-    let count-children = c .count-children in
-    let h = vertex-in (pre .1) in
-    let a = start-of .ensures in
-    let b = start-of2 .ensures in
-    children-counted (args .index .now) (pre .0 .sound) h a b (count-children .ensures)
+    let h = vertex-in (c .before .before .before .before .before .before .pre .1) in
+    let a = c .before .before .start-of .ensures in
+    let b = c .before .start-of2 .ensures in
+    children-counted (c .before .before .before .before .before .before .args .index .now)
+    (c .before .before .before .before .before .before .pre .0 .sound) h a b (c .count-children .ensures)
 
 pub children-in-spec : {M : Type 1} → statement M
 children-in-spec =

@@ -24,28 +24,13 @@ loop-holds : tie.Need-loop-holds Inv-loop μ-loop
 loop-holds c = cells-begin (c .before .before .before .before .pre .2)
 
 get-requires : tie.Need-get-requires Inv-loop μ-loop
-get-requires c κs =
-    let pre = c .before .before .before .before .before .before .pre in
-    let loop-test = c .loop-test in
-    let l = starts-long (ready-beside (pre .0) .sound) (pre .1) in
-    let t = loop-test .taken in
-    omega arith
+get-requires c κs = let l = starts-long (ready-beside (c .before .before .before .before .before .before .pre .0) .sound) (c .before .before .before .before .before .before .pre .1) in let t = c .loop-test .taken in omega arith
 
 add-get : tie.Need-add-get Inv-loop μ-loop
-add-get c =
-    let pre = c .before .before .before .before .before .before .before .pre in
-    let loop-test = c .before .loop-test in
-    let f = ready-beside (pre .0) .framed .n-fits in
-    let t = loop-test .taken in
-    omega arith
+add-get c = let f = ready-beside (c .before .before .before .before .before .before .before .pre .0) .framed .n-fits in let t = c .before .loop-test .taken in omega arith
 
 get-requires-2 : tie.Need-get-requires-2 Inv-loop μ-loop
-get-requires-2 c κs =
-    let pre = c .before .before .before .before .before .before .before .pre in
-    let loop-test = c .before .loop-test in
-    let l = starts-long (ready-beside (pre .0) .sound) (pre .1) in
-    let t = loop-test .taken in
-    omega arith
+get-requires-2 c κs = let l = starts-long (ready-beside (c .before .before .before .before .before .before .before .pre .0) .sound) (c .before .before .before .before .before .before .before .pre .1) in let t = c .before .loop-test .taken in omega arith
 
 add-count-children : tie.Need-add-count-children Inv-loop μ-loop
 add-count-children c =
@@ -70,10 +55,7 @@ add-count-children-2 c =
 sub-count-children : tie.Need-sub-count-children Inv-loop μ-loop
 sub-count-children c =
     let pre = c .before .before .before .before .before .before .before .before .before .pre in
-    let loop-test = c .before .before .before .loop-test in
-    let get = c .before .before .get in
-    let get2 = c .before .get2 in
-    block-span (pre .0) (pre .1) (loop-test .taken) (get .ensures .0) (get2 .ensures .0) .0
+    block-span (pre .0) (pre .1) (c .before .before .before .loop-test .taken) (c .before .before .get .ensures .0) (c .before .get2 .ensures .0) .0
 
 count-children-requires : tie.Need-count-children-requires Inv-loop μ-loop
 count-children-requires c κs =
@@ -85,40 +67,22 @@ count-children-requires c κs =
 put-requires : tie.Need-put-requires Inv-loop μ-loop
 put-requires c κs =
     let pre = c .before .before .before .before .before .before .before .before .before .before .pre in
-    let loop-test = c .before .before .before .before .loop-test in
-    let loop = c .before .before .before .before .before .loop in
-    let get = c .before .before .before .get in
-    let get2 = c .before .before .get2 in
-    let count-children = c .count-children in
-    let t = loop-test .taken in
-    let s = loop .inv .size in
-    (omega arith, count-small (pre .0) (pre .1) t (get .ensures .0) (get2 .ensures .0) (count-children .ensures))
+    let t = c .before .before .before .before .loop-test .taken in
+    let s = c .before .before .before .before .before .loop .inv .size in
+    (omega arith, count-small (pre .0) (pre .1) t (c .before .before .before .get .ensures .0) (c .before .before .get2 .ensures .0) (c .count-children .ensures))
 
 add-v : tie.Need-add-v Inv-loop μ-loop
-add-v c =
-    let pre =
-    c .before .before .before .before .before .before .before .before .before .before .before .before .before .pre in
-    let loop-test = c .before .before .before .before .before .before .before .loop-test in
-    let f = ready-beside (pre .0) .framed .n-fits in
-    let t = loop-test .taken in
-    omega arith
+add-v c = let f = ready-beside (c .before .before .before .before .before .before .before .before .before .before .before .before .before .pre .0) .framed .n-fits in let t = c .before .before .before .before .before .before .before .loop-test .taken in omega arith
 
 loop-less : tie.Need-loop-less Inv-loop μ-loop
 loop-less c = let t = c .before .before .before .before .before .before .before .loop-test .taken in omega arith
 
 loop-again : tie.Need-loop-again Inv-loop μ-loop
 loop-again c =
-    let pre =
-    c .before .before .before .before .before .before .before .before .before .before .before .before .before .pre in
-    let loop-test = c .before .before .before .before .before .before .before .loop-test in
-    let get = c .before .before .before .before .before .before .get in
-    let get2 = c .before .before .before .before .before .get2 in
-    let count-children = c .before .before .before .count-children in
-    let loop = c .before .before .before .before .before .before .before .before .loop in
-    let put = c .before .before .put in
-    let t = loop-test .taken in
-    let e = count-cell (pre .0) (pre .1) t (get .ensures .0) (get2 .ensures .0) (count-children .ensures) in
-    cells-put (loop .inv) apart-self refl t e (put .ensures)
+    let pre = c .before .before .before .before .before .before .before .before .before .before .before .before .before .pre in
+    let t = c .before .before .before .before .before .before .before .loop-test .taken in
+    let e = count-cell (pre .0) (pre .1) t (c .before .before .before .before .before .before .get .ensures .0) (c .before .before .before .before .before .get2 .ensures .0) (c .before .before .before .count-children .ensures) in
+    cells-put (c .before .before .before .before .before .before .before .before .loop .inv) apart-self refl t e (c .before .before .put .ensures)
 
 same-length : tie.Need-same-length Inv-loop μ-loop
 same-length c = c .before .loop .inv .size ∙ sym (c .before .before .before .before .before .before .pre .2)

@@ -11,36 +11,19 @@ use Rattle.queries.proofs.table.place_of.Statement.{statement}
 use Rattle.queries.proofs.table.place_of.Tie as tie
 
 get-requires : tie.Need-get-requires
-get-requires c κs =
-    let pre = c .before .before .before .before .pre in
-    let l = starts-long (ready-beside (pre .0) .sound) (pre .1) in
-    let h = at-inside (pre .0) (pre .2) (pre .3) in
-    omega arith
+get-requires c κs = let l = starts-long (ready-beside (c .before .before .before .before .pre .0) .sound) (c .before .before .before .before .pre .1) in let h = at-inside (c .before .before .before .before .pre .0) (c .before .before .before .before .pre .2) (c .before .before .before .before .pre .3) in omega arith
 
 add-get : tie.Need-add-get
-add-get c =
-    let pre = c .before .before .before .before .before .pre in
-    let f = ready-beside (pre .0) .framed .n-fits in
-    let h = at-inside (pre .0) (pre .2) (pre .3) in
-    omega arith
+add-get c = let f = ready-beside (c .before .before .before .before .before .pre .0) .framed .n-fits in let h = at-inside (c .before .before .before .before .before .pre .0) (c .before .before .before .before .before .pre .2) (c .before .before .before .before .before .pre .3) in omega arith
 
 get-requires-2 : tie.Need-get-requires-2
-get-requires-2 c κs =
-    let pre = c .before .before .before .before .before .pre in
-    let l = starts-long (ready-beside (pre .0) .sound) (pre .1) in
-    let h = at-inside (pre .0) (pre .2) (pre .3) in
-    omega arith
+get-requires-2 c κs = let l = starts-long (ready-beside (c .before .before .before .before .before .pre .0) .sound) (c .before .before .before .before .before .pre .1) in let h = at-inside (c .before .before .before .before .before .pre .0) (c .before .before .before .before .before .pre .2) (c .before .before .before .before .before .pre .3) in omega arith
 
 step-up-requires : tie.Need-step-up-requires
 step-up-requires c κs =
-    let pre = c .before .before .before .before .before .before .pre in
-    let get = c .before .get in
-    let get2 = c .get2 in
-    let b = ready-beside (pre .0) in
-    let h = at-inside (pre .0) (pre .2) (pre .3) in
-    let x = get .ensures .0 in
-    let y = get2 .ensures .0 in
-    (b, h, block-from b (pre .1) h x y, block-to b (pre .1) h x y)
+    let b = ready-beside (c .before .before .before .before .before .before .pre .0) in
+    let h = at-inside (c .before .before .before .before .before .before .pre .0) (c .before .before .before .before .before .before .pre .2) (c .before .before .before .before .before .before .pre .3) in
+    (b, h, block-from b (c .before .before .before .before .before .before .pre .1) h (c .before .get .ensures .0) (c .get2 .ensures .0), block-to b (c .before .before .before .before .before .before .pre .1) h (c .before .get .ensures .0) (c .get2 .ensures .0))
 
 enum-told : tie.Need-enum-told
 enum-told c = search needs
@@ -49,160 +32,92 @@ enum-told-2 : tie.Need-enum-told-2
 enum-told-2 c = search needs
 
 add-t17 : tie.Need-add-t17
-add-t17 c =
-    let pre = c .before .before .before .before .before .before .before .before .before .pre in
-    let f = ready-beside (pre .0) .framed .n-fits in
-    let h = at-inside (pre .0) (pre .2) (pre .3) in
-    omega arith
+add-t17 c = let f = ready-beside (c .before .before .before .before .before .before .before .before .before .pre .0) .framed .n-fits in let h = at-inside (c .before .before .before .before .before .before .before .before .before .pre .0) (c .before .before .before .before .before .before .before .before .before .pre .2) (c .before .before .before .before .before .before .before .before .before .pre .3) in omega arith
 
 enum-known-r : tie.Need-enum-known-r
 enum-known-r c = search needs
 
 add-bridge-mark : tie.Need-add-bridge-mark
-add-bridge-mark c =
-    let pre = c .before .before .before .before .before .before .before .before .before .before .pre in
-    let get = c .before .before .before .before .before .get in
-    let f = ready-beside (pre .0) .framed .n-fits in
-    let h = at-inside (pre .0) (pre .2) (pre .3) in
-    let g = get .ensures .1 in
-    omega arith
+add-bridge-mark c = let f = ready-beside (c .before .before .before .before .before .before .before .before .before .before .pre .0) .framed .n-fits in let h = at-inside (c .before .before .before .before .before .before .before .before .before .before .pre .0) (c .before .before .before .before .before .before .before .before .before .before .pre .2) (c .before .before .before .before .before .before .before .before .before .before .pre .3) in let g = c .before .before .before .before .before .get .ensures .1 in omega arith
 
 add-bridge-mark-2 : tie.Need-add-bridge-mark-2
-add-bridge-mark-2 c =
-    let pre = c .before .before .before .before .before .before .before .before .before .before .pre in
-    let get = c .before .before .before .before .before .get in
-    let f = ready-beside (pre .0) .framed .n-fits in
-    let h = at-inside (pre .0) (pre .2) (pre .3) in
-    let g = get .ensures .1 in
-    omega arith
+add-bridge-mark-2 c = let f = ready-beside (c .before .before .before .before .before .before .before .before .before .before .pre .0) .framed .n-fits in let h = at-inside (c .before .before .before .before .before .before .before .before .before .before .pre .0) (c .before .before .before .before .before .before .before .before .before .before .pre .2) (c .before .before .before .before .before .before .before .before .before .before .pre .3) in let g = c .before .before .before .before .before .get .ensures .1 in omega arith
 
 add-bridge-mark-3 : tie.Need-add-bridge-mark-3
 add-bridge-mark-3 c =
-    let pre = c .before .before .before .before .before .before .before .before .before .before .pre in
-    let r = c .before .r in
-    let step-up = c .before .before .before .step-up in
-    let get = c .before .before .before .before .before .get in
-    let get2 = c .before .before .before .before .get2 in
-    let b = ready-beside (pre .0) in
-    let h = at-inside (pre .0) (pre .2) (pre .3) in
-    let e = sym (ap stepOf (r .given .1)) ∙ step-up .ensures in
-    let q = rise-room b (pre .1) h (get .ensures .0) (get2 .ensures .0) e in
+    let b = ready-beside (c .before .before .before .before .before .before .before .before .before .before .pre .0) in
+    let h = at-inside (c .before .before .before .before .before .before .before .before .before .before .pre .0) (c .before .before .before .before .before .before .before .before .before .before .pre .2) (c .before .before .before .before .before .before .before .before .before .before .pre .3) in
+    let e = sym (ap stepOf (c .before .r .given .1)) ∙ c .before .before .before .step-up .ensures in
+    let q = rise-room b (c .before .before .before .before .before .before .before .before .before .before .pre .1) h (c .before .before .before .before .before .get .ensures .0) (c .before .before .before .before .get2 .ensures .0) e in
     let x = b .framed .n-fits in
     let y = b .framed .m-fits in
     omega arith
 
 bridge-mark-requires : tie.Need-bridge-mark-requires
 bridge-mark-requires c κs =
-    let pre = c .before .before .before .before .before .before .before .before .before .before .pre in
-    let r = c .before .r in
-    let step-up = c .before .before .before .step-up in
-    let get = c .before .before .before .before .before .get in
-    let get2 = c .before .before .before .before .get2 in
-    let b = ready-beside (pre .0) in
-    let h = at-inside (pre .0) (pre .2) (pre .3) in
-    let e = sym (ap stepOf (r .given .1)) ∙ step-up .ensures in
-    (b .framed, rise-room b (pre .1) h (get .ensures .0) (get2 .ensures .0) e)
+    let b = ready-beside (c .before .before .before .before .before .before .before .before .before .before .pre .0) in
+    let h = at-inside (c .before .before .before .before .before .before .before .before .before .before .pre .0) (c .before .before .before .before .before .before .before .before .before .before .pre .2) (c .before .before .before .before .before .before .before .before .before .before .pre .3) in
+    let e = sym (ap stepOf (c .before .r .given .1)) ∙ c .before .before .before .step-up .ensures in
+    (b .framed, rise-room b (c .before .before .before .before .before .before .before .before .before .before .pre .1) h (c .before .before .before .before .before .get .ensures .0) (c .before .before .before .before .get2 .ensures .0) e)
 
 add-t22 : tie.Need-add-t22
 add-t22 c =
-    let pre = c .before .before .before .before .before .before .before .before .before .before .before .before .pre in
-    let r = c .before .before .before .r in
-    let step-up = c .before .before .before .before .before .step-up in
-    let get = c .before .before .before .before .before .before .before .get in
-    let get2 = c .before .before .before .before .before .before .get2 in
-    let h = at-inside (pre .0) (pre .2) (pre .3) in
-    let e = sym (ap stepOf (r .given .1)) ∙ step-up .ensures in
-    let l = risen-to (pre .0) h (pre .1) (get .ensures .0) (get2 .ensures .0) e in
-    let f = ready-beside (pre .0) .framed .n-fits in
+    let h = at-inside (c .before .before .before .before .before .before .before .before .before .before .before .before .pre .0) (c .before .before .before .before .before .before .before .before .before .before .before .before .pre .2) (c .before .before .before .before .before .before .before .before .before .before .before .before .pre .3) in
+    let e = sym (ap stepOf (c .before .before .before .r .given .1)) ∙ c .before .before .before .before .before .step-up .ensures in
+    let l = risen-to (c .before .before .before .before .before .before .before .before .before .before .before .before .pre .0) h (c .before .before .before .before .before .before .before .before .before .before .before .before .pre .1) (c .before .before .before .before .before .before .before .get .ensures .0) (c .before .before .before .before .before .before .get2 .ensures .0) e in
+    let f = ready-beside (c .before .before .before .before .before .before .before .before .before .before .before .before .pre .0) .framed .n-fits in
     omega arith
 
 add-t23 : tie.Need-add-t23
-add-t23 c =
-    let pre = c .before .before .before .before .before .before .before .before .before .before .before .before .pre in
-    let f = ready-beside (pre .0) .framed .n-fits in
-    let h = at-inside (pre .0) (pre .2) (pre .3) in
-    omega arith
+add-t23 c = let f = ready-beside (c .before .before .before .before .before .before .before .before .before .before .before .before .pre .0) .framed .n-fits in let h = at-inside (c .before .before .before .before .before .before .before .before .before .before .before .before .pre .0) (c .before .before .before .before .before .before .before .before .before .before .before .before .pre .2) (c .before .before .before .before .before .before .before .before .before .before .before .before .pre .3) in omega arith
 
 returns : tie.Need-returns
 returns c =
-    let pre = c .before .before .before .before .before .before .before .before .before .before .before .before .pre in
-    let r = c .before .before .before .r in
-    let step-up = c .before .before .before .before .before .step-up in
-    let get = c .before .before .before .before .before .before .before .get in
-    let get2 = c .before .before .before .before .before .before .get2 in
-    let bridge-mark = c .before .bridge-mark in
-    let if1 = c .if1 in
-    let b = ready-beside (pre .0) in
-    let h = at-inside (pre .0) (pre .2) (pre .3) in
-    let e = sym (ap stepOf (r .given .1)) ∙ step-up .ensures in
-    let l = risen-to (pre .0) h (pre .1) (get .ensures .0) (get2 .ensures .0) e in
+    let b = ready-beside (c .before .before .before .before .before .before .before .before .before .before .before .before .pre .0) in
+    let h = at-inside (c .before .before .before .before .before .before .before .before .before .before .before .before .pre .0) (c .before .before .before .before .before .before .before .before .before .before .before .before .pre .2) (c .before .before .before .before .before .before .before .before .before .before .before .before .pre .3) in
+    let e = sym (ap stepOf (c .before .before .before .r .given .1)) ∙ c .before .before .before .before .before .step-up .ensures in
+    let l = risen-to (c .before .before .before .before .before .before .before .before .before .before .before .before .pre .0) h (c .before .before .before .before .before .before .before .before .before .before .before .before .pre .1) (c .before .before .before .before .before .before .before .get .ensures .0) (c .before .before .before .before .before .before .get2 .ensures .0) e in
     let f = b .framed .n-fits in
-    let s = head-stops b (pre .1) h (get .ensures .0) (get2 .ensures .0) e (bridge-mark .ensures) (if1 .taken) in
-    (risen-parent (pre .0) h e, stopped (pre .0) h s, omega arith, omega arith)
+    (risen-parent (c .before .before .before .before .before .before .before .before .before .before .before .before .pre .0) h e, stopped (c .before .before .before .before .before .before .before .before .before .before .before .before .pre .0) h (head-stops b (c .before .before .before .before .before .before .before .before .before .before .before .before .pre .1) h (c .before .before .before .before .before .before .before .get .ensures .0) (c .before .before .before .before .before .before .get2 .ensures .0) e (c .before .bridge-mark .ensures) (c .if1 .taken)), omega arith, omega arith)
 
 add-t19 : tie.Need-add-t19
 add-t19 c =
-    let pre = c .before .before .before .before .before .before .before .before .before .before .before .before .pre in
-    let r = c .before .before .before .r in
-    let step-up = c .before .before .before .before .before .step-up in
-    let get = c .before .before .before .before .before .before .before .get in
-    let get2 = c .before .before .before .before .before .before .get2 in
-    let h = at-inside (pre .0) (pre .2) (pre .3) in
-    let e = sym (ap stepOf (r .given .1)) ∙ step-up .ensures in
-    let l = risen-to (pre .0) h (pre .1) (get .ensures .0) (get2 .ensures .0) e in
-    let f = ready-beside (pre .0) .framed .n-fits in
+    let h = at-inside (c .before .before .before .before .before .before .before .before .before .before .before .before .pre .0) (c .before .before .before .before .before .before .before .before .before .before .before .before .pre .2) (c .before .before .before .before .before .before .before .before .before .before .before .before .pre .3) in
+    let e = sym (ap stepOf (c .before .before .before .r .given .1)) ∙ c .before .before .before .before .before .step-up .ensures in
+    let l = risen-to (c .before .before .before .before .before .before .before .before .before .before .before .before .pre .0) h (c .before .before .before .before .before .before .before .before .before .before .before .before .pre .1) (c .before .before .before .before .before .before .before .get .ensures .0) (c .before .before .before .before .before .before .get2 .ensures .0) e in
+    let f = ready-beside (c .before .before .before .before .before .before .before .before .before .before .before .before .pre .0) .framed .n-fits in
     omega arith
 
 get-requires-3 : tie.Need-get-requires-3
 get-requires-3 c κs =
-    let pre = c .before .before .before .before .before .before .before .before .before .before .before .before .pre in
-    let r = c .before .before .before .r in
-    let step-up = c .before .before .before .before .before .step-up in
-    let get = c .before .before .before .before .before .before .before .get in
-    let get2 = c .before .before .before .before .before .before .get2 in
-    let h = at-inside (pre .0) (pre .2) (pre .3) in
-    let e = sym (ap stepOf (r .given .1)) ∙ step-up .ensures in
-    let l = risen-to (pre .0) h (pre .1) (get .ensures .0) (get2 .ensures .0) e in
-    let s = pre .4 .hold .size in
+    let h = at-inside (c .before .before .before .before .before .before .before .before .before .before .before .before .pre .0) (c .before .before .before .before .before .before .before .before .before .before .before .before .pre .2) (c .before .before .before .before .before .before .before .before .before .before .before .before .pre .3) in
+    let e = sym (ap stepOf (c .before .before .before .r .given .1)) ∙ c .before .before .before .before .before .step-up .ensures in
+    let l = risen-to (c .before .before .before .before .before .before .before .before .before .before .before .before .pre .0) h (c .before .before .before .before .before .before .before .before .before .before .before .before .pre .1) (c .before .before .before .before .before .before .before .get .ensures .0) (c .before .before .before .before .before .before .get2 .ensures .0) e in
+    let s = c .before .before .before .before .before .before .before .before .before .before .before .before .pre .4 .hold .size in
     omega arith
 
 returns-2 : tie.Need-returns-2
 returns-2 c =
-    let pre = c .before .before .before .before .before .before .before .before .before .pre in
-    let enum-told = c .enum-told in
-    let step-up = c .before .before .step-up in
-    let h = at-inside (pre .0) (pre .2) (pre .3) in
-    never-stuck (pre .0) h (sym (ap stepOf (enum-told .given .1)) ∙ step-up .ensures)
+    let h = at-inside (c .before .before .before .before .before .before .before .before .before .pre .0) (c .before .before .before .before .before .before .before .before .before .pre .2) (c .before .before .before .before .before .before .before .before .before .pre .3) in
+    never-stuck (c .before .before .before .before .before .before .before .before .before .pre .0) h (sym (ap stepOf (c .enum-told .given .1)) ∙ c .before .before .step-up .ensures)
 
 returns-3 : tie.Need-returns-3
 returns-3 c =
-    let pre = c .before .before .before .before .before .before .before .before .before .pre in
-    let enum-told2 = c .enum-told2 in
-    let step-up = c .before .before .step-up in
-    let f = ready-beside (pre .0) .framed .n-fits in
-    let h = at-inside (pre .0) (pre .2) (pre .3) in
-    let e = sym (ap stepOf (enum-told2 .given .1)) ∙ step-up .ensures in
-    (root-parent (pre .0) h e, root-head (pre .0) h e, omega arith, omega arith)
+    let f = ready-beside (c .before .before .before .before .before .before .before .before .before .pre .0) .framed .n-fits in
+    let h = at-inside (c .before .before .before .before .before .before .before .before .before .pre .0) (c .before .before .before .before .before .before .before .before .before .pre .2) (c .before .before .before .before .before .before .before .before .before .pre .3) in
+    let e = sym (ap stepOf (c .enum-told2 .given .1)) ∙ c .before .before .step-up .ensures in
+    (root-parent (c .before .before .before .before .before .before .before .before .before .pre .0) h e, root-head (c .before .before .before .before .before .before .before .before .before .pre .0) h e, omega arith, omega arith)
 
 returns-4 : tie.Need-returns-4
 returns-4 c =
-    let pre =
-    c .before .before .before .before .before .before .before .before .before .before .before .before .before .pre in
-    let r = c .before .before .before .before .r in
-    let step-up = c .before .before .before .before .before .before .step-up in
-    let get = c .before .before .before .before .before .before .before .before .get in
-    let get2 = c .before .before .before .before .before .before .before .get2 in
-    let bridge-mark = c .before .before .bridge-mark in
-    let if1 = c .before .if1 in
-    let get3 = c .get3 in
-    let b = ready-beside (pre .0) in
-    let h = at-inside (pre .0) (pre .2) (pre .3) in
-    let e = sym (ap stepOf (r .given .1)) ∙ step-up .ensures in
-    let l = risen-to (pre .0) h (pre .1) (get .ensures .0) (get2 .ensures .0) e in
-    let up = head-rises b (pre .1) h (get .ensures .0) (get2 .ensures .0) e (bridge-mark .ensures) (if1 .left) in
-    let p = risen-parent (pre .0) h e in
+    let b = ready-beside (c .before .before .before .before .before .before .before .before .before .before .before .before .before .pre .0) in
+    let h = at-inside (c .before .before .before .before .before .before .before .before .before .before .before .before .before .pre .0) (c .before .before .before .before .before .before .before .before .before .before .before .before .before .pre .2) (c .before .before .before .before .before .before .before .before .before .before .before .before .before .pre .3) in
+    let e = sym (ap stepOf (c .before .before .before .before .r .given .1)) ∙ c .before .before .before .before .before .before .step-up .ensures in
+    let l = risen-to (c .before .before .before .before .before .before .before .before .before .before .before .before .before .pre .0) h (c .before .before .before .before .before .before .before .before .before .before .before .before .before .pre .1) (c .before .before .before .before .before .before .before .before .get .ensures .0) (c .before .before .before .before .before .before .before .get2 .ensures .0) e in
+    let up = head-rises b (c .before .before .before .before .before .before .before .before .before .before .before .before .before .pre .1) h (c .before .before .before .before .before .before .before .before .get .ensures .0) (c .before .before .before .before .before .before .before .get2 .ensures .0) e (c .before .before .bridge-mark .ensures) (c .before .if1 .left) in
+    let p = risen-parent (c .before .before .before .before .before .before .before .before .before .before .before .before .before .pre .0) h e in
     let f = b .framed .n-fits in
-    (p, risen-head (pre .0) h l (sym p) up (pre .3) (pre .2) (pre .4) (get3 .ensures .0), omega arith, get3 .ensures .1)
+    (p, risen-head (c .before .before .before .before .before .before .before .before .before .before .before .before .before .pre .0) h l (sym p) up (c .before .before .before .before .before .before .before .before .before .before .before .before .before .pre .3) (c .before .before .before .before .before .before .before .before .before .before .before .before .before .pre .2) (c .before .before .before .before .before .before .before .before .before .before .before .before .before .pre .4) (c .get3 .ensures .0), omega arith, c .get3 .ensures .1)
 
 pub place-of-spec : {M : Type 1} → statement M
 place-of-spec =

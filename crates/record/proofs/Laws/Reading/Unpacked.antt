@@ -4,7 +4,7 @@ use mathlib.Core.Bool.{Bool}
 use mathlib.Core.List.{List}
 use Prim.Native.Nat.{ℕ, _+_, _*_, _≤_, _<_}
 use native.Mathlib.Omega.{arith}
-use lib.ListN.{length, getD, set, length-map}
+use lib.ListN.{length, set, length-map}
 use Rattle.bits.specs.Bits.{field}
 use Rattle.bits.specs.Steps.{FourAt}
 use Rattle.record.specs.Record.{fieldsFrom}
