@@ -20,7 +20,7 @@ use Rattle.forest.specs.Operations.{build, built}
 use Rattle.queries.specs.View.{sectionBit, numberBit, placeOf, Alike}
 use Rattle.queries.specs.Answers.{unlessZero}
 use Rattle.queries.specs.Operations.{parent, head, ancestor, children, child, visit, visited}
-use Rattle.queries.specs.Written.{Written, Terminal, Once, HeadsTell, SameAnswers}
+use Rattle.queries.specs.Written.{Written, Terminal, VisitNumber, Once, HeadsTell, SameAnswers}
 use Rattle.queries.specs.Laws.Answered as Answered
 use Rattle.queries.specs.Laws.Built.{built-own, built-fill, built-rest}
 use Rattle.queries.specs.Laws.Edges.{E-told, P-told, P-as-E, E-as-P, P-none, P-once, B-told, B-both}
@@ -121,28 +121,29 @@ module _ {bytes index : List ℕ} (w : Written bytes index) where
     pub no-child-told : (j : ℕ) → (j ≡ 0) ⊎ (length (childrenIn F (v - 1)) < j) → child bytes index v j ≡ refused 13
     no-child-told = Answered.child-refused w t
 
-    -- Visit, and Visited for v as a visit number
+    -- Visit, and that Visited undoes it
     pub visit-told : visit bytes index v ≡ answered (suc (number F (v - 1)))
     visit-told = Answered.visit-answer w t
 
-    pub visited-told : visited bytes index v ≡ answered (suc (vertexAt F (v - 1)))
-    visited-told = Answered.visited-answer w t
-
-    -- they are inverse to each other
     pub visited-of-visit : {i : ℕ} → visit bytes index v ≡ answered i → visited bytes index i ≡ answered v
     visited-of-visit = Answered.visited-back w t
 
-    pub visit-of-visited : {x : ℕ} → visited bytes index v ≡ answered x → visit bytes index x ≡ answered v
+  -- Visited, and that Visit undoes it
+  module _ {i : ℕ} (t : VisitNumber bytes i) where
+    pub visited-told : visited bytes index i ≡ answered (suc (vertexAt F (i - 1)))
+    visited-told = Answered.visited-answer w t
+
+    pub visit-of-visited : {v : ℕ} → visited bytes index i ≡ answered v → visit bytes index v ≡ answered i
     visit-of-visited = Answered.visit-back w t
 
-    -- Ancestor: yes or no, by the forest's relation
-    pub ancestor-answered : {x : ℕ} → Terminal bytes x
-        → ancestor bytes index v x ≡ answered (ancestorIn F (v - 1) (x - 1))
-    ancestor-answered = Answered.ancestor-answer w t
+  -- Ancestor: yes or no, by the forest's relation
+  module _ {u v : ℕ} (t : Terminal bytes u) (r : Terminal bytes v) where
+    pub ancestor-answered : ancestor bytes index u v ≡ answered (ancestorIn F (u - 1) (v - 1))
+    ancestor-answered = Answered.ancestor-answer w t r
 
-    pub ancestor-relation : (u : ℕ) → (ancestorIn F (u - 1) (v - 1) ≡ true) ↔ Ancestor F (u - 1) (v - 1)
-    ancestor-relation u =
-        ancestor-told (Answered.formed w .in-range) (Answered.covered w) (u - 1) (v - 1) (Answered.vertex-of w t)
+    pub ancestor-relation : (ancestorIn F (u - 1) (v - 1) ≡ true) ↔ Ancestor F (u - 1) (v - 1)
+    ancestor-relation =
+        ancestor-told (Answered.formed w .in-range) (Answered.covered w) (u - 1) (v - 1) (Answered.vertex-of w r)
 
   -- ---- Demand 3
 

@@ -1,4 +1,6 @@
--- Laws about the queries: what they answer on a view that shows a forest, and that the view of a built index does.
+-- Laws about the queries: answers settle values, order Q, answers on a view that shows a forest, the view and the
+-- bits of a built index,
+-- and indexes that agree where the queries look.
 pub mod Settled
 pub mod Framed
 pub mod Asked

@@ -3,7 +3,7 @@ use mathlib.Core.Path.{_≡_}
 use mathlib.Core.Logic.{_↔_}
 use mathlib.Core.Bool.{Bool, true}
 use mathlib.Core.List.{List}
-use Prim.Native.Nat.{ℕ, suc, _-_, _≤_, _<_}
+use Prim.Native.Nat.{ℕ, suc, _-_, _<_}
 use Rattle.graph.specs.Search.{forest}
 use Rattle.graph.specs.Joined.{DoublyJoined}
 use Rattle.graph.specs.Forest.{head as headIn}
@@ -11,6 +11,7 @@ use Rattle.record.specs.Record.{terminals, blocks}
 use Rattle.record.specs.Answers.{Answer, answered}
 use Rattle.record.specs.Operations.{Accepted}
 use Rattle.forest.specs.Index.{indexOf}
+use Rattle.queries.specs.Steps.{Ranged}
 use Rattle.queries.specs.Operations.{parent, head, ancestor, children, child, visit, visited}
 
 -- the record is accepted, and the index is the one that Build writes for it
@@ -18,10 +19,12 @@ pub record Written (bytes index : List ℕ) : Type 0 where
   pub accepted : Accepted bytes
   pub is : index ≡ indexOf (blocks bytes)
 
--- v is a terminal of the record, or a visit number
-pub record Terminal (bytes : List ℕ) (v : ℕ) : Type 0 where
-  pub some : 0 < v
-  pub upto : v ≤ terminals bytes
+-- v is a terminal of the record; i is a visit number
+abbrev pub Terminal : List ℕ → ℕ → Type 0
+Terminal bytes v = Ranged (terminals bytes) v
+
+abbrev pub VisitNumber : List ℕ → ℕ → Type 0
+VisitNumber bytes i = Ranged (terminals bytes) i
 
 -- just one of the numbers below k passes
 pub record Once (test : ℕ → Bool) (k : ℕ) : Type 0 where

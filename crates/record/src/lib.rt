@@ -1,5 +1,5 @@
-// Records (document 01, "Record"): checking, and the questions that need the record alone. No operation of this file has a precondition; the
-// functions of the public modules, which are for the crates above, have.
+// Records (document 01, "Record"): checking, and the questions that need the record alone. No function of this file has
+// a precondition; most functions of the public modules, which are for the crates above, have one.
 ghost use mathlib.Core.Path.{_≡_};
 ghost use Rattle.record.specs.Rules.{checkRules};
 ghost use Rattle.record.specs.Answers.{number, verdict, counted, figure, shape, tried, sizesOf};

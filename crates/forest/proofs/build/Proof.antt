@@ -1,6 +1,6 @@
 -- `build` meets its contract: Check first, then the lengths of the work slice and of the buffer, and the index only after all.
 use Rattle.forest.proofs.Laws.Building.{empty-index, build-refused, build-short, build-misfit, build-done}
-use Rattle.record.specs.Laws.Sounded.{accepted-kept, accepted-sound}
+use Rattle.record.specs.Laws.Sounded.{check-kept, check-sound}
 use Rattle.record.specs.Answers.{shape}
 use native.Mathlib.Omega.{arith}
 use mathlib.Core.Path.{sym, ap, _∙_}
@@ -20,40 +20,40 @@ enum-known-s c = search needs
 mul-if1 : tie.Need-mul-if1
 mul-if1 c =
     let bytes = c .before .before .before .before .before .before .before .args .bytes .now in
-    let s = accepted-sound bytes (sym (ap shape (c .before .s .given .1)) ∙ c .before .before .before .accept .ensures) in omega arith
+    let s = check-sound bytes (sym (ap shape (c .before .s .given .1)) ∙ c .before .before .before .accept .ensures) in omega arith
 
 returns : tie.Need-returns
 returns c =
     let bytes = c .before .before .before .before .before .before .before .before .args .bytes .now in
     let e = sym (ap shape (c .before .before .s .given .1)) ∙ c .before .before .before .before .accept .ensures in
-    let s = accepted-sound bytes e in
-    build-short bytes (c .before .before .before .before .before .before .before .before .args .work .now) (c .before .before .before .before .before .before .before .before .args .index .now) (accepted-kept bytes e) (s .is-n) (s .is-m) (c .if1 .taken)
+    let s = check-sound bytes e in
+    build-short bytes (c .before .before .before .before .before .before .before .before .args .work .now) (c .before .before .before .before .before .before .before .before .args .index .now) (check-kept bytes e) (s .is-n) (s .is-m) (c .if1 .taken)
 
 index-length-requires : tie.Need-index-length-requires
 index-length-requires c κs =
     let bytes = c .before .before .before .before .before .before .before .before .args .bytes .now in
-    let s = accepted-sound bytes (sym (ap shape (c .before .before .s .given .1)) ∙ c .before .before .before .before .accept .ensures) in (s .n-fits, s .m-fits)
+    let s = check-sound bytes (sym (ap shape (c .before .before .s .given .1)) ∙ c .before .before .before .before .accept .ensures) in (s .n-fits, s .m-fits)
 
 returns-2 : tie.Need-returns-2
 returns-2 c =
     let bytes = c .before .before .before .before .before .before .before .before .before .before .args .bytes .now in
     let e = sym (ap shape (c .before .before .before .before .s .given .1)) ∙ c .before .before .before .before .before .before .accept .ensures in
-    let s = accepted-sound bytes e in
-    build-misfit bytes (c .before .before .before .before .before .before .before .before .before .before .args .work .now) (c .before .before .before .before .before .before .before .before .before .before .args .index .now) (accepted-kept bytes e) (s .is-n) (s .is-m) (c .before .before .if1 .left) (λ z. c .if2 .taken (z ∙ sym (c .before .index-length .ensures)))
+    let s = check-sound bytes e in
+    build-misfit bytes (c .before .before .before .before .before .before .before .before .before .before .args .work .now) (c .before .before .before .before .before .before .before .before .before .before .args .index .now) (check-kept bytes e) (s .is-n) (s .is-m) (c .before .before .if1 .left) (λ z. c .if2 .taken (z ∙ sym (c .before .index-length .ensures)))
 
 returns-3 : tie.Need-returns-3
 returns-3 c =
     let l = c .before .if2 .left ∙ c .before .before .index-length .ensures in
     let bytes = c .before .before .before .before .before .before .before .before .before .before .before .args .bytes .now in
     let e = sym (ap shape (c .before .before .before .before .before .s .given .1)) ∙ c .before .before .before .before .before .before .before .accept .ensures in
-    let s = accepted-sound bytes e in
-    build-done bytes (c .before .before .before .before .before .before .before .before .before .before .before .args .work .now) (c .before .before .before .before .before .before .before .before .before .before .before .args .index .now) (accepted-kept bytes e) (s .is-n) (s .is-m) (c .before .before .before .if1 .left) l (empty-index s (c .if3 .taken) l)
+    let s = check-sound bytes e in
+    build-done bytes (c .before .before .before .before .before .before .before .before .before .before .before .args .work .now) (c .before .before .before .before .before .before .before .before .before .before .before .args .index .now) (check-kept bytes e) (s .is-n) (s .is-m) (c .before .before .before .if1 .left) l (empty-index s (c .if3 .taken) l)
 
 write-index-requires : tie.Need-write-index-requires
 write-index-requires c κs =
     let bytes = c .before .before .before .before .before .before .before .before .before .before .before .before .before .args .bytes .now in
     let e = sym (ap shape (c .before .before .before .before .before .before .before .s .given .1)) ∙ c .before .before .before .before .before .before .before .before .before .accept .ensures in
-    (accepted-sound bytes e, record { unbroken = accepted-kept bytes e }, omega arith, c .before .before .before .before .before .if1 .left, c .before .before .before .if2 .left ∙ c .before .before .before .before .index-length .ensures)
+    (check-sound bytes e, record { unbroken = check-kept bytes e }, omega arith, c .before .before .before .before .before .if1 .left, c .before .before .before .if2 .left ∙ c .before .before .before .before .index-length .ensures)
 
 returns-4 : tie.Need-returns-4
 returns-4 c =
@@ -70,8 +70,8 @@ returns-5 : tie.Need-returns-5
 returns-5 c =
     let bytes = c .before .before .before .before .before .before .before .before .before .before .before .before .before .before .before .before .before .before .args .bytes .now in
     let e = sym (ap shape (c .before .before .before .before .before .before .before .before .before .before .before .before .s .given .1)) ∙ c .before .before .before .before .before .before .before .before .before .before .before .before .before .before .accept .ensures in
-    let s = accepted-sound bytes e in
-    build-done bytes (c .before .before .before .before .before .before .before .before .before .before .before .before .before .before .before .before .before .before .args .work .now) (c .before .before .before .before .before .before .before .before .before .before .before .before .before .before .before .before .before .before .args .index .now) (accepted-kept bytes e) (s .is-n) (s .is-m) (c .before .before .before .before .before .before .before .before .before .before .if1 .left) (c .before .before .before .before .before .before .before .before .if2 .left ∙ c .before .before .before .before .before .before .before .before .before .index-length .ensures) (c .before .before .before .before .write-index .ensures)
+    let s = check-sound bytes e in
+    build-done bytes (c .before .before .before .before .before .before .before .before .before .before .before .before .before .before .before .before .before .before .args .work .now) (c .before .before .before .before .before .before .before .before .before .before .before .before .before .before .before .before .before .before .args .index .now) (check-kept bytes e) (s .is-n) (s .is-m) (c .before .before .before .before .before .before .before .before .before .before .if1 .left) (c .before .before .before .before .before .before .before .before .if2 .left ∙ c .before .before .before .before .before .before .before .before .before .index-length .ensures) (c .before .before .before .before .write-index .ensures)
 
 pub build-spec : {M : Type 1} → statement M
 build-spec =

@@ -21,6 +21,7 @@ use Rattle.record.specs.Operations.{otherLength, outOfRange}
 use Rattle.record.specs.Laws.First.{first-broken, first-kept, append-kept, both-kept, order-numbered, check-numbered}
 use Rattle.record.specs.Laws.Range.{inside-range}
 use Rattle.record.specs.Laws.Sound.{accepted-well-formed}
+use Rattle.record.specs.Laws.Sounded.{accepted-sound}
 use Rattle.record.specs.Laws.Told.{untold-back, then-told, then-untold, then-passed, buffer-written}
 use Rattle.forest.specs.Index.{indexOf, indexLength}
 use Rattle.forest.specs.Operations.{buildRules, build, built}
@@ -29,11 +30,11 @@ use Rattle.queries.specs.Queries.{childCount, childOf}
 use Rattle.queries.specs.Answers.{unlessZero}
 use Rattle.queries.specs.Operations.{orderQ, parent, head, ancestorRules, ancestor, children, noChild}
 use Rattle.queries.specs.Operations.{childRules, child, visit, visited}
-use Rattle.queries.specs.Written.{Written, Terminal, HeadsTell}
+use Rattle.queries.specs.Written.{Written, Terminal, VisitNumber, HeadsTell}
 use Rattle.queries.specs.Laws.Shown.{Shows, parent-shown, head-shown, ancestor-shown, count-shown, child-shown}
 use Rattle.queries.specs.Laws.Shown.{visit-shown, visited-shown}
 use Rattle.queries.specs.Laws.Asked.{order-numbered-q}
-use Rattle.queries.specs.Laws.Built.{accepted-sound, as-many, built-length, built-shows}
+use Rattle.queries.specs.Laws.Built.{as-many, built-length, built-shows}
 
 pub same-answer : {A : Type 0} {a b : A} → answered a ≡ answered b → a ≡ b
 same-answer e = cc
@@ -145,10 +146,6 @@ module _ {bytes index : List ℕ} (w : Written bytes index) where
     unfolding visit
     visit-answer = asked (visit-shown formed covered shown (v - 1) (vertex-of t))
 
-    pub visited-answer : visited bytes index v ≡ answered (suc (vertexAt F (v - 1)))
-    unfolding visited
-    visited-answer = asked (visited-shown formed covered shown (v - 1) (vertex-of t))
-
     pub ancestor-answer : {x : ℕ} → Terminal bytes x
         → ancestor bytes index v x ≡ answered (ancestorIn F (v - 1) (x - 1))
     unfolding ancestor ancestorRules firstBroken
@@ -156,6 +153,10 @@ module _ {bytes index : List ℕ} (w : Written bytes index) where
         let rule : List Rule = (11, outOfRange (terminals bytes) x) ∷ [] in
         let k = first-kept 11 [] (inside-range (terminals bytes) x (r .some) (r .upto)) in
         asked-then rule k (ancestor-shown formed covered shown (v - 1) (x - 1) (vertex-of r))
+
+  pub visited-answer : {i : ℕ} → VisitNumber bytes i → visited bytes index i ≡ answered (suc (vertexAt F (i - 1)))
+  unfolding visited
+  visited-answer {i} t = asked t (visited-shown formed covered shown (i - 1) (vertex-of t))
 
   -- ---- visit numbers and terminals are inverse
 
@@ -165,14 +166,15 @@ module _ {bytes index : List ℕ} (w : Written bytes index) where
       let q : suc (number F (v - 1)) ≡ i = same-answer (sym (visit-answer t) ∙ e) in
       let l = as-many (w .accepted) in
       let k = number-in-range (formed .in-range) covered (v - 1) (vertex-of t) in
-      let r : Terminal bytes i = record { some = omega arith; upto = omega arith } in
+      let r : VisitNumber bytes i = record { some = omega arith; upto = omega arith } in
       let z : i - 1 ≡ number F (v - 1) = omega arith in
       let y = vertex-of-number (formed .in-range) covered (v - 1) (vertex-of t) in
       let x = ap (vertexAt F) z in
       let s = t .some in
       visited-answer r ∙ ap answered (omega arith)
 
-  pub visit-back : {v i : ℕ} → Terminal bytes i → visited bytes index i ≡ answered v → visit bytes index v ≡ answered i
+  pub visit-back : {v i : ℕ} → VisitNumber bytes i → visited bytes index i ≡ answered v
+      → visit bytes index v ≡ answered i
   visit-back {v} {i} t e =
       let q : suc (vertexAt F (i - 1)) ≡ v = same-answer (sym (visited-answer t) ∙ e) in
       let l = as-many (w .accepted) in

@@ -13,13 +13,11 @@ use Rattle.graph.specs.Forest.{number, childMark, parentMark}
 use Rattle.graph.specs.Laws.Places.Pairing.{source}
 use Rattle.graph.specs.Theorems.{vertices-cover, number-in-range}
 use Rattle.record.specs.Record.{terminals, wires, unary, blocks}
-use Rattle.record.specs.Rules.{checkRules}
 use Rattle.record.specs.Operations.{Accepted}
 use Rattle.record.specs.Steps.{Sound}
-use Rattle.record.specs.Laws.First.{both-kept, order-numbered}
 use Rattle.record.specs.Laws.Fields.{fieldsFrom-at}
 use Rattle.record.specs.Laws.Sound.{accepted-well-formed}
-use Rattle.record.specs.Laws.Sounded.{sound-of, sound-vertices, sound-all, sound-ones, sound-places}
+use Rattle.record.specs.Laws.Sounded.{accepted-sound, sound-vertices, sound-all, sound-ones, sound-places}
 use Rattle.record.specs.Laws.Spans.{span-rises, span-ends, span-size, span-one}
 use Rattle.forest.specs.Index.{section, sectionE, sectionP, sectionB, indexOf, markBytes, indexLength}
 use Rattle.forest.specs.Laws.Sections.{blockStart, placeBit, own-bit, mark-bit}
@@ -32,15 +30,14 @@ use Rattle.queries.specs.Laws.Marks.{set-inside, one-of, block-part}
 use Rattle.queries.specs.Laws.Shown.{Shows}
 
 module _ {bytes : List ℕ} (a : Accepted bytes) where
-  pub accepted-sound : Sound bytes (terminals bytes) (wires bytes)
-  unfolding checkRules
-  accepted-sound = sound-of bytes (both-kept (order-numbered bytes) _ (a .unbroken) .0) refl refl
+  sound : Sound bytes (terminals bytes) (wires bytes)
+  sound = accepted-sound a
 
   pub as-many : length (blocks bytes) ≡ terminals bytes
-  as-many = sound-vertices accepted-sound
+  as-many = sound-vertices sound
 
   pub as-many-places : length (flatten (blocks bytes)) ≡ 2 * wires bytes
-  as-many-places = sound-all accepted-sound
+  as-many-places = sound-all sound
 
   same-bytes : markBytes (terminals bytes) (wires bytes) ≡ markBytes (length (blocks bytes)) (wires bytes)
   same-bytes = ap (λ (x : ℕ). markBytes x (wires bytes)) (sym as-many)
@@ -85,8 +82,8 @@ module _ {bytes : List ℕ} (a : Accepted bytes) where
   unfolding blockMarks
   marks-in test u h =
       let l = as-many in
-      let o = span-one accepted-sound {u = u} (omega arith) in
-      let b = start-block accepted-sound u (omega arith) in
+      let o = span-one sound {u = u} (omega arith) in
+      let b = start-block sound u (omega arith) in
       let e : select (unary bytes) (suc u) ≡ placeBit (blocks bytes) u 0 = omega arith in
       ap (λ (x : ℕ). take (length (block (blocks bytes) u)) (drop x (section test (blocks bytes)))) e ∙ block-part test (blocks bytes) u h
 
@@ -94,7 +91,7 @@ module _ {bytes : List ℕ} (a : Accepted bytes) where
   unfolding numberOf
   stored-is u h =
       let l = as-many in
-      let f = accepted-sound .n-fits in
+      let f = sound .n-fits in
       let r = number-in-range (accepted-well-formed a .in-range) (vertices-cover (blocks bytes)) u h in
       ap (λ (x : ℕ). numberOf x (wires bytes) (indexOf (blocks bytes)) u) (sym as-many)
       ∙ fieldsFrom-at (bits (indexOf (blocks bytes))) (8 * (3 * markBytes (length (blocks bytes)) (wires bytes)))
@@ -123,10 +120,10 @@ module _ {bytes : List ℕ} (a : Accepted bytes) where
   place-inside {u} {j} p =
       let l = as-many in
       let h : u < n = omega (arith, source p) in
-      let o = span-one accepted-sound h in
-      let s = span-size accepted-sound h in
-      let r = span-rises accepted-sound h in
-      let e = span-ends accepted-sound h in
+      let o = span-one sound h in
+      let s = span-size sound h in
+      let r = span-rises sound h in
+      let e = span-ends sound h in
       let f = p .fits in
       omega arith
 
@@ -135,8 +132,8 @@ module _ {bytes : List ℕ} (a : Accepted bytes) where
       → sectionBit bytes (indexOf g) k (placeOf bytes u j) ≡ marking k u j
   marked-bit k l {u} {j} p =
       let h = source p in
-      let q = start-block accepted-sound u (let z = as-many in omega arith) in
-      let o = span-one accepted-sound {u = u} (let z = as-many in omega arith) in
+      let q = start-block sound u (let z = as-many in omega arith) in
+      let o = span-one sound {u = u} (let z = as-many in omega arith) in
       let e : placeOf bytes u j ≡ placeBit g u j = omega arith in
       sym (section-bit (indexOf g) n m built-length k (placeOf bytes u j) l (place-inside p))
       ∙ ap₂ (λ (s : List Bool) (x : ℕ). getD s x false) (section-is k l) e
@@ -159,12 +156,12 @@ module _ {bytes : List ℕ} (a : Accepted bytes) where
   pub built-own : (k p : ℕ) → k < 3 → getD (unary bytes) p false ≡ true
       → sectionBit bytes (indexOf (blocks bytes)) k p ≡ false
   built-own k p l one =
-      let c = sound-ones accepted-sound in
-      let d = sound-places accepted-sound in
+      let c = sound-ones sound in
+      let d = sound-places sound in
       let inside : p < n + 2 * m = omega (arith, set-inside (unary bytes) p one) in
       let (u, h, at) = one-of (unary bytes) p one in
-      let o = span-one accepted-sound {u = u} (omega arith) in
-      let q = start-block accepted-sound u (omega arith) in
+      let o = span-one sound {u = u} (omega arith) in
+      let q = start-block sound u (omega arith) in
       let e : p ≡ blockStart g u + u = omega arith in
       let v : u < length g = let z = as-many in omega arith in
       sym (section-bit (indexOf g) n m built-length k p l inside)

@@ -1,3 +1,3 @@
--- How an answer tells the first broken rule, and what is known where none is.
+-- What Unpack answers and leaves, and the loop figure's difference.
 pub mod Unpacking
 pub mod Figures

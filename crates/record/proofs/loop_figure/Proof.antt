@@ -8,7 +8,7 @@ use Rattle.record.specs.Answers.{Answer, shape, sizesOf, answered}
 use Rattle.record.specs.Operations.{loopFigure}
 use Rattle.record.specs.Record.{terminals, wires}
 use Rattle.record.specs.Rules.{checkRules}
-use Rattle.record.specs.Laws.Sounded.{accepted-kept, accepted-sound}
+use Rattle.record.specs.Laws.Sounded.{check-kept, check-sound}
 use Rattle.record.proofs.Laws.Telling.Figures.{small-fits, difference-fits, difference-told}
 use Rattle.record.specs.Laws.Told.{told-same, untold}
 use Rattle.record.proofs.loop_figure.Statement.{statement}
@@ -26,22 +26,22 @@ enum-known-s c = search needs
 add-more : tie.Need-add-more
 add-more c =
     let bytes = c .before .before .before .before .before .before .args .bytes .now in
-    let s = accepted-sound bytes (sym (ap shape (c .before .before .s .given .1)) ∙ c .before .before .before .before .accept .ensures) in omega arith
+    let s = check-sound bytes (sym (ap shape (c .before .before .s .given .1)) ∙ c .before .before .before .before .accept .ensures) in omega arith
 
 cast-t8 : tie.Need-cast-t8
 cast-t8 c =
     let bytes = c .before .before .before .before .before .before .args .bytes .now in
-    let s = accepted-sound bytes (sym (ap shape (c .before .before .s .given .1)) ∙ c .before .before .before .before .accept .ensures) in small-fits (omega arith)
+    let s = check-sound bytes (sym (ap shape (c .before .before .s .given .1)) ∙ c .before .before .before .before .accept .ensures) in small-fits (omega arith)
 
 cast-t9 : tie.Need-cast-t9
 cast-t9 c =
     let bytes = c .before .before .before .before .before .before .args .bytes .now in
-    let s = accepted-sound bytes (sym (ap shape (c .before .before .s .given .1)) ∙ c .before .before .before .before .accept .ensures) in small-fits (omega arith)
+    let s = check-sound bytes (sym (ap shape (c .before .before .s .given .1)) ∙ c .before .before .before .before .accept .ensures) in small-fits (omega arith)
 
 sub-t10 : tie.Need-sub-t10
 sub-t10 c =
     let bytes = c .before .before .before .before .before .before .args .bytes .now in
-    let s = accepted-sound bytes (sym (ap shape (c .before .before .s .given .1)) ∙ c .before .before .before .before .accept .ensures) in difference-fits (c .before .before .s .given .0 .0 .m + 1) (c .before .before .s .given .0 .0 .n) (omega arith) (omega arith)
+    let s = check-sound bytes (sym (ap shape (c .before .before .s .given .1)) ∙ c .before .before .before .before .accept .ensures) in difference-fits (c .before .before .s .given .0 .0 .m + 1) (c .before .before .s .given .0 .0 .n) (omega arith) (omega arith)
 
 returns : tie.Need-returns
 unfolding loopFigure
@@ -54,10 +54,10 @@ unfolding loopFigure
 returns-2 c =
     let bytes = c .before .before .before .before .before .before .args .bytes .now in
     let e = (sym (ap shape (c .before .before .s .given .1)) ∙ c .before .before .before .before .accept .ensures) in
-    let s = accepted-sound bytes e in
+    let s = check-sound bytes e in
     let z : ℕ → ℕ → Answer ℤ = λ x y. answered (subℕ (x + 1) y) in
     ap (λ (x : ℤ). answered x) (difference-told (c .before .before .s .given .0 .0 .m + 1) (c .before .before .s .given .0 .0 .n) (omega arith) (omega arith)) ∙ ap₂ z (s .is-m) (s .is-n)
-    ∙ untold (subℕ (wires bytes + 1) (terminals bytes)) (accepted-kept bytes e)
+    ∙ untold (subℕ (wires bytes + 1) (terminals bytes)) (check-kept bytes e)
 
 pub loop-figure-spec : {M : Type 1} → statement M
 loop-figure-spec =

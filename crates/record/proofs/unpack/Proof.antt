@@ -4,7 +4,7 @@ use native.Mathlib.Omega.{arith}
 use borrow.Author.Needs.{needs}
 use Rattle.record.specs.Answers.{shape}
 use Rattle.record.specs.Record.{fields}
-use Rattle.record.specs.Laws.Sounded.{accepted-kept, accepted-sound}
+use Rattle.record.specs.Laws.Sounded.{check-kept, check-sound}
 use Rattle.record.specs.Laws.Raised.{raised-one, fields-read}
 use Rattle.record.proofs.Laws.Telling.Unpacking.{unpack-refused, unpack-misfit, unpack-done}
 use Rattle.record.proofs.unpack.Statement.{statement}
@@ -22,7 +22,7 @@ enum-known-s c = search needs
 mul-if1 : tie.Need-mul-if1
 mul-if1 c =
     let bytes = c .before .before .before .before .before .before .args .bytes .now in
-    let s = accepted-sound bytes (sym (ap shape (c .before .s .given .1)) ∙ c .before .before .before .accept .ensures) in omega arith
+    let s = check-sound bytes (sym (ap shape (c .before .s .given .1)) ∙ c .before .before .before .accept .ensures) in omega arith
 
 returns : tie.Need-returns
 returns c =
@@ -30,7 +30,7 @@ returns c =
     let list = c .before .before .before .before .before .before .before .args .list .now in
     let accept = c .before .before .before .before .accept in
     let e = (sym (ap shape (c .before .before .s .given .1)) ∙ accept .ensures) in
-    unpack-misfit bytes list (accepted-kept bytes e) (accepted-sound bytes e .is-m) (λ same. omega arith)
+    unpack-misfit bytes list (check-kept bytes e) (check-sound bytes e .is-m) (λ same. omega arith)
 
 mul-read-fields : tie.Need-mul-read-fields
 mul-read-fields c = search needs
@@ -38,17 +38,17 @@ mul-read-fields c = search needs
 add-read-fields : tie.Need-add-read-fields
 add-read-fields c =
     let bytes = c .before .before .before .before .before .before .before .args .bytes .now in
-    let s = accepted-sound bytes (sym (ap shape (c .before .before .s .given .1)) ∙ c .before .before .before .before .accept .ensures) in omega arith
+    let s = check-sound bytes (sym (ap shape (c .before .before .s .given .1)) ∙ c .before .before .before .before .accept .ensures) in omega arith
 
 add-read-fields-2 : tie.Need-add-read-fields-2
 add-read-fields-2 c =
     let bytes = c .before .before .before .before .before .before .before .args .bytes .now in
-    let s = accepted-sound bytes (sym (ap shape (c .before .before .s .given .1)) ∙ c .before .before .before .before .accept .ensures) in omega arith
+    let s = check-sound bytes (sym (ap shape (c .before .before .s .given .1)) ∙ c .before .before .before .before .accept .ensures) in omega arith
 
 read-fields-requires : tie.Need-read-fields-requires
 read-fields-requires c κs =
     let bytes = c .before .before .before .before .before .before .before .before .args .bytes .now in
-    let s = accepted-sound bytes (sym (ap shape (c .before .before .before .s .given .1)) ∙ c .before .before .before .before .before .accept .ensures) in (omega arith, omega arith, omega arith, omega arith)
+    let s = check-sound bytes (sym (ap shape (c .before .before .before .s .given .1)) ∙ c .before .before .before .before .before .accept .ensures) in (omega arith, omega arith, omega arith, omega arith)
 
 returns-2 : tie.Need-returns-2
 returns-2 c =
@@ -66,8 +66,8 @@ returns-3 c =
     let accept = c .before .before .before .before .before .before .before .before .accept in
     let if1 = c .before .before .before .before .if1 in
     let e = (sym (ap shape (c .before .before .before .before .before .before .s .given .1)) ∙ accept .ensures) in
-    let s = accepted-sound bytes e in
-    unpack-done bytes list (accepted-kept bytes e) (s .is-m) (if1 .left) (c .before .before .read-fields .ensures ∙ fields-read s 1 (if1 .left) ∙ raised-one (fields bytes))
+    let s = check-sound bytes e in
+    unpack-done bytes list (check-kept bytes e) (s .is-m) (if1 .left) (c .before .before .read-fields .ensures ∙ fields-read s 1 (if1 .left) ∙ raised-one (fields bytes))
 
 pub unpack-spec : {M : Type 1} → statement M
 unpack-spec =

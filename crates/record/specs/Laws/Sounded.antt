@@ -1,5 +1,5 @@
 -- A record that order R lets pass, by the n and m that the code holds.
-use mathlib.Core.Path.{_≡_, sym, ap, _∙_}
+use mathlib.Core.Path.{_≡_, refl, sym, ap, _∙_}
 use mathlib.Core.Bool.{not}
 use mathlib.Core.List.{List, flatten}
 use Prim.Native.Nat.{ℕ, _+_, _-_, _*_, _≤_, _<_}
@@ -16,6 +16,7 @@ use Rattle.record.specs.Record.{terminals, wires, usedBits, recordLength
 use Rattle.record.specs.Starts.{startsOf}
 use Rattle.record.specs.Rules.{firstBroken, orderR, spareSet, checkRules}
 use Rattle.record.specs.Answers.{answered, tried, sizesOf}
+use Rattle.record.specs.Operations.{Accepted}
 use Rattle.record.specs.Steps.{Sound}
 use Rattle.record.specs.declared.Sizes.{Sizes}
 use Rattle.record.specs.Laws.First.{Shaped, shaped, both-kept, order-numbered}
@@ -40,19 +41,22 @@ told-sound bytes e =
     let (f, g) = untold-back (firstBroken (orderR bytes)) (sizesOf bytes) e in
     sound-of bytes f (ap (λ (x : Sizes). x .n) g) (ap (λ (x : Sizes). x .m) g)
 
--- where Check has answered
+-- an accepted record
+pub accepted-sound : {bytes : List ℕ} → Accepted bytes → Sound bytes (terminals bytes) (wires bytes)
+unfolding checkRules
+accepted-sound {bytes} a = sound-of bytes (both-kept (order-numbered bytes) _ (a .unbroken) .0) refl refl
+
+-- the sizes that Check hands on
 module _ (bytes : List ℕ) {s : Sizes} (e : answered s ≡ tried (checkRules bytes) (sizesOf bytes)) where
-  pub accepted-kept : firstBroken (checkRules bytes) ≡ 0
-  accepted-kept = untold-back (firstBroken (checkRules bytes)) (sizesOf bytes) e .0
+  pub check-kept : firstBroken (checkRules bytes) ≡ 0
+  check-kept = untold-back (firstBroken (checkRules bytes)) (sizesOf bytes) e .0
 
-  pub accepted-sizes : s ≡ sizesOf bytes
-  accepted-sizes = untold-back (firstBroken (checkRules bytes)) (sizesOf bytes) e .1
-
-  pub accepted-sound : Sound bytes (s .n) (s .m)
+  pub check-sound : Sound bytes (s .n) (s .m)
   unfolding checkRules
-  accepted-sound =
-      sound-of bytes (both-kept (order-numbered bytes) _ accepted-kept .0) (ap (λ (x : Sizes). x .n) accepted-sizes)
-      (ap (λ (x : Sizes). x .m) accepted-sizes)
+  check-sound =
+      let g = untold-back (firstBroken (checkRules bytes)) (sizesOf bytes) e .1 in
+      let k = both-kept (order-numbered bytes) _ check-kept .0 in
+      sound-of bytes k (ap (λ (x : Sizes). x .n) g) (ap (λ (x : Sizes). x .m) g)
 
 module _ {bytes : List ℕ} {n m : ℕ} (s : Sound bytes n m) where
   pub sound-shaped : Shaped bytes

@@ -56,7 +56,8 @@ nth-child-requires c κs =
 -- the child's place in the block
 chosen : (c : tie.After-nth-child) → Chosen (start (c .before) .args .bytes .now) (start (c .before) .args .index .now)
     (start (c .before) .args .n) (start (c .before) .args .m) (start (c .before) .args .v .0)
-    (c .before .before .start-of .result) (c .before .start-of2 .result) (start (c .before) .args .j) (c .nth-child .result)
+    (c .before .before .start-of .result) (c .before .start-of2 .result) (start (c .before) .args .j)
+    (c .nth-child .result)
 chosen c = record {
   beside = start (c .before) .pre .0;
   ranged = start (c .before) .pre .1;

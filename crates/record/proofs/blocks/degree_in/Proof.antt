@@ -47,12 +47,14 @@ start-of-requires-2 c κs = let z = upto (c .before) .1 in (start (c .before) .p
 sub-t11 : tie.Need-sub-t11
 sub-t11 c =
     let s = start (c .before .before) in
-    block-rises (s .pre) (s .args .v .0) (inside (c .before .before)) (c .start-of2 .ensures) (c .before .start-of .ensures)
+    block-rises (s .pre) (s .args .v .0) (inside (c .before .before)) (c .start-of2 .ensures)
+    (c .before .start-of .ensures)
 
 returns-2 : tie.Need-returns-2
 returns-2 c =
     let s = start (c .before .before) in
-    degree-is (s .pre) (s .args .v .0) (inside (c .before .before)) (c .start-of2 .ensures) (c .before .start-of .ensures)
+    degree-is (s .pre) (s .args .v .0) (inside (c .before .before)) (c .start-of2 .ensures)
+    (c .before .start-of .ensures)
 
 pub degree-in-spec : {M : Type 1} → statement M
 degree-in-spec =
