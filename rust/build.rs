@@ -1,5 +1,5 @@
-//! Links the static library: the file that `CELDUGA_ARCHIVE` names, or `target/staticlib/libcapi.a` in the project's root. Where that one
-//! is missing, it is made by `rt staticlib capi`.
+//! Links the static library: the file that `CELDUGA_ARCHIVE` names, or `target/staticlib/libcelduga.a` in the project's root. Where that one
+//! is missing, it is made by `rt staticlib celduga`.
 
 use std::env;
 use std::fs;
@@ -24,11 +24,11 @@ fn archive() -> Result<PathBuf, String> {
     }
     let package = env::var_os("CARGO_MANIFEST_DIR").ok_or("cargo does not say where the package is")?;
     let root = Path::new(&package).join("..");
-    let archive = root.join("target/staticlib/libcapi.a");
+    let archive = root.join("target/staticlib/libcelduga.a");
     if !archive.is_file() {
         make(&root)?;
     }
-    found(&archive).map_err(|wrong| format!("`rt staticlib capi` has made no archive: {wrong}"))
+    found(&archive).map_err(|wrong| format!("`rt staticlib celduga` has made no archive: {wrong}"))
 }
 
 /// The whole path of a file that is there.
@@ -43,7 +43,7 @@ fn found(archive: &Path) -> Result<PathBuf, String> {
 /// Makes the archive in the project's root.
 fn make(root: &Path) -> Result<(), String> {
     let done = Command::new("rt")
-        .args(["staticlib", "capi"])
+        .args(["staticlib", "celduga"])
         .current_dir(root)
         .output()
         .map_err(|wrong| format!("there is no archive, and `rt` that would make it does not run: {wrong}; {GIVEN} may name an archive"))?;
@@ -52,7 +52,7 @@ fn make(root: &Path) -> Result<(), String> {
     }
     let said = [done.stdout, done.stderr].concat();
     Err(format!(
-        "`rt staticlib capi` fails ({}):\n{}",
+        "`rt staticlib celduga` fails ({}):\n{}",
         done.status,
         String::from_utf8_lossy(&said)
     ))

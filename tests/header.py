@@ -1,6 +1,6 @@
 """The functions of the C header, called by ctypes and each compared with plain.py.
 
-The archive is target/staticlib/libcapi.a, or the one that CELDUGA_ARCHIVE names. Every slice is lent from memory of its own, which ends at
+The archive is target/staticlib/libcelduga.a, or the one that CELDUGA_ARCHIVE names. Every slice is lent from memory of its own, which ends at
 a page that can't be touched and has guard bytes in front.
 """
 import ctypes
@@ -13,7 +13,7 @@ from pathlib import Path
 import plain
 from families import shown
 
-ARCHIVE = Path(os.environ.get("CELDUGA_ARCHIVE") or Path(__file__).parent.parent / "target/staticlib/libcapi.a")
+ARCHIVE = Path(os.environ.get("CELDUGA_ARCHIVE") or Path(__file__).parent.parent / "target/staticlib/libcelduga.a")
 GUARD = bytes(range(0xC0, 0x100))
 
 # What each returns, the slices that it takes, and how many numbers after them

@@ -1,7 +1,7 @@
 """Compiles and runs what C, C++ and Rust programs are given: the header, the example and the Rust package.
 
 The sections that the example must print are found by a plain search: terminals that are joined in the record, and in it without each one of
-its wires. The archive is the file that CELDUGA_ARCHIVE names, or the one that `rt staticlib capi` makes.
+its wires. The archive is the file that CELDUGA_ARCHIVE names, or the one that `rt staticlib celduga` makes.
 """
 import os
 import random
@@ -17,7 +17,7 @@ from plain import answer, check
 from shapes import FIXED
 
 ROOT = Path(__file__).resolve().parent.parent
-ARCHIVE = Path(os.environ.get("CELDUGA_ARCHIVE") or ROOT / "target/staticlib/libcapi.a").resolve()
+ARCHIVE = Path(os.environ.get("CELDUGA_ARCHIVE") or ROOT / "target/staticlib/libcelduga.a").resolve()
 EXAMPLE = ROOT / "examples/sections.c"
 CALLS = ROOT / "tests/hosts_calls.c"
 STRICT = ["-Wall", "-Wextra", "-pedantic", "-Werror", "-O1", f"-I{ROOT / 'include'}"]
@@ -42,7 +42,7 @@ def run(command, **given):
 
 
 def archive():
-    demand(ARCHIVE.is_file(), f"there is no archive {ARCHIVE}: `rt staticlib capi` makes it, or CELDUGA_ARCHIVE names another")
+    demand(ARCHIVE.is_file(), f"there is no archive {ARCHIVE}: `rt staticlib celduga` makes it, or CELDUGA_ARCHIVE names another")
     return ARCHIVE
 
 

@@ -29,8 +29,8 @@
 //!
 //! # The library
 //!
-//! The build script links the file that the environment variable `CELDUGA_ARCHIVE` names, or `target/staticlib/libcapi.a` in the project's
-//! root; where that one is missing, it calls `rt staticlib capi`, which makes it. The archive is for x86-64 Linux.
+//! The build script links the file that the environment variable `CELDUGA_ARCHIVE` names, or `target/staticlib/libcelduga.a` in the project's
+//! root; where that one is missing, it calls `rt staticlib celduga`, which makes it. The archive is for x86-64 Linux.
 //!
 //! A call has no state and may run on any thread. [`check`], [`unpack`] and [`loop_figure`] take up to 224 KiB of stack and [`build`] up to
 //! 288 KiB; all four take time linear in the record's bits.

@@ -1,0 +1,47 @@
+-- From an operation's answer to the number that is returned.
+use mathlib.Core.Path.{_≡_, sym, ap, subst, _∙_}
+use Prim.Native.Nat.{ℕ, _*_, _≤_}
+use native.Mathlib.Omega.{arith}
+use Rattle.record.specs.Answers.{Answer, refused, answered, number}
+use Rattle.record.specs.declared.Refusal.{Refusal}
+use Rattle.record.specs.declared.Refusal.the-variants.{TooShort, OverLimit, WrongLength, BadUnary, SpareSet, StrayNeighbour, DoubledNeighbour, OneSidedWire, ShortWork, WrongBuffer, NoTerminal, BadIndex, NoChild}
+use Rattle.celduga.specs.Code.{code}
+use Rattle.celduga.specs.Laws.Halves.{Valued, none, value}
+
+-- a refusal's number is small
+pub number-small : (r : Refusal) → number r ≤ 13
+number-small TooShort = omega arith
+number-small OverLimit = omega arith
+number-small WrongLength = omega arith
+number-small BadUnary = omega arith
+number-small SpareSet = omega arith
+number-small StrayNeighbour = omega arith
+number-small DoubledNeighbour = omega arith
+number-small OneSidedWire = omega arith
+number-small ShortWork = omega arith
+number-small WrongBuffer = omega arith
+number-small NoTerminal = omega arith
+number-small BadIndex = omega arith
+number-small NoChild = omega arith
+
+module _ {A : Type 0} (low : A → ℕ) where
+  pub code-refused : {k r : ℕ} {a : Answer A} → refused k ≡ a → r ≡ 65536 * k → r ≡ code low a
+  unfolding code
+  code-refused e h = h ∙ ap (code low) e
+
+  pub code-answered : {x : A} {r : ℕ} {a : Answer A} → answered x ≡ a → r ≡ low x → r ≡ code low a
+  unfolding code
+  code-answered e h = h ∙ ap (code low) e
+
+  -- the answer of the call is the definition's
+  pub code-call : {a b : Answer A} {r : ℕ} → a ≡ b → r ≡ code low a → r ≡ code low b
+  code-call e h = h ∙ ap (code low) e
+
+module _ {A : Type 0} {P : A → Type 0} where
+  pub valued-call : {a b : Answer A} → a ≡ b → Valued P b → Valued P a
+  valued-call e s = subst (Valued P) (sym e) s
+
+  -- the value at hand
+  pub value-at : {x : Answer A} {a : A} → Valued P x → answered a ≡ x → P a
+  value-at none e = absurd (let z : _≡_ {A = ℕ} 0 1 = cc in omega arith)
+  value-at {a = a} (value b h) e = let z : b ≡ a = cc in subst P z h

@@ -1,0 +1,19 @@
+-- `celduga_parent` meets its contract.
+use Rattle.celduga.proofs.Laws.Coded.{valued-call, code-call}
+use Rattle.queries.specs.Answers.{orZero}
+use Rattle.celduga.specs.Laws.Small.{parent-small}
+use borrow.Author.Needs.{needs}
+use Rattle.celduga.proofs.celduga_parent.Statement.{statement}
+use Rattle.celduga.proofs.celduga_parent.Tie as tie
+
+parent-requires : tie.Need-parent-requires
+parent-requires c κs = search needs
+
+of-above-requires : tie.Need-of-above-requires
+of-above-requires c κs = valued-call (c .parent .ensures) (parent-small (c .before .before .before .args .bytes .now) (c .before .before .before .args .index .now) (c .before .before .before .args .v))
+
+returns : tie.Need-returns
+returns c = code-call orZero (c .before .parent .ensures) (c .of-above .ensures)
+
+pub celduga-parent-spec : {M : Type 1} → statement M
+celduga-parent-spec = tie.close (tie.spec parent-requires of-above-requires returns)

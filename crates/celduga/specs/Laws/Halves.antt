@@ -1,0 +1,82 @@
+-- What a C program reads in the two halves of a result.
+use mathlib.Core.Path.{_≡_}
+use mathlib.Core.Bool.{Bool, true, false}
+use mathlib.Core.Option.{Option}
+use Prim.Native.Nat.{ℕ, _/_, _%_, _<_}
+use native.Mathlib.Omega.{arith}
+use lib.IntN.{ℤ, pos, negsuc}
+use lib.Signed.{mag}
+use Rattle.bits.specs.Bits.{bit}
+use Rattle.record.specs.Answers.{Answer, refused, answered}
+use Rattle.queries.specs.Answers.{orZero}
+use Rattle.celduga.specs.Code.{code, nothing, itself, complement}
+
+-- the value of an answer, if it has one, is such a value
+pub data Valued {A : Type 0} (P : A → Type 0) : Answer A → Type 0 where
+  none : {k : ℕ} → Valued P (refused k)
+  value : (a : A) → P a → Valued P (answered a)
+
+-- a number that fits the low half
+abbrev pub Small : Answer ℕ → Type 0
+Small a = Valued (λ (k : ℕ). k < 65536) a
+
+-- a parent, or none, whose number fits
+abbrev pub SmallParent : Answer (Option ℕ) → Type 0
+SmallParent a = Valued (λ (p : Option ℕ). orZero p < 65536) a
+
+-- a signed number of 16 bits: 0 to 32,767, or -1 down to -32,768
+abbrev pub Short : Answer ℤ → Type 0
+Short a = Valued (λ (z : ℤ). mag z < 32768) a
+
+-- the refusal's number, 0 where there is none
+unfoldable pub refusal : {A : Type 0} → Answer A → ℕ
+refusal (refused k) = k
+refusal (answered a) = 0
+
+-- the value's low half, 0 where there is no value
+unfoldable pub said : {A : Type 0} → (A → ℕ) → Answer A → ℕ
+said low (refused k) = 0
+said low (answered a) = low a
+
+pub halves : {A : Type 0} {P : A → Type 0} (low : A → ℕ) → ((a : A) → P a → low a < 65536) → {a : Answer A} → Valued P a
+    → (code low a / 65536 ≡ refusal a) × (code low a % 65536 ≡ said low a)
+unfolding code refusal said
+halves low fits none = (omega arith, omega arith)
+halves low fits (value a h) = let k = fits a h in (omega arith, omega arith)
+
+-- for answers that tell nothing, or yes or no: any value fits
+module _ {A : Type 0} (low : A → ℕ) (fits : (a : A) → low a < 65536) where
+  always : (a : Answer A) → Valued (λ (x : A). low x < 65536) a
+  always (refused k) = none
+  always (answered x) = value x (fits x)
+
+  pub halves-always : (a : Answer A) → (code low a / 65536 ≡ refusal a) × (code low a % 65536 ≡ said low a)
+  halves-always a = halves low (λ x h. h) (always a)
+
+pub halves-nothing : (a : Answer (Unit {0})) → (code nothing a / 65536 ≡ refusal a) × (code nothing a % 65536 ≡ said nothing a)
+unfolding nothing
+halves-nothing = halves-always nothing (λ x. omega arith)
+
+pub halves-yes : (a : Answer Bool) → (code bit a / 65536 ≡ refusal a) × (code bit a % 65536 ≡ said bit a)
+halves-yes = halves-always bit fits
+  where
+    fits : (b : Bool) → bit b < 65536
+    fits true = omega arith
+    fits false = omega arith
+
+-- for numbers, for parents, and for the loop figure
+pub halves-number : {a : Answer ℕ} → Small a → (code itself a / 65536 ≡ refusal a) × (code itself a % 65536 ≡ said itself a)
+unfolding itself
+halves-number s = halves itself (λ k h. h) s
+
+pub halves-parent : {a : Answer (Option ℕ)} → SmallParent a
+    → (code orZero a / 65536 ≡ refusal a) × (code orZero a % 65536 ≡ said orZero a)
+halves-parent s = halves orZero (λ p h. h) s
+
+pub halves-figure : {a : Answer ℤ} → Short a → (code complement a / 65536 ≡ refusal a) × (code complement a % 65536 ≡ said complement a)
+unfolding complement
+halves-figure s = halves complement fits s
+  where
+    fits : (z : ℤ) → mag z < 32768 → complement z < 65536
+    fits (pos k) h = omega arith
+    fits (negsuc k) h = omega arith

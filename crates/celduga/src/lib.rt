@@ -1,0 +1,117 @@
+// The C interface. A slice is a pointer and a length; a result has the refusal's number in its high half, or else the value in its low half
+// (specs/Code.antt). No function has a precondition. `include/celduga.h` declares them.
+ghost use mathlib.Core.Path.{_≡_};
+ghost use Rattle.bits.specs.Bits.{bit, string, rank, select};
+ghost use Rattle.record.specs.Operations.{check, degree, unpack, unpacked, loopFigure};
+ghost use Rattle.forest.specs.Operations.{build, built};
+ghost use Rattle.queries.specs.Answers.{orZero};
+ghost use Rattle.queries.specs.Operations.{parent, head, ancestor, children, child, visit, visited};
+ghost use Rattle.celduga.specs.Code.{code, nothing, itself, complement};
+use forest::Dfi;
+use record::Vertex;
+
+mod codes; // codes.rt: answers as numbers
+
+// ---- a record
+
+#[no_mangle]
+pub extern "C" fn celduga_check(bytes: &[u8]) -> u32
+    ensures { λ r. ⌜ r ≡ code nothing (check (now (bytes .entry))) ⌝ }
+{
+    codes::of_verdict(record::check(bytes))
+}
+
+#[no_mangle]
+pub extern "C" fn celduga_degree(bytes: &[u8], v: usize) -> u32
+    ensures { λ r. ⌜ r ≡ code itself (degree (now (bytes .entry)) v) ⌝ }
+{
+    codes::of_counted(record::degree(bytes, Vertex(v)))
+}
+
+#[no_mangle]
+pub extern "C" fn celduga_unpack(bytes: &[u8], list: &mut [u16]) -> u32
+    ensures { λ r. ⌜ (r ≡ code nothing (unpack (now (bytes .entry)) (now (list .entry)))) × (now (list .exit) ≡ unpacked (now (bytes .entry)) (now (list .entry))) ⌝ }
+{
+    codes::of_verdict(record::unpack(bytes, list))
+}
+
+#[no_mangle]
+pub extern "C" fn celduga_loop_figure(bytes: &[u8]) -> u32
+    ensures { λ r. ⌜ r ≡ code complement (loopFigure (now (bytes .entry))) ⌝ }
+{
+    codes::of_figure(record::loop_figure(bytes))
+}
+
+// ---- a record and its index
+
+#[no_mangle]
+pub extern "C" fn celduga_build(bytes: &[u8], work: &mut [u16], index: &mut [u8]) -> u32
+    ensures { λ r. ⌜ (r ≡ code nothing (build (now (bytes .entry)) (now (work .entry)) (now (index .entry)))) × (now (index .exit) ≡ built (now (bytes .entry)) (now (work .entry)) (now (index .entry))) ⌝ }
+{
+    codes::of_verdict(forest::build(bytes, work, index))
+}
+
+#[no_mangle]
+pub extern "C" fn celduga_parent(bytes: &[u8], index: &[u8], v: usize) -> u32
+    ensures { λ r. ⌜ r ≡ code orZero (parent (now (bytes .entry)) (now (index .entry)) v) ⌝ }
+{
+    codes::of_above(queries::parent(bytes, index, Vertex(v)))
+}
+
+#[no_mangle]
+pub extern "C" fn celduga_head(bytes: &[u8], index: &[u8], v: usize) -> u32
+    ensures { λ r. ⌜ r ≡ code itself (head (now (bytes .entry)) (now (index .entry)) v) ⌝ }
+{
+    codes::of_found(queries::head(bytes, index, Vertex(v)))
+}
+
+#[no_mangle]
+pub extern "C" fn celduga_ancestor(bytes: &[u8], index: &[u8], u: usize, v: usize) -> u32
+    ensures { λ r. ⌜ r ≡ code bit (ancestor (now (bytes .entry)) (now (index .entry)) u v) ⌝ }
+{
+    codes::of_related(queries::ancestor(bytes, index, Vertex(u), Vertex(v)))
+}
+
+#[no_mangle]
+pub extern "C" fn celduga_children(bytes: &[u8], index: &[u8], v: usize) -> u32
+    ensures { λ r. ⌜ r ≡ code itself (children (now (bytes .entry)) (now (index .entry)) v) ⌝ }
+{
+    codes::of_counted(queries::children(bytes, index, Vertex(v)))
+}
+
+#[no_mangle]
+pub extern "C" fn celduga_child(bytes: &[u8], index: &[u8], v: usize, j: usize) -> u32
+    ensures { λ r. ⌜ r ≡ code itself (child (now (bytes .entry)) (now (index .entry)) v j) ⌝ }
+{
+    codes::of_found(queries::child(bytes, index, Vertex(v), j))
+}
+
+#[no_mangle]
+pub extern "C" fn celduga_visit(bytes: &[u8], index: &[u8], v: usize) -> u32
+    ensures { λ r. ⌜ r ≡ code itself (visit (now (bytes .entry)) (now (index .entry)) v) ⌝ }
+{
+    codes::of_numbered(queries::visit(bytes, index, Vertex(v)))
+}
+
+#[no_mangle]
+pub extern "C" fn celduga_visited(bytes: &[u8], index: &[u8], i: usize) -> u32
+    ensures { λ r. ⌜ r ≡ code itself (visited (now (bytes .entry)) (now (index .entry)) i) ⌝ }
+{
+    codes::of_found(queries::visited(bytes, index, Dfi(i)))
+}
+
+// ---- bit strings
+
+#[no_mangle]
+pub extern "C" fn celduga_rank(bytes: &[u8], start: usize, places: usize, p: usize) -> usize
+    ensures { λ r. ⌜ r ≡ rank (string (now (bytes .entry)) start places) p ⌝ }
+{
+    bits::rank(bytes, start, places, p)
+}
+
+#[no_mangle]
+pub extern "C" fn celduga_select(bytes: &[u8], start: usize, places: usize, k: usize) -> usize
+    ensures { λ r. ⌜ r ≡ select (string (now (bytes .entry)) start places) k ⌝ }
+{
+    bits::select(bytes, start, places, k)
+}
