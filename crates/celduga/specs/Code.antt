@@ -1,6 +1,6 @@
--- The number of 32 bits that a function of the C interface returns: the high half is the refusal's number, or 0; the low half is the value,
--- or 0 where there is none.
-use Prim.Native.Nat.{ℕ, _-_, _*_}
+-- The numbers that functions of the C interface return. One of 32 bits has the refusal's number, or 0, in its high half, and the value, or 0
+-- where there is none, in its low half.
+use Prim.Native.Nat.{ℕ, _+_, _-_, _*_}
 use lib.IntN.{ℤ, pos, negsuc}
 use Rattle.record.specs.Answers.{Answer, refused, answered}
 
@@ -23,3 +23,13 @@ itself k = k
 unfoldable pub complement : ℤ → ℕ
 complement (pos k) = k
 complement (negsuc k) = 65535 - k
+
+-- ---- two numbers in one of 64 bits
+
+unfoldable pub inHalves : ℕ → ℕ → ℕ
+inHalves high low = 4294967296 * high + low
+
+-- ---- the version
+
+unfoldable pub version : ℕ → ℕ → ℕ → ℕ
+version major minor patch = 65536 * major + 256 * minor + patch

@@ -1,11 +1,11 @@
-// Answers as numbers of 32 bits: a refusal in the high half, a value in the low half.
+// Answers as numbers of 32 bits, a refusal in the high half and a value in the low half; and a part as one of 64 bits.
 ghost use mathlib.Core.Path.{_≡_};
-ghost use Prim.Native.Nat.{_*_, _<_};
+ghost use Prim.Native.Nat.{_+_, _*_, _≤_, _<_};
 ghost use lib.Signed.{mag};
 ghost use Rattle.bits.specs.Bits.{bit};
 ghost use Rattle.record.specs.Answers.{number, verdict, counted, figure};
 ghost use Rattle.queries.specs.Answers.{above, orZero, terminal, related, numbered};
-ghost use Rattle.celduga.specs.Code.{code, nothing, itself, complement};
+ghost use Rattle.celduga.specs.Code.{code, nothing, itself, complement, inHalves};
 ghost use Rattle.celduga.specs.Laws.Halves.{Small, SmallParent, Short};
 use queries::Above;
 use queries::Found;
@@ -13,6 +13,7 @@ use queries::Numbered;
 use queries::Related;
 use record::Counted;
 use record::Figure;
+use record::Part;
 use record::Refusal;
 use record::Verdict;
 
@@ -110,4 +111,12 @@ pub fn of_figure(a: Figure) -> u32
         Figure::Loops(z) => twos(z),
         Figure::Refused(r) => high(r),
     }
+}
+
+// A part of a list: where it begins in the high half of 64 bits, and its size in the low half.
+pub fn of_part(p: Part) -> u64
+    requires { ⌜ p .from + p .size ≤ 32768 ⌝ }
+    ensures { λ r. ⌜ r ≡ inHalves (p .from) (p .size) ⌝ }
+{
+    4294967296 * p.from as u64 + p.size as u64
 }

@@ -1,12 +1,16 @@
 // The C interface. A slice is a pointer and a length; a result has the refusal's number in its high half, or else the value in its low half
 // (specs/Code.antt). No function has a precondition. `include/celduga.h` declares them.
 ghost use mathlib.Core.Path.{_≡_};
+ghost use mathlib.Core.List.{List};
+ghost use Prim.Native.Nat.{ℕ};
+ghost use lib.ListN.{length};
 ghost use Rattle.bits.specs.Bits.{bit, string, rank, select};
-ghost use Rattle.record.specs.Operations.{check, degree, unpack, unpacked, loopFigure};
+ghost use Rattle.record.specs.Operations.{check, degree, unpack, unpacked, neighbours, neighboursBefore, loopFigure};
 ghost use Rattle.forest.specs.Operations.{build, built};
 ghost use Rattle.queries.specs.Answers.{orZero};
 ghost use Rattle.queries.specs.Operations.{parent, head, ancestor, children, child, visit, visited};
-ghost use Rattle.celduga.specs.Code.{code, nothing, itself, complement};
+ghost use Rattle.queries.specs.Table.{columns, table, tabled};
+ghost use Rattle.celduga.specs.Code.{code, nothing, itself, complement, inHalves, version};
 use forest::Dfi;
 use record::Vertex;
 
@@ -33,6 +37,14 @@ pub extern "C" fn celduga_unpack(bytes: &[u8], list: &mut [u16]) -> u32
     ensures { λ r. ⌜ (r ≡ code nothing (unpack (now (bytes .entry)) (now (list .entry)))) × (now (list .exit) ≡ unpacked (now (bytes .entry)) (now (list .entry))) ⌝ }
 {
     codes::of_verdict(record::unpack(bytes, list))
+}
+
+// Where terminal v's part of an unpacked list stands: how many numbers of the list come before it, and how many it has.
+#[no_mangle]
+pub extern "C" fn celduga_neighbours(bytes: &[u8], list_len: usize, v: usize) -> u64
+    ensures { λ r. ⌜ (list : List ℕ) → length list ≡ list_len → r ≡ inHalves (neighboursBefore (now (bytes .entry)) list v) (length (neighbours (now (bytes .entry)) list v)) ⌝ }
+{
+    codes::of_part(record::part_of(bytes, list_len, Vertex(v)))
 }
 
 #[no_mangle]
@@ -100,6 +112,26 @@ pub extern "C" fn celduga_visited(bytes: &[u8], index: &[u8], i: usize) -> u32
     codes::of_found(queries::visited(bytes, index, Dfi(i)))
 }
 
+// ---- all terminals at once
+
+#[no_mangle]
+pub extern "C" fn celduga_table(
+    bytes: &[u8],
+    work: &mut [u16],
+    visits: &mut [u16],
+    parents: &mut [u16],
+    children: &mut [u16],
+    heads: &mut [u16],
+) -> u32
+    ensures { λ r. ⌜
+        (r ≡ code nothing (table (now (bytes .entry)) (now (work .entry)) (columns (now (visits .entry)) (now (parents .entry)) (now (children .entry)) (now (heads .entry)))))
+        × (columns (now (visits .exit)) (now (parents .exit)) (now (children .exit)) (now (heads .exit))
+        ≡ tabled (now (bytes .entry)) (now (work .entry)) (columns (now (visits .entry)) (now (parents .entry)) (now (children .entry)) (now (heads .entry))))
+        ⌝ }
+{
+    codes::of_verdict(queries::table(bytes, work, visits, parents, children, heads))
+}
+
 // ---- bit strings
 
 #[no_mangle]
@@ -114,4 +146,13 @@ pub extern "C" fn celduga_select(bytes: &[u8], start: usize, places: usize, k: u
     ensures { λ r. ⌜ r ≡ select (string (now (bytes .entry)) start places) k ⌝ }
 {
     bits::select(bytes, start, places, k)
+}
+
+// ---- the version of the archive
+
+#[no_mangle]
+pub extern "C" fn celduga_version() -> u32
+    ensures { λ r. ⌜ r ≡ version 0 2 0 ⌝ }
+{
+    65536 * 0 + 256 * 2 + 0
 }

@@ -7,3 +7,5 @@ pub mod Climbing
 pub mod Singles
 pub mod Paired
 pub mod Tabling
+pub mod TableRules
+pub mod Rooms

@@ -25,6 +25,8 @@ use Rattle.queries.specs.Laws.Answered as Answered
 use Rattle.queries.specs.Laws.Built.{built-own, built-fill, built-rest}
 use Rattle.queries.specs.Laws.Edges.{E-told, P-told, P-as-E, E-as-P, P-none, P-once, B-told, B-both}
 use Rattle.queries.specs.Laws.Alike.{alike-answers}
+use Rattle.queries.specs.Laws.Columns.{table-cells}
+use Rattle.queries.specs.Table.{tableOf, Tabled}
 
 -- where Build refuses nothing, it has written the index
 pub build-writes : (bytes work buffer : List ℕ) → build bytes work buffer ≡ answered tt → Written bytes (built bytes work buffer)
@@ -144,6 +146,10 @@ module _ {bytes index : List ℕ} (w : Written bytes index) where
     pub ancestor-relation : (ancestorIn F (u - 1) (v - 1) ≡ true) ↔ Ancestor F (u - 1) (v - 1)
     ancestor-relation =
         ancestor-told (Answered.formed w .in-range) (Answered.covered w) (u - 1) (v - 1) (Answered.vertex-of w r)
+
+  -- Table: each cell is what its query answers, so none is a refusal
+  pub table-told : Tabled bytes index (tableOf bytes)
+  table-told = table-cells w
 
   -- ---- Demand 3
 

@@ -12,3 +12,4 @@ pub mod Alike
 pub mod Answered
 pub mod Edges
 pub mod Ready
+pub mod Columns

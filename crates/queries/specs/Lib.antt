@@ -5,7 +5,8 @@ pub mod Operations
 pub mod Answers
 pub mod Steps
 pub mod Written
+pub mod Table
+pub mod Filling
 pub mod Laws
 pub mod Demands
-pub mod Table
 pub mod Examples

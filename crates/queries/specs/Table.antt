@@ -1,40 +1,74 @@
--- The answers for all terminals at once, as arrays in which cell v - 1 is terminal v's.
+-- Table: what Visit, Parent, Children and Head answer for every terminal, on the index that Build writes.
+--   Columns      four lists, in which cell v - 1 is terminal v's
+--   answersOf    a query's answers for the terminals 1 to n, as numbers
+--   tableOf      the four lists of a record
+--   tableRules   Check's rules, 9, and 10 for the four lists that are lent
+--   table        what the operation answers
+--   tabled       what the four lists hold afterwards
+--   Tabled       each cell is what its query answers
 use mathlib.Core.Path.{_≡_}
-use mathlib.Core.List.{List}
-use Prim.Native.Nat.{ℕ, suc, _-_, _<_}
+use mathlib.Core.Bool.{Bool, _||_}
+use mathlib.Core.List.{List, [], _∷_, _++_, map}
+use Prim.Native.Nat.{ℕ, suc, _-_, _*_}
+use lib.Dec.{ltb}
 use lib.ListN.{length, getD}
-use Rattle.graph.specs.Search.{forest}
-use Rattle.graph.specs.Forest.{vertexAt, parent as parentIn, head as headIn}
-use Rattle.record.specs.Record.{terminals, wires, blocks}
-use Rattle.record.specs.Answers.{answered}
-use Rattle.queries.specs.Answers.{unlessZero}
+use Rattle.graph.specs.Search.{countUp}
+use Rattle.record.specs.Record.{terminals, blocks}
+use Rattle.record.specs.Rules.{Rule, checkRules}
+use Rattle.record.specs.Answers.{Answer, answered, said, tried, bufferAfter}
+use Rattle.record.specs.Operations.{otherLength}
+use Rattle.forest.specs.Index.{indexOf}
+use Rattle.queries.specs.Answers.{orZero, unlessZero}
 use Rattle.queries.specs.Operations.{parent, head, children, visit}
-use Rattle.queries.specs.Written.{Written, Terminal}
+use Rattle.queries.specs.Written.{Terminal}
 
--- each terminal's cell is what the query answers
-pub record Tabled (bytes index visits parents counts heads : List ℕ) : Type 0 where
-  pub visits-are : {v : ℕ} → Terminal bytes v → visit bytes index v ≡ answered (getD visits (v - 1) 0)
-  pub parents-are : {v : ℕ} → Terminal bytes v → parent bytes index v ≡ answered (unlessZero (getD parents (v - 1) 0))
-  pub counts-are : {v : ℕ} → Terminal bytes v → children bytes index v ≡ answered (getD counts (v - 1) 0)
-  pub heads-are : {v : ℕ} → Terminal bytes v → head bytes index v ≡ answered (getD heads (v - 1) 0)
+pub record Columns : Type 0 where
+  pub visits : List ℕ
+  pub parents : List ℕ
+  pub counts : List ℕ
+  pub heads : List ℕ
 
--- ---- for contracts inside the crate
+abbrev pub columns : List ℕ → List ℕ → List ℕ → List ℕ → Columns
+columns v p c h = record { visits = v; parents = p; counts = c; heads = h }
 
--- Build wrote the index, and n and m are the record's
-pub record Ready (bytes index : List ℕ) (n m : ℕ) : Type 0 where
-  pub written : Written bytes index
-  pub is-n : n ≡ terminals bytes
-  pub is-m : m ≡ wires bytes
+-- ---- the answers
 
--- cell `at i` is `value i`, for the first k of n
-pub record Cells (at value : ℕ → ℕ) (n k : ℕ) (l : List ℕ) : Type 0 where
-  pub size : length l ≡ n
-  pub cells : (i : ℕ) → i < k → getD l (at i) 0 ≡ value i
+-- each as a number; 0 would stand for a refusal, and `table-told` says that there is none
+unfoldable pub answersOf : {A : Type 0} → (A → ℕ) → (ℕ → Answer A) → ℕ → List ℕ
+answersOf number ask n = map (λ v. said number (ask (suc v))) (countUp 0 n)
 
--- the heads of the first k vertices in order of visits
-pub record HeadsTo (bytes : List ℕ) (n k : ℕ) (heads : List ℕ) : Type 0 where
-  pub hold : Cells (vertexAt (forest (blocks bytes))) (λ i. suc (headIn (blocks bytes) (forest (blocks bytes)) (vertexAt (forest (blocks bytes)) i))) n k heads
+-- a root's parent is 0
+unfoldable pub tableOf : List ℕ → Columns
+tableOf bytes =
+    let index : List ℕ = indexOf (blocks bytes) in
+    columns
+    (answersOf (λ i. i) (visit bytes index) (terminals bytes))
+    (answersOf orZero (parent bytes index) (terminals bytes))
+    (answersOf (λ k. k) (children bytes index) (terminals bytes))
+    (answersOf (λ v. v) (head bytes index) (terminals bytes))
 
--- and their parents
-pub record ParentsTo (bytes : List ℕ) (n k : ℕ) (parents : List ℕ) : Type 0 where
-  pub hold : Cells (vertexAt (forest (blocks bytes))) (λ i. parentIn (forest (blocks bytes)) (vertexAt (forest (blocks bytes)) i)) n k parents
+-- ---- the operation
+
+-- one of the lists is not n long
+unfoldable pub misfits : ℕ → Columns → Bool
+misfits n lent =
+    otherLength (lent .visits) n
+    || (otherLength (lent .parents) n || (otherLength (lent .counts) n || otherLength (lent .heads) n))
+
+unfoldable pub tableRules : List ℕ → List ℕ → Columns → List Rule
+tableRules bytes work lent =
+    checkRules bytes ++ ((9, ltb (length work) (8 * terminals bytes)) ∷ (10, misfits (terminals bytes) lent) ∷ [])
+
+unfoldable pub table : List ℕ → List ℕ → Columns → Answer (Unit {0})
+table bytes work lent = tried (tableRules bytes work lent) tt
+
+unfoldable pub tabled : List ℕ → List ℕ → Columns → Columns
+tabled bytes work lent = bufferAfter (tableRules bytes work lent) (tableOf bytes) lent
+
+-- ---- cell by cell
+
+pub record Tabled (bytes index : List ℕ) (t : Columns) : Type 0 where
+  pub visits-are : {v : ℕ} → Terminal bytes v → visit bytes index v ≡ answered (getD (t .visits) (v - 1) 0)
+  pub parents-are : {v : ℕ} → Terminal bytes v → parent bytes index v ≡ answered (unlessZero (getD (t .parents) (v - 1) 0))
+  pub counts-are : {v : ℕ} → Terminal bytes v → children bytes index v ≡ answered (getD (t .counts) (v - 1) 0)
+  pub heads-are : {v : ℕ} → Terminal bytes v → head bytes index v ≡ answered (getD (t .heads) (v - 1) 0)

@@ -1,13 +1,15 @@
-// The queries on a record and its index (document 01, "Operations and their answers"). No operation of this file has a precondition: each
-// answers for every record and index, built or not, and every number.
+// The queries on a record and its index (document 01, "Operations and their answers"), and their answers for all terminals at once. No
+// operation of this file has a precondition: each answers for every record and index, built or not, and every number.
 ghost use mathlib.Core.Path.{_≡_};
-ghost use Rattle.record.specs.Answers.{counted};
+ghost use Rattle.record.specs.Answers.{counted, verdict};
 ghost use Rattle.queries.specs.Answers.{above, terminal, related, numbered};
 ghost use Rattle.queries.specs.Operations.{parent as parentOf, head as headOf, ancestor as ancestorOf, children as childrenOf, child as childOf, visit as visitOf, visited as visitedOf};
+ghost use Rattle.queries.specs.Table.{columns, table as tableAnswer, tabled};
 use forest::Dfi;
 use record::Counted;
 use record::Refusal;
 use record::Shape;
+use record::Verdict;
 use record::Vertex;
 use record::range::out_of_range;
 
@@ -18,7 +20,8 @@ mod climbs; // climbs.rt: steps up the forest
 mod ascents; // ascents.rt: climbs, with the starts of the blocks
 mod single; // single.rt: one vertex
 mod visits; // visits.rt: the stored numbers
-pub mod table; // table.rt: the answers for all terminals at once
+mod columns; // columns.rt: the lists of a table
+mod tables; // tables.rt: Table, behind order R
 pub mod pair; // pair.rt: demand 3 over the running code
 
 // What stands above a terminal.
@@ -141,6 +144,32 @@ pub fn visited(bytes: &[u8], index: &[u8], i: Dfi) -> Found
             let n = s.n;
             let m = s.m;
             visits::visited_in(bytes, index, n, m, i)
+        }
+    }
+}
+
+// Table: what Visit, Parent (0 for a root), Children and Head answer for every terminal on the index that Build writes, cell v - 1 for
+// terminal v. The work slice is Build's, and no index is lent. A refused call leaves the lists as they were.
+pub fn table(
+    bytes: &[u8],
+    work: &mut [u16],
+    visits: &mut [u16],
+    parents: &mut [u16],
+    counts: &mut [u16],
+    heads: &mut [u16],
+) -> Verdict
+    ensures { λ r. ⌜
+        (verdict r ≡ tableAnswer (now (bytes .entry)) (now (work .entry)) (columns (now (visits .entry)) (now (parents .entry)) (now (counts .entry)) (now (heads .entry))))
+        × (columns (now (visits .exit)) (now (parents .exit)) (now (counts .exit)) (now (heads .exit))
+        ≡ tabled (now (bytes .entry)) (now (work .entry)) (columns (now (visits .entry)) (now (parents .entry)) (now (counts .entry)) (now (heads .entry))))
+        ⌝ }
+{
+    match record::header::order_r(bytes) {
+        Shape::Refused(r) => Verdict::Refused(r),
+        Shape::Passed(s) => {
+            let n = s.n;
+            let m = s.m;
+            tables::table_in(bytes, n, m, work, visits, parents, counts, heads)
         }
     }
 }

@@ -39,9 +39,14 @@ otherwise (suc k) a = refused (suc k)
 abbrev pub triedThen : {A : Type 0} → List Rule → Answer A → Answer A
 triedThen rules a = otherwise (firstBroken rules) a
 
--- the result buffer afterwards: written where no rule is broken, else as it was
-unfoldable pub bufferAfter : List Rule → List ℕ → List ℕ → List ℕ
+-- what a result buffer, or several, hold afterwards: written where no rule is broken, else as it was
+unfoldable pub bufferAfter : {A : Type 0} → List Rule → A → A → A
 bufferAfter rules written former = elim (eqb (firstBroken rules) 0) [ true ↦ written | false ↦ former ]
+
+-- the value as a number, 0 where there is none
+unfoldable pub said : {A : Type 0} → (A → ℕ) → Answer A → ℕ
+said number (refused k) = 0
+said number (answered a) = number a
 
 -- the number of a refusal
 abbrev pub number : Refusal → ℕ

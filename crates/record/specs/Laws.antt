@@ -12,6 +12,7 @@ pub mod Unary
 pub mod RoundTrip
 pub mod Sounded
 pub mod Spans
+pub mod OneBlock
 pub mod Raised
 pub mod InOrder
 pub mod Stores

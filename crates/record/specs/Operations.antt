@@ -57,6 +57,11 @@ neighbours bytes list v = elim (neighboursGiven bytes list v) [ true ↦ block (
 unfoldable pub neighboursBefore : List ℕ → List ℕ → ℕ → ℕ
 neighboursBefore bytes list v = elim (neighboursGiven bytes list v) [ true ↦ getD (startsOf (unary bytes)) (v - 1) 0 | false ↦ 0 ]
 
+-- where that part stands in any list of this length: how many numbers come before it, and how many it has
+pub record PartOf (bytes : List ℕ) (len v from size : ℕ) : Type 0 where
+  pub begins : (list : List ℕ) → length list ≡ len → from ≡ neighboursBefore bytes list v
+  pub counts : (list : List ℕ) → length list ≡ len → size ≡ length (neighbours bytes list v)
+
 -- the address of a list of 16-bit numbers (a block of memory, and a byte in it), k numbers further on
 abbrev pub further : ℕ × ℕ → ℕ → ℕ × ℕ
 further a k = (a .0, k * 2 + a .1)

@@ -3,7 +3,7 @@
 ghost use mathlib.Core.Path.{_≡_};
 ghost use Rattle.record.specs.Rules.{checkRules};
 ghost use Rattle.record.specs.Answers.{number, verdict, counted, figure, shape, tried, sizesOf};
-ghost use Rattle.record.specs.Operations.{check as checkOf, degree as degreeOf, unpack as unpackOf, unpacked, neighbours as neighboursOf, neighboursBefore, further, loopFigure};
+ghost use Rattle.record.specs.Operations.{check as checkOf, degree as degreeOf, unpack as unpackOf, unpacked, neighbours as neighboursOf, neighboursBefore, PartOf, further, loopFigure};
 
 pub mod cells; // cells.rt: cells of 16 bits
 pub mod header; // header.rt: the header, and order R
@@ -51,6 +51,12 @@ pub enum Counted {
 pub enum Figure {
     Loops(i32),
     Refused(Refusal),
+}
+
+// A part of a list: how many numbers come before it, and how many it has.
+pub struct Part {
+    pub from: usize,
+    pub size: usize,
 }
 
 // The numbers of terminals and of wires.
@@ -156,17 +162,27 @@ pub fn degree(bytes: &[u8], v: Vertex) -> Counted
     }
 }
 
+// Where terminal v's part of an unpacked list of len numbers stands; nothing, at the front, where Neighbours refuses.
+pub fn part_of(bytes: &[u8], len: usize, v: Vertex) -> Part
+    ensures { λ r. ⌜ PartOf (now (bytes .entry)) len (v .0) (r .from) (r .size) ⌝ }
+{
+    match header::order_r(bytes) {
+        Shape::Refused(_) => Part { from: 0, size: 0 },
+        Shape::Passed(s) => {
+            let n = s.n;
+            let m = s.m;
+            blocks::part_in(bytes, n, m, len, v)
+        }
+    }
+}
+
 // Neighbours: the part of the caller's unpacked list that is terminal v's block; the empty part at the front where Degree refuses or the list
 // is not 2·m long.
 pub fn neighbours<'a, 'b>(bytes: &'a [u8], list: &'b [u16], v: Vertex) -> &'b [u16]
     ensures { λ r. ⌜ (now r ≡ neighboursOf (now (bytes .entry)) (now (list .entry)) (v .0)) × (r .ptr ≡ further (list .entry .ptr) (neighboursBefore (now (bytes .entry)) (now (list .entry)) (v .0))) ⌝ }
 {
-    match header::order_r(bytes) {
-        Shape::Refused(_) => &list[..0],
-        Shape::Passed(s) => {
-            let n = s.n;
-            let m = s.m;
-            blocks::neighbours_in(bytes, list, n, m, v)
-        }
-    }
+    let p = part_of(bytes, list.len(), v);
+    let from = p.from;
+    let to = from + p.size;
+    &list[from..to]
 }

@@ -1,15 +1,18 @@
 -- What a C program reads in the two halves of a result.
 use mathlib.Core.Path.{_≡_}
 use mathlib.Core.Bool.{Bool, true, false}
+use mathlib.Core.List.{List}
 use mathlib.Core.Option.{Option}
 use Prim.Native.Nat.{ℕ, _/_, _%_, _<_}
 use native.Mathlib.Omega.{arith}
 use lib.IntN.{ℤ, pos, negsuc}
 use lib.Signed.{mag}
 use Rattle.bits.specs.Bits.{bit}
-use Rattle.record.specs.Answers.{Answer, refused, answered}
+use Rattle.record.specs.Answers.{Answer, refused, answered, said}
+use Rattle.record.specs.Operations.{PartOf}
+use Rattle.record.specs.Laws.OneBlock.{part-near}
 use Rattle.queries.specs.Answers.{orZero}
-use Rattle.celduga.specs.Code.{code, nothing, itself, complement}
+use Rattle.celduga.specs.Code.{code, nothing, itself, complement, inHalves}
 
 -- the value of an answer, if it has one, is such a value
 pub data Valued {A : Type 0} (P : A → Type 0) : Answer A → Type 0 where
@@ -32,11 +35,6 @@ Short a = Valued (λ (z : ℤ). mag z < 32768) a
 unfoldable pub refusal : {A : Type 0} → Answer A → ℕ
 refusal (refused k) = k
 refusal (answered a) = 0
-
--- the value's low half, 0 where there is no value
-unfoldable pub said : {A : Type 0} → (A → ℕ) → Answer A → ℕ
-said low (refused k) = 0
-said low (answered a) = low a
 
 pub halves : {A : Type 0} {P : A → Type 0} (low : A → ℕ) → ((a : A) → P a → low a < 65536) → {a : Answer A} → Valued P a
     → (code low a / 65536 ≡ refusal a) × (code low a % 65536 ≡ said low a)
@@ -80,3 +78,9 @@ halves-figure s = halves complement fits s
     fits : (z : ℤ) → mag z < 32768 → complement z < 65536
     fits (pos k) h = omega arith
     fits (negsuc k) h = omega arith
+
+-- where Neighbours' part stands, and how many numbers it has
+pub halves-part : {bytes : List ℕ} {len v from size : ℕ} → PartOf bytes len v from size
+    → (inHalves from size / 4294967296 ≡ from) × (inHalves from size % 4294967296 ≡ size)
+unfolding inHalves
+halves-part p = let n = part-near p in (omega arith, omega arith)

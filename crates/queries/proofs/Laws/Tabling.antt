@@ -16,21 +16,24 @@ use Rattle.graph.specs.Forest.{number, vertexAt, parent, head, children}
 use Rattle.graph.specs.Laws.Joined.Spanning.{Covers}
 use Rattle.graph.specs.Theorems.{number-in-range, vertex-in-range, vertex-of-number, number-of-vertex, parent-before-child}
 use Rattle.record.specs.Record.{unary, blocks, terminals}
-use Rattle.record.specs.Answers.{answered}
+use Rattle.record.specs.Answers.{Answer, answered}
+use Rattle.forest.specs.Index.{indexOf}
 use Rattle.record.specs.Starts.{startsOf}
 use Rattle.record.specs.Laws.Stores.{cell-same, cell-other}
 use Rattle.queries.specs.View.{viewBy, sectionOf, numberOf, blockMarks}
 use Rattle.queries.specs.Queries.{Step, stuck, top, rise, stepUp, parentBy, parentOf, headBy}
-use Rattle.queries.specs.Answers.{unlessZero}
+use Rattle.queries.specs.Answers.{orZero, unlessZero}
 use Rattle.queries.specs.Queries.{headNext}
-use Rattle.queries.specs.Written.{Terminal}
-use Rattle.queries.specs.Demands.{visit-told, parent-told, children-told, head-told}
-use Rattle.queries.specs.Table.{Tabled, Ready, Cells, HeadsTo, ParentsTo}
+use Rattle.queries.specs.Operations.{parent as parentAnswer, head as headAnswer, children as childrenAnswer, visit}
+use Rattle.queries.specs.Written.{Written, Terminal}
+use Rattle.queries.specs.Table.{columns, answersOf, tableOf}
+use Rattle.queries.specs.Filling.{Ready, Cells, HeadsTo, ParentsTo}
 use Rattle.queries.specs.Laws.Shown.{Shows, parent-shown, head-stopped, head-risen, count-shown}
 use Rattle.queries.specs.Laws.Built.{as-many}
 use Rattle.queries.specs.Laws.Ready.{ready-beside}
 use Rattle.queries.specs.Laws.Answered as Answered
-use Rattle.queries.specs.Laws.Answered.{same-answer}
+use Rattle.queries.specs.Laws.Answered.{same-answer, visit-answer, parent-answer, children-answer, head-answer}
+use Rattle.queries.specs.Laws.Columns.{column-told, or-unless}
 use Rattle.queries.proofs.Laws.Climbing.{block-from, block-to, rise-to}
 use Rattle.queries.specs.Laws.Framed.{length-P}
 use Rattle.queries.proofs.Laws.Stepping.{block-bounds}
@@ -201,22 +204,43 @@ module _ {bytes index : List ℕ} {n m : ℕ} (r : Ready bytes index n m) where
 
   -- ---- the whole table
 
-  vertex-of : {v : ℕ} → Terminal bytes v → v - 1 < n
-  vertex-of t = let a = t .some in let b = t .upto in let e = r .is-n in omega arith
+  -- a list that was filled in order of visits, by vertices
+  by-visit : (f : ℕ → ℕ) {l : List ℕ} → Cells (vertexAt (forest (blocks bytes))) (λ i. f (vertexAt (forest (blocks bytes)) i)) n n l
+      → Cells (λ v. v) f n n l
+  by-visit f {l} c = record {
+    size = c .size;
+    cells =
+        λ u h. ap (λ (x : ℕ). getD l x 0) (sym (back h))
+        ∙ c .cells (number (forest (blocks bytes)) u) (visit-inside h)
+        ∙ ap f (back h);
+  }
+
+  here : Written bytes (indexOf (blocks bytes))
+  here = record { accepted = r .written .accepted; is = refl }
+
+  -- a list of what a query answers
+  module _ {A : Type 0} (value : A → ℕ) (ask : ℕ → Answer A) (f : ℕ → A)
+      (answer : (v : ℕ) → Terminal bytes v → ask v ≡ answered (f (v - 1))) where
+    column : {l : List ℕ} → Cells (λ v. v) (λ v. value (f v)) n n l → l ≡ answersOf value ask (terminals bytes)
+    column c =
+        let e = r .is-n in
+        column-told value ask (terminals bytes) f answer (c .size ∙ e) (λ i h. c .cells i (omega arith))
 
   module _ {visits parents counts heads : List ℕ} where
-    pub tabled : Cells (λ v. v) (λ v. suc (number (forest (blocks bytes)) v)) n n visits → ParentsTo bytes n n parents
+    pub filled : Cells (λ v. v) (λ v. suc (number (forest (blocks bytes)) v)) n n visits → ParentsTo bytes n n parents
         → Cells (λ v. v) (λ v. length (children (forest (blocks bytes)) v)) n n counts → HeadsTo bytes n n heads
-        → Tabled bytes index visits parents counts heads
-    tabled cv cp cc ch = record {
-      visits-are = λ {v} t. visit-told (r .written) t ∙ ap answered (sym (cv .cells (v - 1) (vertex-of t)));
-      parents-are =
-          λ {v} t. parent-told (r .written) t
-          ∙ ap (λ (x : ℕ). answered (unlessZero x))
-          (sym (by-visit (parent (forest (blocks bytes))) (cp .hold) (vertex-of t)));
-      counts-are = λ {v} t. children-told (r .written) t ∙ ap answered (sym (cc .cells (v - 1) (vertex-of t)));
-      heads-are = λ {v} t. head-told (r .written) t ∙ ap answered (sym (by-visit (λ u. suc (head (blocks bytes) (forest (blocks bytes)) u)) (ch .hold) (vertex-of t)));
-    }
+        → columns visits parents counts heads ≡ tableOf bytes
+    unfolding tableOf
+    filled cv cp cc ch =
+        let index : List ℕ = indexOf (blocks bytes) in
+        let F = forest (blocks bytes) in
+        let pc = parent-cells (by-visit (parent F) (cp .hold)) in
+        let v = column (λ i. i) (visit bytes index) (λ u. suc (number F u)) (λ v t. visit-answer here t) cv in
+        let p = column orZero (parentAnswer bytes index) (λ u. unlessZero (parent F u)) (λ v t. parent-answer here t) pc in
+        let c = column (λ k. k) (childrenAnswer bytes index) (λ u. length (children F u)) (λ v t. children-answer here t) cc in
+        let h = column (λ u. u) (headAnswer bytes index) (λ u. suc (head (blocks bytes) F u)) (λ v t. head-answer here t) (by-visit (λ u. suc (head (blocks bytes) F u)) (ch .hold)) in
+        rw (v, p, c, h)
       where
-        by-visit : (f : ℕ → ℕ) {l : List ℕ} → Cells (vertexAt (forest (blocks bytes))) (λ i. f (vertexAt (forest (blocks bytes)) i)) n n l → {u : ℕ} → u < n → getD l u 0 ≡ f u
-        by-visit f {l} c {u} h = ap (λ (x : ℕ). getD l x 0) (sym (back h)) ∙ c .cells (number (forest (blocks bytes)) u) (visit-inside h) ∙ ap f (back h)
+        parent-cells : {l : List ℕ} → Cells (λ v. v) (parent (forest (blocks bytes))) n n l
+            → Cells (λ v. v) (λ v. orZero (unlessZero (parent (forest (blocks bytes)) v))) n n l
+        parent-cells c = record { size = c .size; cells = λ i h. c .cells i h ∙ sym (or-unless (parent (forest (blocks bytes)) i)) }

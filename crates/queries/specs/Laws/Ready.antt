@@ -6,7 +6,7 @@ use lib.ListN.{length}
 use Rattle.record.specs.Laws.Sounded.{sound-of, accepted-sound}
 use Rattle.forest.specs.Index.{indexLength}
 use Rattle.queries.specs.Steps.{Beside}
-use Rattle.queries.specs.Table.{Ready}
+use Rattle.queries.specs.Filling.{Ready}
 use Rattle.queries.specs.Laws.Built.{built-length}
 
 pub ready-beside : {bytes index : List ℕ} {n m : ℕ} → Ready bytes index n m → Beside bytes index n m

@@ -3,4 +3,3 @@ pub mod Headers
 pub mod Unpacked
 pub mod Tops
 pub mod Filled
-pub mod OneBlock

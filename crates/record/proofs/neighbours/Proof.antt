@@ -1,47 +1,49 @@
--- `neighbours` meets its contract: order R first, and then the block.
-use mathlib.Core.Path.{_∙_, sym, ap}
+-- `neighbours` meets its contract: it is the part of the list that `part_of` names.
+use mathlib.Core.Path.{refl, ap}
+use native.Mathlib.Omega.{arith}
 use borrow.Author.Needs.{needs}
-use Rattle.record.specs.Answers.{shape}
-use Rattle.record.proofs.Laws.Reading.OneBlock.{order-ungiven, front}
-use Rattle.record.specs.Laws.Sounded.{told-sound}
+use Rattle.record.specs.Operations.{further}
+use Rattle.record.specs.Laws.OneBlock.{part-fits, part-listed, part-near}
 use Rattle.record.proofs.neighbours.Statement.{statement}
 use Rattle.record.proofs.neighbours.Tie as tie
 
-order-r-requires : tie.Need-order-r-requires
-order-r-requires c κs = search needs
+part-of-requires : tie.Need-part-of-requires
+part-of-requires c κs = search needs
 
-enum-told : tie.Need-enum-told
-enum-told c = search needs
+add-to : tie.Need-add-to
+add-to c = let n = part-near (c .before .part-of .ensures) in omega arith
 
-slice-aggregate-result : tie.Need-slice-aggregate-result
-slice-aggregate-result c = search needs
+mul-result : tie.Need-mul-result
+mul-result c = let n = part-near (c .before .part-of .ensures) in omega arith
 
-enum-known-s : tie.Need-enum-known-s
-enum-known-s c = search needs
+sub-result : tie.Need-sub-result
+sub-result c = search needs
 
-neighbours-in-requires : tie.Need-neighbours-in-requires
-neighbours-in-requires c κs =
-    let bytes = c .before .before .before .before .before .before .args .bytes .now in
-    told-sound bytes (sym (ap shape (c .before .s .given .1)) ∙ c .before .before .before .order-r .ensures)
+part-result-start : tie.Need-part-result-start
+part-result-start c = search needs
+
+part-result-end : tie.Need-part-result-end
+part-result-end c =
+    let args = c .before .before .before .before .args in
+    let f = part-fits (args .bytes .now) (args .list .now) (args .v .0) (c .before .part-of .ensures) in
+    omega arith
 
 returns : tie.Need-returns
 returns c =
-    let bytes = c .before .before .before .before .before .before .args .bytes .now in
-    let list = c .before .before .before .before .before .before .args .list .now in
-    let v = c .before .before .before .before .before .before .args .v in
-    front bytes list (v .0) (c .before .before .before .before .before .before .args .list .ptr) (order-ungiven bytes list (v .0) (sym (ap shape (c .before .enum-told .given .1)) ∙ c .before .before .before .order-r .ensures))
-
-returns-2 : tie.Need-returns-2
-returns-2 c = search needs
+    let args = c .before .before .before .before .before .args in
+    let p = c .before .before .part-of .ensures in (
+      part-listed (args .bytes .now) (args .list .now) (args .v .0) p,
+      ap (further (args .list .ptr)) (p .begins (args .list .now) refl),
+    )
 
 pub neighbours-spec : {M : Type 1} → statement M
 neighbours-spec =
     tie.close
     (tie.spec
-    order-r-requires
-    enum-told
-    slice-aggregate-result
-    enum-known-s
-    neighbours-in-requires
-    returns
-    returns-2)
+    part-of-requires
+    add-to
+    mul-result
+    sub-result
+    part-result-start
+    part-result-end
+    returns)

@@ -72,7 +72,7 @@ module _ {A : Type 0} where
 
 -- ---- the result buffer afterwards
 
-module _ (rules : List Rule) (written former : List ℕ) where
+module _ {A : Type 0} (rules : List Rule) (written former : A) where
   pub buffer-kept : {k : ℕ} → firstBroken rules ≡ suc k → former ≡ bufferAfter rules written former
   unfolding bufferAfter
   buffer-kept e = let f : eqb (firstBroken rules) 0 ≡ false = ne-eqb (firstBroken rules) 0 (λ z. omega arith) in rw (f, bufferAfter)

@@ -10,7 +10,7 @@ use Rattle.record.specs.Operations.{outOfRange, degree}
 use Rattle.record.specs.Record.{blocks}
 use Rattle.record.specs.Laws.Range.{range-inside}
 use Rattle.record.specs.Laws.Told.{told}
-use Rattle.record.proofs.Laws.Reading.OneBlock.{outside, block-rises, degree-is}
+use Rattle.record.specs.Laws.OneBlock.{outside, block-rises, degree-is}
 use Rattle.record.proofs.blocks.degree_in.Statement.{statement}
 use Rattle.record.proofs.blocks.degree_in.Tie as tie
 

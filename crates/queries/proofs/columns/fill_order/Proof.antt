@@ -1,15 +1,15 @@
--- `table::fill_order` meets its contract.
+-- `columns::fill_order` meets its contract.
 use Rattle.queries.specs.Laws.Ready.{ready-beside}
 use Rattle.queries.proofs.Laws.Tabling.{cells-begin, cells-put, visit-inside, numbers-apart, order-filled}
-use Rattle.queries.specs.Table.{Cells}
+use Rattle.queries.specs.Filling.{Cells}
 use Rattle.graph.specs.Forest.{number}
 use Rattle.graph.specs.Search.{forest}
 use Rattle.record.specs.Record.{blocks}
 use Prim.Native.Nat.{_-_}
 use native.Mathlib.Omega.{arith}
 use mathlib.Core.Path.{refl, sym, _∙_}
-use Rattle.queries.proofs.table.fill_order.Statement.{statement}
-use Rattle.queries.proofs.table.fill_order.Tie as tie
+use Rattle.queries.proofs.columns.fill_order.Statement.{statement}
+use Rattle.queries.proofs.columns.fill_order.Tie as tie
 
 abbrev Inv-loop : tie.InvT-loop
 Inv-loop bytes index n m visits order₀ v₀ order v = Cells (number (forest (blocks bytes))) (λ x. x) n v order

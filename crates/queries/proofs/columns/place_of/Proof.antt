@@ -1,4 +1,4 @@
--- `table::place_of` meets its contract.
+-- `columns::place_of` meets its contract.
 use Rattle.queries.specs.Laws.Ready.{ready-beside}
 use Rattle.queries.proofs.Laws.Tabling.{at-inside, never-stuck, root-parent, root-head, risen-to, risen-parent}
 use Rattle.queries.proofs.Laws.Tabling.{risen-head, stopped}
@@ -7,8 +7,8 @@ use Rattle.queries.specs.Steps.{stepOf}
 use native.Mathlib.Omega.{arith}
 use mathlib.Core.Path.{sym, ap, _∙_}
 use borrow.Author.Needs.{needs}
-use Rattle.queries.proofs.table.place_of.Statement.{statement}
-use Rattle.queries.proofs.table.place_of.Tie as tie
+use Rattle.queries.proofs.columns.place_of.Statement.{statement}
+use Rattle.queries.proofs.columns.place_of.Tie as tie
 
 get-requires : tie.Need-get-requires
 get-requires c κs = let l = starts-long (ready-beside (c .before .before .before .before .pre .0) .sound) (c .before .before .before .before .pre .1) in let h = at-inside (c .before .before .before .before .pre .0) (c .before .before .before .before .pre .2) (c .before .before .before .before .pre .3) in omega arith

@@ -1,4 +1,4 @@
-// The answers for all terminals at once, in linear time, for an index that Build wrote. Heads are found in order of visits, so that a
+// The lists of a table, in linear time, for an index that Build wrote. Heads are found in order of visits, so that a
 // vertex's parent comes before it.
 ghost use mathlib.Core.Path.{_≡_};
 ghost use Prim.Native.Nat.{suc, _+_, _<_};
@@ -7,7 +7,8 @@ ghost use Rattle.graph.specs.Search.{forest};
 ghost use Rattle.graph.specs.Forest.{number, vertexAt, parent as parentIn, head as headIn, children as childrenIn};
 ghost use Rattle.record.specs.Record.{unary, blocks};
 ghost use Rattle.record.specs.Starts.{startsOf};
-ghost use Rattle.queries.specs.Table.{Tabled, Ready, Cells, HeadsTo, ParentsTo};
+ghost use Rattle.queries.specs.Filling.{Ready, Cells, HeadsTo, ParentsTo};
+ghost use Rattle.queries.specs.Table.{columns, tableOf};
 use super::blocks::count_children;
 use super::climbs::Step;
 use super::climbs::step_up;
@@ -124,8 +125,8 @@ fn fill_climbs(
     }
 }
 
-// What Visit, Parent, Children and Head answer for every terminal. The starts and the order are room to work in.
-pub fn table(
+// The four lists. The starts and the order are room to work in.
+pub fn fill(
     bytes: &[u8],
     index: &[u8],
     n: usize,
@@ -138,7 +139,7 @@ pub fn table(
     heads: &mut [u16],
 )
     requires { ⌜ (Ready (now bytes) (now index) n m) × (length (now starts) ≡ n + 1) × (length (now order) ≡ n) × (length (now visits) ≡ n) × (length (now parents) ≡ n) × (length (now counts) ≡ n) × (length (now heads) ≡ n) ⌝ }
-    ensures { λ _. ⌜ Tabled (now (bytes .entry)) (now (index .entry)) (now (visits .exit)) (now (parents .exit)) (now (counts .exit)) (now (heads .exit)) ⌝ }
+    ensures { λ _. ⌜ columns (now (visits .exit)) (now (parents .exit)) (now (counts .exit)) (now (heads .exit)) ≡ tableOf (now (bytes .entry)) ⌝ }
 {
     fill_starts(bytes, n, m, starts);
     fill_visits(bytes, index, n, m, visits);

@@ -1,9 +1,9 @@
--- `table::fill_counts` meets its contract.
+-- `columns::fill_counts` meets its contract.
 use Rattle.queries.specs.Laws.Ready.{ready-beside}
 use Rattle.queries.proofs.Laws.Tabling.{cells-begin, cells-put, cells-end, apart-self, block-span, count-cell}
 use Rattle.queries.proofs.Laws.Tabling.{count-small}
 use Rattle.queries.proofs.Laws.Climbing.{starts-long}
-use Rattle.queries.specs.Table.{Cells}
+use Rattle.queries.specs.Filling.{Cells}
 use Rattle.graph.specs.Forest.{children}
 use Rattle.graph.specs.Search.{forest}
 use Rattle.record.specs.Record.{blocks}
@@ -11,8 +11,8 @@ use Prim.Native.Nat.{_-_}
 use lib.ListN.{length}
 use native.Mathlib.Omega.{arith}
 use mathlib.Core.Path.{refl, sym, _∙_}
-use Rattle.queries.proofs.table.fill_counts.Statement.{statement}
-use Rattle.queries.proofs.table.fill_counts.Tie as tie
+use Rattle.queries.proofs.columns.fill_counts.Statement.{statement}
+use Rattle.queries.proofs.columns.fill_counts.Tie as tie
 
 abbrev Inv-loop : tie.InvT-loop
 Inv-loop bytes index n m starts counts₀ v₀ counts v = Cells (λ u. u) (λ u. length (children (forest (blocks bytes)) u)) n v counts

@@ -1,15 +1,15 @@
--- `table::fill_visits` meets its contract.
+-- `columns::fill_visits` meets its contract.
 use Rattle.queries.specs.Laws.Ready.{ready-beside}
 use Rattle.queries.proofs.Laws.Tabling.{cells-begin, cells-put, cells-end, apart-self, visit-cell}
-use Rattle.queries.specs.Table.{Cells}
+use Rattle.queries.specs.Filling.{Cells}
 use Rattle.graph.specs.Forest.{number}
 use Rattle.graph.specs.Search.{forest}
 use Rattle.record.specs.Record.{blocks}
 use Prim.Native.Nat.{suc, _-_}
 use native.Mathlib.Omega.{arith}
 use mathlib.Core.Path.{refl, sym, _∙_}
-use Rattle.queries.proofs.table.fill_visits.Statement.{statement}
-use Rattle.queries.proofs.table.fill_visits.Tie as tie
+use Rattle.queries.proofs.columns.fill_visits.Statement.{statement}
+use Rattle.queries.proofs.columns.fill_visits.Tie as tie
 
 abbrev Inv-loop : tie.InvT-loop
 Inv-loop bytes index n m visits₀ v₀ visits v = Cells (λ u. u) (λ u. suc (number (forest (blocks bytes)) u)) n v visits

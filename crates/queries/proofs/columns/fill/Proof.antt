@@ -1,9 +1,9 @@
--- `table::table` meets its contract.
+-- `columns::fill` meets its contract.
 use Rattle.queries.specs.Laws.Ready.{ready-beside}
-use Rattle.queries.proofs.Laws.Tabling.{tabled}
+use Rattle.queries.proofs.Laws.Tabling.{filled}
 use borrow.Author.Needs.{needs}
-use Rattle.queries.proofs.table.table.Statement.{statement}
-use Rattle.queries.proofs.table.table.Tie as tie
+use Rattle.queries.proofs.columns.fill.Statement.{statement}
+use Rattle.queries.proofs.columns.fill.Tie as tie
 
 fill-starts-requires : tie.Need-fill-starts-requires
 fill-starts-requires c κs = (ready-beside (c .before .before .before .before .before .before .before .before .before .pre .0) .sound, c .before .before .before .before .before .before .before .before .before .pre .1)
@@ -39,10 +39,10 @@ same-length-6 : tie.Need-same-length-6
 same-length-6 c = search needs
 
 returns : tie.Need-returns
-returns c = tabled (c .before .before .before .before .before .before .before .before .before .before .before .before .before .before .before .before .before .before .before .before .before .before .before .before .before .before .before .before .before .before .before .before .before .before .before .pre .0) (c .before .before .before .before .before .before .before .before .before .before .before .before .before .before .before .before .before .before .before .before .before .fill-visits .ensures) (c .before .before .before .before .fill-climbs .ensures .0) (c .before .before .before .before .before .before .before .before .before .before .before .before .before .before .before .before .fill-counts .ensures) (c .before .before .before .before .fill-climbs .ensures .1)
+returns c = filled (c .before .before .before .before .before .before .before .before .before .before .before .before .before .before .before .before .before .before .before .before .before .before .before .before .before .before .before .before .before .before .before .before .before .before .before .pre .0) (c .before .before .before .before .before .before .before .before .before .before .before .before .before .before .before .before .before .before .before .before .before .fill-visits .ensures) (c .before .before .before .before .fill-climbs .ensures .0) (c .before .before .before .before .before .before .before .before .before .before .before .before .before .before .before .before .fill-counts .ensures) (c .before .before .before .before .fill-climbs .ensures .1)
 
-pub table-spec : {M : Type 1} → statement M
-table-spec =
+pub fill-spec : {M : Type 1} → statement M
+fill-spec =
     tie.close
     (tie.spec
     fill-starts-requires

@@ -1,15 +1,15 @@
--- `table::fill_climbs` meets its contract.
+-- `columns::fill_climbs` meets its contract.
 use Rattle.queries.specs.Laws.Ready.{ready-beside}
 use Rattle.queries.proofs.Laws.Tabling.{cells-begin, cells-put, cells-end, vertex-inside, vertices-apart}
-use Rattle.queries.specs.Table.{HeadsTo, ParentsTo}
+use Rattle.queries.specs.Filling.{HeadsTo, ParentsTo}
 use Rattle.graph.specs.Forest.{parent as parentIn, head as headIn}
 use Rattle.graph.specs.Search.{forest}
 use Rattle.record.specs.Record.{blocks}
 use Prim.Native.Nat.{ℕ, suc, _-_}
 use native.Mathlib.Omega.{arith}
 use mathlib.Core.Path.{sym, ap, _∙_}
-use Rattle.queries.proofs.table.fill_climbs.Statement.{statement}
-use Rattle.queries.proofs.table.fill_climbs.Tie as tie
+use Rattle.queries.proofs.columns.fill_climbs.Statement.{statement}
+use Rattle.queries.proofs.columns.fill_climbs.Tie as tie
 
 abbrev Inv-loop : tie.InvT-loop
 Inv-loop bytes index n m starts order parents₀ heads₀ k₀ parents heads k = ParentsTo bytes n k parents × HeadsTo bytes n k heads

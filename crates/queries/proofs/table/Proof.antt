@@ -1,0 +1,65 @@
+-- `table` meets its contract: order R first, and then the rest.
+use mathlib.Core.Path.{sym, ap, _∙_}
+use borrow.Author.Needs.{needs}
+use Rattle.record.specs.Answers.{shape}
+use Rattle.record.specs.Laws.Sounded.{told-sound}
+use Rattle.queries.specs.Table.{columns}
+use Rattle.queries.proofs.Laws.TableRules.{table-unread}
+use Rattle.queries.proofs.table.Statement.{statement}
+use Rattle.queries.proofs.table.Tie as tie
+
+order-r-requires : tie.Need-order-r-requires
+order-r-requires c κs = search needs
+
+enum-known-r : tie.Need-enum-known-r
+enum-known-r c = search needs
+
+enum-known-s : tie.Need-enum-known-s
+enum-known-s c = search needs
+
+table-in-requires : tie.Need-table-in-requires
+table-in-requires c κs =
+    let args = c .before .before .before .before .before .before .before .before .before .before .before .before .before .before .before .args in
+    let order-r = c .before .before .before .before .before .before .before .before .order-r in
+    told-sound (args .bytes .now) (sym (ap shape (c .before .before .before .before .before .before .s .given .1)) ∙ order-r .ensures)
+
+returns : tie.Need-returns
+returns c =
+    let args = c .before .before .before .before .before .before .before .before .before .before .args in
+    let order-r = c .before .before .before .order-r in
+    let lent = columns (args .visits .now) (args .parents .now) (args .counts .now) (args .heads .now) in
+    table-unread (args .bytes .now) (args .work .now) lent (sym (ap shape (c .before .r .given .1)) ∙ order-r .ensures)
+
+same-length : tie.Need-same-length
+same-length c = search needs
+
+same-length-2 : tie.Need-same-length-2
+same-length-2 c = search needs
+
+same-length-3 : tie.Need-same-length-3
+same-length-3 c = search needs
+
+same-length-4 : tie.Need-same-length-4
+same-length-4 c = search needs
+
+same-length-5 : tie.Need-same-length-5
+same-length-5 c = search needs
+
+returns-2 : tie.Need-returns-2
+returns-2 c = search needs
+
+pub table-spec : {M : Type 1} → statement M
+table-spec =
+    tie.close
+    (tie.spec
+    order-r-requires
+    enum-known-r
+    enum-known-s
+    table-in-requires
+    returns
+    same-length
+    same-length-2
+    same-length-3
+    same-length-4
+    same-length-5
+    returns-2)

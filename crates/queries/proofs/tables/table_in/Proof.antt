@@ -1,0 +1,64 @@
+-- `tables::table_in` meets its contract.
+use mathlib.Core.Path.{sym, _∙_}
+use Prim.Native.Nat.{_≤_}
+use native.Mathlib.Omega.{arith}
+use borrow.Author.Needs.{needs}
+use Rattle.record.specs.Laws.Stores.{part-zeros}
+use Rattle.queries.proofs.Laws.Rooms.{index-short}
+use Rattle.queries.proofs.tables.table_in.Statement.{statement}
+use Rattle.queries.proofs.tables.table_in.Tie as tie
+
+index-length-requires : tie.Need-index-length-requires
+index-length-requires c κs = search needs
+
+-- the index has room
+short : (c : tie.After-index-length) → c .index-length .result ≤ 19968
+short c =
+    let s = c .before .before .before .before .before .before .before in
+    let e = c .index-length .ensures in
+    let l = index-short (s .pre .n-fits) (s .pre .m-fits) in
+    omega arith
+
+array-borrow-prefix-index : tie.Need-array-borrow-prefix-index
+array-borrow-prefix-index c = short (c .before)
+
+slice-aggregate-table-by : tie.Need-slice-aggregate-table-by
+slice-aggregate-table-by c = sym (part-zeros 19968 _ (short (c .before .before)))
+
+table-by-requires : tie.Need-table-by-requires
+table-by-requires c κs =
+    let i = c .before .before .before .before .before .before in
+    (i .before .before .before .before .before .before .before .pre, part-zeros 19968 _ (short i) ∙ i .index-length .ensures)
+
+same-length : tie.Need-same-length
+same-length c = search needs
+
+same-length-2 : tie.Need-same-length-2
+same-length-2 c = search needs
+
+same-length-3 : tie.Need-same-length-3
+same-length-3 c = search needs
+
+same-length-4 : tie.Need-same-length-4
+same-length-4 c = search needs
+
+same-length-5 : tie.Need-same-length-5
+same-length-5 c = search needs
+
+returns : tie.Need-returns
+returns c = search needs
+
+pub table-in-spec : {M : Type 1} → statement M
+table-in-spec =
+    tie.close
+    (tie.spec
+    index-length-requires
+    array-borrow-prefix-index
+    slice-aggregate-table-by
+    table-by-requires
+    same-length
+    same-length-2
+    same-length-3
+    same-length-4
+    same-length-5
+    returns)

@@ -1,0 +1,82 @@
+-- The lists of a table, cell by cell.
+use mathlib.Core.Path.{_≡_, refl, sym, ap, _∙_}
+use mathlib.Core.List.{List}
+use Prim.Native.Nat.{ℕ, zero, suc, _+_, _-_, _<_}
+use native.Mathlib.Omega.{arith}
+use lib.ListN.{length, getD}
+use lib.Seq.{ext-getD}
+use Rattle.graph.specs.Search.{forest}
+use Rattle.graph.specs.Forest.{parent as parentIn}
+use Rattle.record.specs.Record.{terminals, blocks}
+use Rattle.record.specs.Answers.{Answer, answered, said}
+use Rattle.forest.specs.Index.{indexOf}
+use Rattle.forest.specs.Laws.Sections.{length-each, each-at}
+use Rattle.queries.specs.Steps.{Ranged}
+use Rattle.queries.specs.Answers.{orZero, unlessZero}
+use Rattle.queries.specs.Operations.{parent, head, children, visit}
+use Rattle.queries.specs.Written.{Written}
+use Rattle.queries.specs.Table.{answersOf, tableOf, Tabled}
+use Rattle.queries.specs.Laws.Answered.{visit-answer, parent-answer, children-answer, head-answer}
+
+module _ {A : Type 0} (number : A → ℕ) (ask : ℕ → Answer A) (n : ℕ) where
+  -- a list that holds every answer
+  column-filled : {l : List ℕ} → length l ≡ n → ((i : ℕ) → i < n → getD l i 0 ≡ said number (ask (suc i)))
+      → l ≡ answersOf number ask n
+  unfolding answersOf
+  column-filled {l} e h =
+      let each : ℕ → ℕ = λ v. said number (ask (suc v)) in
+      ext-getD 0 l (answersOf number ask n) (e ∙ sym (length-each each 0 n))
+      (λ i k. (
+      let z : 0 + i ≡ i = omega arith in
+      h i (omega arith) ∙ ap each (sym z) ∙ sym (each-at each 0 0 n i (omega arith))
+      ))
+
+  -- where every terminal is answered, by a number of its vertex
+  pub column-told : (f : ℕ → A) → ((v : ℕ) → Ranged n v → ask v ≡ answered (f (v - 1))) → {l : List ℕ}
+      → length l ≡ n → ((i : ℕ) → i < n → getD l i 0 ≡ number (f i)) → l ≡ answersOf number ask n
+  unfolding said
+  column-told f answer e h =
+      column-filled e (λ i k. (
+      let z : suc i - 1 ≡ i = omega arith in
+      let a = answer (suc i) (record { some = omega arith; upto = omega arith }) in
+      h i k ∙ sym (ap (said number) (a ∙ ap (λ (x : ℕ). answered (f x)) z))
+      ))
+
+  -- the cell of a terminal that is answered
+  pub cell-told : {v : ℕ} {a : A} → Ranged n v → ask v ≡ answered a → getD (answersOf number ask n) (v - 1) 0 ≡ number a
+  unfolding answersOf said
+  cell-told {v} r e =
+      let s = r .some in
+      let u = r .upto in
+      let z : suc (0 + (v - 1)) ≡ v = omega arith in
+      each-at (λ v. said number (ask (suc v))) 0 0 n (v - 1) (omega arith)
+      ∙ ap (λ (k : ℕ). said number (ask k)) z
+      ∙ ap (said number) e
+
+-- a parent's number, and 0 for none, and back
+pub or-unless : (k : ℕ) → orZero (unlessZero k) ≡ k
+or-unless zero = refl
+or-unless (suc k) = refl
+
+-- each cell of the record's table is what its query answers on an index that Build writes
+module _ {bytes index : List ℕ} (w : Written bytes index) where
+  here : Written bytes (indexOf (blocks bytes))
+  here = record { accepted = w .accepted; is = refl }
+
+  pub table-cells : Tabled bytes index (tableOf bytes)
+  unfolding tableOf
+  table-cells = record {
+    visits-are =
+        λ t. visit-answer w t
+        ∙ ap answered (sym (cell-told (λ i. i) (visit bytes (indexOf (blocks bytes))) (terminals bytes) t (visit-answer here t)));
+    parents-are =
+        λ {v} t. parent-answer w t
+        ∙ ap (λ (k : ℕ). answered (unlessZero k))
+        (sym (cell-told orZero (parent bytes (indexOf (blocks bytes))) (terminals bytes) t (parent-answer here t) ∙ or-unless (parentIn (forest (blocks bytes)) (v - 1))));
+    counts-are =
+        λ t. children-answer w t
+        ∙ ap answered (sym (cell-told (λ k. k) (children bytes (indexOf (blocks bytes))) (terminals bytes) t (children-answer here t)));
+    heads-are =
+        λ t. head-answer w t
+        ∙ ap answered (sym (cell-told (λ v. v) (head bytes (indexOf (blocks bytes))) (terminals bytes) t (head-answer here t)));
+  }

@@ -1,0 +1,123 @@
+// Table behind order R: Build to an index of its own, and then the four lists.
+ghost use mathlib.Core.Path.{_≡_};
+ghost use lib.ListN.{length};
+ghost use Rattle.record.specs.Answers.{verdict};
+ghost use Rattle.record.specs.Steps.{Sound};
+ghost use Rattle.forest.specs.Index.{indexLength};
+ghost use Rattle.queries.specs.Filling.{Ready};
+ghost use Rattle.queries.specs.Table.{columns, misfits, tableOf, table as tableAnswer, tabled};
+use super::columns::fill;
+use forest::lengths::index_length;
+use record::Refusal;
+use record::Verdict;
+
+// Rule 10: one of the lists is not n long.
+fn some_misfit(n: usize, visits: &[u16], parents: &[u16], counts: &[u16], heads: &[u16]) -> bool
+    ensures { λ r. ⌜ r ≡ misfits n (columns (now (visits .entry)) (now (parents .entry)) (now (counts .entry)) (now (heads .entry))) ⌝ }
+{
+    if visits.len() != n {
+        return true;
+    }
+    if parents.len() != n {
+        return true;
+    }
+    if counts.len() != n {
+        return true;
+    }
+    heads.len() != n
+}
+
+// The lists, with room for the starts of the blocks and for the order of visits.
+fn fill_lists(
+    bytes: &[u8],
+    index: &[u8],
+    n: usize,
+    m: usize,
+    visits: &mut [u16],
+    parents: &mut [u16],
+    counts: &mut [u16],
+    heads: &mut [u16],
+)
+    requires { ⌜ (Ready (now bytes) (now index) n m) × (length (now visits) ≡ n) × (length (now parents) ≡ n) × (length (now counts) ≡ n) × (length (now heads) ≡ n) ⌝ }
+    ensures { λ _. ⌜ columns (now (visits .exit)) (now (parents .exit)) (now (counts .exit)) (now (heads .exit)) ≡ tableOf (now (bytes .entry)) ⌝ }
+{
+    let mut starts = [0u16; 4097];
+    let mut order = [0u16; 4096];
+    let blocks = n + 1;
+    fill(
+        bytes,
+        index,
+        n,
+        m,
+        &mut starts[..blocks],
+        &mut order[..n],
+        visits,
+        parents,
+        counts,
+        heads,
+    );
+}
+
+// Build, and then the lists, with a buffer for the index.
+fn table_by(
+    bytes: &[u8],
+    n: usize,
+    m: usize,
+    work: &mut [u16],
+    index: &mut [u8],
+    visits: &mut [u16],
+    parents: &mut [u16],
+    counts: &mut [u16],
+    heads: &mut [u16],
+) -> Verdict
+    requires { ⌜ (Sound (now bytes) n m) × (length (now index) ≡ indexLength n m) ⌝ }
+    ensures { λ r. ⌜
+        (verdict r ≡ tableAnswer (now (bytes .entry)) (now (work .entry)) (columns (now (visits .entry)) (now (parents .entry)) (now (counts .entry)) (now (heads .entry))))
+        × (columns (now (visits .exit)) (now (parents .exit)) (now (counts .exit)) (now (heads .exit))
+        ≡ tabled (now (bytes .entry)) (now (work .entry)) (columns (now (visits .entry)) (now (parents .entry)) (now (counts .entry)) (now (heads .entry))))
+        ⌝ }
+{
+    match forest::build(bytes, work, index) {
+        Verdict::Refused(r) => Verdict::Refused(r),
+        Verdict::Accepted => {
+            if some_misfit(n, visits, parents, counts, heads) {
+                return Verdict::Refused(Refusal::WrongBuffer);
+            }
+            fill_lists(bytes, index, n, m, visits, parents, counts, heads);
+            Verdict::Accepted
+        }
+    }
+}
+
+// Table, where order R lets the record pass.
+pub fn table_in(
+    bytes: &[u8],
+    n: usize,
+    m: usize,
+    work: &mut [u16],
+    visits: &mut [u16],
+    parents: &mut [u16],
+    counts: &mut [u16],
+    heads: &mut [u16],
+) -> Verdict
+    requires { ⌜ Sound (now bytes) n m ⌝ }
+    ensures { λ r. ⌜
+        (verdict r ≡ tableAnswer (now (bytes .entry)) (now (work .entry)) (columns (now (visits .entry)) (now (parents .entry)) (now (counts .entry)) (now (heads .entry))))
+        × (columns (now (visits .exit)) (now (parents .exit)) (now (counts .exit)) (now (heads .exit))
+        ≡ tabled (now (bytes .entry)) (now (work .entry)) (columns (now (visits .entry)) (now (parents .entry)) (now (counts .entry)) (now (heads .entry))))
+        ⌝ }
+{
+    let mut index = [0u8; 19968];
+    let size = index_length(n, m);
+    table_by(
+        bytes,
+        n,
+        m,
+        work,
+        &mut index[..size],
+        visits,
+        parents,
+        counts,
+        heads,
+    )
+}

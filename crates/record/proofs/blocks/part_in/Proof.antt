@@ -1,0 +1,77 @@
+-- `blocks::part_in` meets its contract: the part between two starts.
+use Prim.Native.Nat.{_≤_, _<_}
+use mathlib.Core.Bool.{false}
+use mathlib.Core.Path.{_≡_, sym, _∙_}
+use native.Mathlib.Omega.{arith}
+use borrow.Author.Needs.{needs}
+use Rattle.record.specs.Operations.{outOfRange}
+use Rattle.record.specs.Laws.Range.{range-inside}
+use Rattle.record.specs.Laws.OneBlock.{outside, block-rises, part-outside, part-misfit, part-given}
+use Rattle.record.proofs.blocks.part_in.Statement.{statement}
+use Rattle.record.proofs.blocks.part_in.Tie as tie
+
+out-of-range-requires : tie.Need-out-of-range-requires
+out-of-range-requires c κs = search needs
+
+returns : tie.Need-returns
+returns c =
+    let args = c .before .before .before .args in
+    let pre = c .before .before .before .pre in
+    part-outside pre (args .v .0) (outside pre (args .v .0) (sym (c .before .out-of-range .ensures) ∙ c .if1 .taken))
+
+mul-if2 : tie.Need-mul-if2
+mul-if2 c = search needs
+
+-- v is a terminal
+abbrev start : tie.Else1 → tie.Start
+start c = c .before .before .before
+
+inside : (c : tie.Else1) → outOfRange (start c .args .n) (start c .args .v .0) ≡ false
+inside c = sym (c .before .out-of-range .ensures) ∙ c .if1 .left
+
+upto : (c : tie.Else1) → (0 < start c .args .v .0) × (start c .args .v .0 ≤ start c .args .n)
+upto c = range-inside (start c .args .n) (start c .args .v .0) (inside c)
+
+returns-2 : tie.Need-returns-2
+returns-2 c =
+    let args = start (c .before) .args in
+    part-misfit (start (c .before) .pre) (args .v .0) (inside (c .before)) (c .if2 .taken)
+
+sub-start-of : tie.Need-sub-start-of
+sub-start-of c = let z = upto (c .before) .0 in omega arith
+
+start-of-requires : tie.Need-start-of-requires
+start-of-requires c κs = let z = upto (c .before) .1 in (start (c .before) .pre, omega arith)
+
+start-of-requires-2 : tie.Need-start-of-requires-2
+start-of-requires-2 c κs = (start (c .before .before) .pre, upto (c .before .before) .1)
+
+-- its part is the one from a up to b
+abbrev else : tie.After-start-of2 → tie.Else1
+else c = c .before .before .before
+
+sub-t10 : tie.Need-sub-t10
+sub-t10 c =
+    let s = start (else c) in
+    block-rises (s .pre) (s .args .v .0) (inside (else c)) (c .before .start-of .ensures) (c .start-of2 .ensures)
+
+returns-3 : tie.Need-returns-3
+returns-3 c =
+    let s = start (else c) in
+    let a = c .before .start-of .ensures in
+    let b = c .start-of2 .ensures in
+    part-given (s .pre) (s .args .v .0) (inside (else c)) a b (c .before .before .if2 .left)
+
+pub part-in-spec : {M : Type 1} → statement M
+part-in-spec =
+    tie.close
+    (tie.spec
+    out-of-range-requires
+    returns
+    mul-if2
+    returns-2
+    sub-start-of
+    start-of-requires
+    start-of-requires-2
+    sub-t10
+    returns-3)
