@@ -1,16 +1,13 @@
 // The C interface. A slice is a pointer and a length; a result has the refusal's number in its high half, or else the value in its low half
 // (specs/Code.antt). No function has a precondition. `include/celduga.h` declares them.
 ghost use mathlib.Core.Path.{_≡_};
-ghost use mathlib.Core.List.{List};
-ghost use Prim.Native.Nat.{ℕ};
-ghost use lib.ListN.{length};
 ghost use Rattle.bits.specs.Bits.{bit, string, rank, select};
-ghost use Rattle.record.specs.Operations.{check, degree, unpack, unpacked, neighbours, neighboursBefore, loopFigure};
+ghost use Rattle.record.specs.Operations.{check, degree, unpack, unpacked, loopFigure};
 ghost use Rattle.forest.specs.Operations.{build, built};
 ghost use Rattle.queries.specs.Answers.{orZero};
 ghost use Rattle.queries.specs.Operations.{parent, head, ancestor, children, child, visit, visited};
 ghost use Rattle.queries.specs.Table.{columns, table, tabled};
-ghost use Rattle.celduga.specs.Code.{code, nothing, itself, complement, inHalves, version};
+ghost use Rattle.celduga.specs.Code.{code, nothing, itself, complement, TellsPart, version};
 use forest::Dfi;
 use record::Vertex;
 
@@ -39,12 +36,12 @@ pub extern "C" fn celduga_unpack(bytes: &[u8], list: &mut [u16]) -> u32
     codes::of_verdict(record::unpack(bytes, list))
 }
 
-// Where terminal v's part of an unpacked list stands: how many numbers of the list come before it, and how many it has.
+// Where terminal v's part of an unpacked list of len numbers stands: how many numbers come before it, and how many it has.
 #[no_mangle]
-pub extern "C" fn celduga_neighbours(bytes: &[u8], list_len: usize, v: usize) -> u64
-    ensures { λ r. ⌜ (list : List ℕ) → length list ≡ list_len → r ≡ inHalves (neighboursBefore (now (bytes .entry)) list v) (length (neighbours (now (bytes .entry)) list v)) ⌝ }
+pub extern "C" fn celduga_neighbours(bytes: &[u8], len: usize, v: usize) -> u64
+    ensures { λ r. ⌜ TellsPart (now (bytes .entry)) len v r ⌝ }
 {
-    codes::of_part(record::part_of(bytes, list_len, Vertex(v)))
+    codes::of_part(record::part_of(bytes, len, Vertex(v)))
 }
 
 #[no_mangle]
@@ -150,9 +147,15 @@ pub extern "C" fn celduga_select(bytes: &[u8], start: usize, places: usize, k: u
 
 // ---- the version of the archive
 
+const MAJOR: u32 = 0;
+
+const MINOR: u32 = 2;
+
+const PATCH: u32 = 0;
+
 #[no_mangle]
 pub extern "C" fn celduga_version() -> u32
     ensures { λ r. ⌜ r ≡ version 0 2 0 ⌝ }
 {
-    65536 * 0 + 256 * 2 + 0
+    65536 * MAJOR + 256 * MINOR + PATCH
 }

@@ -82,5 +82,4 @@ halves-figure s = halves complement fits s
 -- where Neighbours' part stands, and how many numbers it has
 pub halves-part : {bytes : List ℕ} {len v from size : ℕ} → PartOf bytes len v from size
     → (inHalves from size / 4294967296 ≡ from) × (inHalves from size % 4294967296 ≡ size)
-unfolding inHalves
 halves-part p = let n = part-near p in (omega arith, omega arith)
