@@ -111,10 +111,11 @@ fn make(root: &Path, why: &str) -> Result<(), String> {
             )
         })?;
     println!("cargo:warning={why}: {MAKE} proves and makes it, which takes minutes the first time (`cargo build -vv` shows it at work)");
-    let (output, errors) = (rt.stdout.take(), rt.stderr.take());
+    let output = rt.stdout.take().expect("it is piped");
+    let errors = rt.stderr.take().expect("it is piped");
     thread::scope(|scope| {
-        scope.spawn(|| errors.map(pass_on));
-        output.map(pass_on);
+        scope.spawn(|| pass_on(errors));
+        pass_on(output);
     });
     match rt.wait() {
         Ok(status) if status.success() => Ok(()),

@@ -117,8 +117,8 @@ impl<'a> Index<'a> {
         operations::child(self.record.as_bytes(), &self.bytes, v, j)
     }
 
-    /// The children of terminal `v`, in order of visits: [`child`](Index::child) 1, 2 and so on. All together take time linear in the
-    /// number of terminals and wires.
+    /// The children of terminal `v`, in order of visits: [`child`](Index::child) 1, 2 and so on. All of them together take time linear in
+    /// the record's bits.
     ///
     /// # Errors
     ///

@@ -58,7 +58,7 @@
 //!
 //! | call | stack |
 //! |---|---|
-//! | [`table`], [`Record::table`], [`Record::sections`] | 328 KiB |
+//! | [`table`](fn@table), [`Record::table`], [`Record::sections`] | 328 KiB |
 //! | [`build`], [`Record::index`] | 288 KiB |
 //! | [`check`], [`unpack`], [`loop_figure`], [`Record::new`] and so on | 224 KiB |
 //! | all others | 16 KiB |

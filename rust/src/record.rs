@@ -62,8 +62,8 @@ impl<'a> Record<'a> {
 
     /// The neighbours of terminal `v`, in listed order.
     ///
-    /// A call goes once through the degrees, 64 bits at a time, which takes two or three microseconds in the largest record; it copies
-    /// nothing, and each neighbour is read from the record when it is asked for.
+    /// A call goes through the degrees, 64 bits at a time, which takes some microseconds in the largest record; it copies nothing, and each
+    /// neighbour is read from the record when it is asked for.
     ///
     /// # Errors
     ///
@@ -87,7 +87,7 @@ impl<'a> Record<'a> {
         Ok(Neighbours::new(self, v))
     }
 
-    /// The neighbours of all terminals, block after block; [`neighbours`](crate::neighbours) gives the part of one terminal.
+    /// The neighbours of all terminals, block after block; [`neighbours`](fn@crate::neighbours) gives the part of one terminal.
     #[must_use]
     pub fn unpack(self) -> Vec<u16> {
         let mut list = vec![0; self.sizes.list_len()];

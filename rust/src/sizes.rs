@@ -55,7 +55,7 @@ impl Sizes {
         3 * (self.terminals() + 2 * self.wires()).div_ceil(8) + (12 * self.terminals()).div_ceil(8)
     }
 
-    /// The numbers that the work slice of [`build`](crate::build) and of [`table`](crate::table) has at least.
+    /// The numbers that the work slice of [`build`](crate::build) and of [`table`](fn@crate::table) has at least.
     #[must_use]
     pub fn work_len(self) -> usize {
         8 * self.terminals()

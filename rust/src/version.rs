@@ -8,7 +8,7 @@ use crate::ffi;
 ///
 /// ```
 /// let (major, minor, patch) = celduga::version();
-/// assert_eq!(format!("{major}.{minor}.{patch}"), "0.2.0");
+/// println!("celduga {major}.{minor}.{patch}");
 /// ```
 #[must_use]
 pub fn version() -> (u16, u8, u8) {

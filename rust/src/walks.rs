@@ -5,15 +5,14 @@ use core::iter::FusedIterator;
 use crate::{operations, Index, Neighbours, Refusal, Vertex};
 
 /// The children of a terminal, in order of visits. [`Index::children_of`] gives it.
-///
-/// They are the neighbours that have a mark in E, the index's first section. It has a place for each place of the degrees in unary: before
-/// the places of a terminal's neighbours stand those of the neighbours before, and one for each terminal up to it.
 #[derive(Clone, Debug)]
 #[must_use = "iterators are lazy and do nothing unless consumed"]
 pub struct ChildrenOf<'a> {
+    /// The neighbours that are left, of which those with a mark in E are children.
     neighbours: Neighbours<'a>,
     index: &'a [u8],
     v: Vertex,
+    /// The children that are left.
     left: usize,
 }
 
@@ -29,7 +28,9 @@ impl<'a> ChildrenOf<'a> {
 
     /// How many of the neighbours that are left stand before the `j`-th of the children that are left, from 1.
     fn before(&self, j: usize) -> usize {
-        operations::select(self.index, self.neighbours.before() + self.v.0, self.neighbours.len(), j) - 1
+        // E is the index's first section; it has a place for each terminal, which is followed by those of its neighbours
+        let start = self.v.0 + self.neighbours.before();
+        operations::select(self.index, start, self.neighbours.len(), j) - 1
     }
 }
 

@@ -11,7 +11,7 @@ where
     assert_eq!(iterator.len(), expected.len());
     assert_eq!(iterator.clone().collect::<Vec<_>>(), expected);
     assert!(iterator.clone().rev().eq(expected.iter().rev().copied()));
-    for k in 0..expected.len().min(5) + 1 {
+    for k in 0..=expected.len().min(5) {
         assert_eq!(iterator.clone().nth(k), expected.get(k).copied());
         assert_eq!(iterator.clone().nth_back(k), expected.iter().rev().nth(k).copied());
     }
