@@ -1,6 +1,6 @@
 //! Celduga keeps graphs in a packed file format, with the neighbours of each vertex in a fixed order, and answers questions about them: the
-//! depth-first search forest in that order, the bridges, and the parts that stay joined whichever one edge is taken out. Every answer
-//! comes from a static library whose code is proved to give the right one for every input; this crate is the safe way to call it, without
+//! depth-first search forest in that order, the bridges, and the parts that stay joined whichever one edge is taken out. The operations
+//! are calls of a static library whose code is proved to answer right for every input; this crate is the safe way to call them, without
 //! dependencies and without the standard library.
 //!
 //! A *record* is such a graph as bytes, of at most 4,096 *terminals* (vertices, which count from 1) and 16,384 *wires* (edges). Its *index*
@@ -47,12 +47,15 @@
 //! The functions below mirror the library's operations one by one. They take bytes and lent buffers, and answer for all bytes, also for damaged
 //! records and for indexes that nobody built. Where one refuses, the buffer for the result is left unchanged.
 //!
+//! What the crate does beside these calls is tested, not proved: it reads the header for [`Sizes`] and a terminal's neighbours for the iterators,
+//! climbs by [`Index::parent`], and gathers the terminals with one head to a [`Section`].
+//!
 //! # The library
 //!
 //! The build script links `target/staticlib/libcelduga.a` in the project's root. Where it is missing, or older than the crates that it is
-//! made from, `rt staticlib celduga` proves and makes it first, which takes minutes; `rt` is the toolchain of Rattle, the language that the
-//! library is written in. Where the environment variable `CELDUGA_ARCHIVE` names an archive (a relative path counts from the package's
-//! folder), that one is linked, and `rt` is not needed. The archive is for x86-64 Linux.
+//! made from, `rt staticlib celduga` proves and makes it first, which takes minutes (`cargo build -vv` shows it at work); `rt` is the toolchain
+//! of Rattle, the language that the library is written in. Where the environment variable `CELDUGA_ARCHIVE` names an archive (a relative
+//! path counts from the package's folder), that one is linked, and `rt` is not needed. The archive is for x86-64 Linux.
 //!
 //! A call has no state and may run on any thread. So much stack is taken at most:
 //!
@@ -60,7 +63,7 @@
 //! |---|---|
 //! | [`table`](fn@table), [`Record::table`], [`Record::sections`] | 328 KiB |
 //! | [`build`], [`Record::index`] | 288 KiB |
-//! | [`check`], [`unpack`], [`loop_figure`], [`Record::new`] and so on | 224 KiB |
+//! | [`check`], [`unpack`], [`loop_figure`], [`Record::new`], [`Record::unpack`], [`Record::loop_figure`] | 224 KiB |
 //! | all others | 16 KiB |
 //!
 //! The calls of the first three lines take time linear in the record's bits.
