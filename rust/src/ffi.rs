@@ -3,13 +3,17 @@
 //! What each call asks is in include/celduga.h. A slice meets it for its pointer and length: the pointer is not null, aligned and good for
 //! the whole length, also where that is 0. A slice that is lent to be written overlaps no other.
 
+use core::ops::Range;
+
 use crate::Refusal;
 
 mod c {
     extern "C" {
+        pub fn celduga_version() -> u32;
         pub fn celduga_check(record: *const u8, record_len: usize) -> u32;
         pub fn celduga_degree(record: *const u8, record_len: usize, v: usize) -> u32;
         pub fn celduga_unpack(record: *const u8, record_len: usize, list: *mut u16, list_len: usize) -> u32;
+        pub fn celduga_neighbours(record: *const u8, record_len: usize, list_len: usize, v: usize) -> u64;
         pub fn celduga_loop_figure(record: *const u8, record_len: usize) -> u32;
         pub fn celduga_build(
             record: *const u8,
@@ -18,6 +22,20 @@ mod c {
             work_len: usize,
             index: *mut u8,
             index_len: usize,
+        ) -> u32;
+        pub fn celduga_table(
+            record: *const u8,
+            record_len: usize,
+            work: *mut u16,
+            work_len: usize,
+            visits: *mut u16,
+            visits_len: usize,
+            parents: *mut u16,
+            parents_len: usize,
+            children: *mut u16,
+            children_len: usize,
+            heads: *mut u16,
+            heads_len: usize,
         ) -> u32;
         pub fn celduga_parent(record: *const u8, record_len: usize, index: *const u8, index_len: usize, v: usize) -> u32;
         pub fn celduga_head(record: *const u8, record_len: usize, index: *const u8, index_len: usize, v: usize) -> u32;
@@ -39,6 +57,17 @@ fn decode(result: u32) -> Result<u16, Refusal> {
     }
 }
 
+/// The part of a list: how many numbers stand before it, in the high half of a result, and how many it has, in the low half.
+fn part(result: u64) -> Range<usize> {
+    let (before, count) = ((result >> 32) as usize, result as u32 as usize);
+    before..before + count
+}
+
+pub fn version() -> u32 {
+    // SAFETY: nothing is lent.
+    unsafe { c::celduga_version() }
+}
+
 pub fn check(record: &[u8]) -> Result<u16, Refusal> {
     // SAFETY: the slice is read only.
     decode(unsafe { c::celduga_check(record.as_ptr(), record.len()) })
@@ -52,6 +81,11 @@ pub fn degree(record: &[u8], v: usize) -> Result<u16, Refusal> {
 pub fn unpack(record: &[u8], list: &mut [u16]) -> Result<u16, Refusal> {
     // SAFETY: the list is borrowed to be written, so it does not overlap the record.
     decode(unsafe { c::celduga_unpack(record.as_ptr(), record.len(), list.as_mut_ptr(), list.len()) })
+}
+
+pub fn neighbours(record: &[u8], list_len: usize, v: usize) -> Range<usize> {
+    // SAFETY: the slice is read only, and of the list no more than its length is told.
+    part(unsafe { c::celduga_neighbours(record.as_ptr(), record.len(), list_len, v) })
 }
 
 pub fn loop_figure(record: &[u8]) -> Result<u16, Refusal> {
@@ -69,6 +103,33 @@ pub fn build(record: &[u8], work: &mut [u16], index: &mut [u8]) -> Result<u16, R
             work.len(),
             index.as_mut_ptr(),
             index.len(),
+        )
+    })
+}
+
+pub fn table(
+    record: &[u8],
+    work: &mut [u16],
+    visits: &mut [u16],
+    parents: &mut [u16],
+    children: &mut [u16],
+    heads: &mut [u16],
+) -> Result<u16, Refusal> {
+    // SAFETY: the work slice and the four lists are borrowed to be written, so none overlaps another slice.
+    decode(unsafe {
+        c::celduga_table(
+            record.as_ptr(),
+            record.len(),
+            work.as_mut_ptr(),
+            work.len(),
+            visits.as_mut_ptr(),
+            visits.len(),
+            parents.as_mut_ptr(),
+            parents.len(),
+            children.as_mut_ptr(),
+            children.len(),
+            heads.as_mut_ptr(),
+            heads.len(),
         )
     })
 }
@@ -120,7 +181,7 @@ pub fn select(bytes: &[u8], start: usize, places: usize, k: usize) -> usize {
 
 #[cfg(test)]
 mod tests {
-    use super::decode;
+    use super::{decode, part};
 
     #[test]
     fn the_low_half_is_the_value() {
@@ -133,6 +194,13 @@ mod tests {
         for number in 1..=13 {
             assert_eq!(decode(number << 16).map_err(|refusal| u32::from(refusal.number())), Err(number));
         }
+    }
+
+    #[test]
+    fn a_part_has_its_front_in_the_high_half() {
+        assert_eq!(part(0), 0..0);
+        assert_eq!(part(7 << 32 | 2), 7..9);
+        assert_eq!(part(32766 << 32 | 2), 32766..32768);
     }
 
     #[test]

@@ -1,8 +1,10 @@
 //! An index beside its record.
 
-use std::borrow::Cow;
+use alloc::borrow::Cow;
+use alloc::vec;
+use alloc::vec::Vec;
 
-use crate::{operations, Dfi, Record, Refusal, Vertex};
+use crate::{operations, ChildrenOf, Dfi, PathToRoot, Record, Refusal, Vertex};
 
 /// A record and an index of the right length, which is owned or borrowed.
 ///
@@ -52,16 +54,19 @@ impl<'a> Index<'a> {
     }
 
     /// The record.
+    #[must_use]
     pub fn record(&self) -> Record<'a> {
         self.record
     }
 
     /// The index's bytes.
+    #[must_use]
     pub fn as_bytes(&self) -> &[u8] {
         &self.bytes
     }
 
     /// The index's bytes, copied where they are borrowed.
+    #[must_use]
     pub fn into_bytes(self) -> Vec<u8> {
         self.bytes.into_owned()
     }
@@ -94,7 +99,7 @@ impl<'a> Index<'a> {
         operations::ancestor(self.record.as_bytes(), &self.bytes, u, v)
     }
 
-    /// How many children terminal `v` has.
+    /// How many children terminal `v` has; [`children_of`](Index::children_of) gives them.
     ///
     /// # Errors
     ///
@@ -110,6 +115,60 @@ impl<'a> Index<'a> {
     /// Refusals 11, 13, 12, tried in this order.
     pub fn child(&self, v: Vertex, j: usize) -> Result<Vertex, Refusal> {
         operations::child(self.record.as_bytes(), &self.bytes, v, j)
+    }
+
+    /// The children of terminal `v`, in order of visits: [`child`](Index::child) 1, 2 and so on. All of them together take time linear in
+    /// the record's bits.
+    ///
+    /// # Errors
+    ///
+    /// Refusal 11.
+    ///
+    /// # Examples
+    ///
+    /// ```
+    /// use celduga::{Record, Refusal, Vertex};
+    ///
+    /// // 1: 3; 2: 3; 3: 1 2 4; 4: 3
+    /// let bytes = [0x00, 0x20, 0x00, 0x3A, 0x88, 0x00, 0x80, 0x08, 0x00, 0x00, 0x04, 0x00, 0xC0, 0x08];
+    /// let index = Record::new(&bytes)?.index();
+    /// assert!(index.children_of(Vertex(1))?.eq([Vertex(3)]));
+    /// assert!(index.children_of(Vertex(3))?.eq([Vertex(2), Vertex(4)]));
+    /// assert_eq!(index.children_of(Vertex(4))?.len(), 0);
+    /// # Ok::<(), Refusal>(())
+    /// ```
+    pub fn children_of(&self, v: Vertex) -> Result<ChildrenOf<'_>, Refusal> {
+        ChildrenOf::new(self, v)
+    }
+
+    /// The terminals from `v` up to its root, both included.
+    ///
+    /// Each step is a call of [`parent`](Index::parent). Where that refuses 12, or where a step is due after n − 1 of them, for n terminals,
+    /// as on an index that goes round, the refusal 12 is the last item. The index that was built for the record gives none.
+    ///
+    /// # Errors
+    ///
+    /// Refusal 11.
+    ///
+    /// # Examples
+    ///
+    /// ```
+    /// use celduga::{Index, Record, Refusal, Vertex};
+    ///
+    /// // 1: 3; 2: 3; 3: 1 2
+    /// let bytes = [0x00, 0x18, 0x00, 0x2A, 0x80, 0x04, 0x00, 0x40, 0x00, 0x00, 0x20];
+    /// let record = Record::new(&bytes)?;
+    /// let path: Vec<Vertex> = record.index().path_to_root(Vertex(2))?.collect::<Result<_, _>>()?;
+    /// assert_eq!(path, [Vertex(2), Vertex(3), Vertex(1)]);
+    ///
+    /// // an index that shows two parents of terminal 3
+    /// let damaged = Index::new(record, &[0, 0b0001_0110, 0, 0, 0, 0, 0, 0])?;
+    /// let path: Vec<_> = damaged.path_to_root(Vertex(2))?.collect();
+    /// assert_eq!(path, [Ok(Vertex(2)), Ok(Vertex(3)), Err(Refusal::BadIndex)]);
+    /// # Ok::<(), Refusal>(())
+    /// ```
+    pub fn path_to_root(&self, v: Vertex) -> Result<PathToRoot<'_>, Refusal> {
+        PathToRoot::new(self, v)
     }
 
     /// The visit number of terminal `v`.

@@ -1,15 +1,15 @@
-//! Packed records of graphs and their depth-first search index, answered by Celduga's proved static library.
+//! Celduga keeps graphs in a packed file format, with the neighbours of each vertex in a fixed order, and answers questions about them: the
+//! depth-first search forest in that order, the bridges, and the parts that stay joined whichever one edge is taken out. The operations
+//! are calls of a static library whose code is proved to answer right for every input; this crate is the safe way to call them, without
+//! dependencies and without the standard library.
 //!
-//! A *record* holds a graph of at most 4,096 terminals (vertices) and 16,384 wires (edges), with the neighbours of each terminal in listed
-//! order. Its *index* holds the depth-first search forest in that order, the visit numbers, and a mark on each wire that is a bridge.
-//!
-//! [`Record`] is a record that Check accepts, and [`Index`] is a record with an index. The functions below mirror the operations one by one
-//! and answer for all bytes, also for damaged records and for indexes that nobody built. A [`Refusal`] names the first rule that is broken,
-//! in the order that each operation gives, and then the buffer for the result is left unchanged.
+//! A *record* is such a graph as bytes, of at most 4,096 *terminals* (vertices, which count from 1) and 16,384 *wires* (edges). Its *index*
+//! holds the forest, the visit numbers, and a mark on each wire that is a bridge. `docs/FORMAT.md` of the project describes both, bit by
+//! bit.
 //!
 //! # Example
 //!
-//! Two terminals have one [head](Index::head) exactly when they are joined and stay so whichever one wire is taken out.
+//! A *section* is a class of terminals that stay joined whichever one wire is taken out (a 2-edge-connected component).
 //!
 //! ```
 //! use celduga::{Record, Refusal, Vertex};
@@ -19,37 +19,83 @@
 //!     0x00, 0x30, 0x00, 0x59, 0x22, 0xA0, 0x02, 0x00, 0x10, 0x00, 0x00, 0x20, 0x01, 0x00, 0x30, 0x00, 0x00, 0x20, 0x05, 0x00, 0x40,
 //! ];
 //! let record = Record::new(&bytes)?;
+//! let sections: Vec<Vec<Vertex>> = record.sections().into_iter().map(|section| section.terminals).collect();
+//! assert_eq!(sections, [vec![Vertex(1), Vertex(2), Vertex(3)], vec![Vertex(4)], vec![Vertex(5)], vec![Vertex(6)]]);
+//!
+//! assert!(record.neighbours(Vertex(3))?.eq([Vertex(2), Vertex(4), Vertex(1)]));
+//!
 //! let index = record.index();
-//! let heads: Vec<Vertex> = record.vertices().map(|v| index.head(v)).collect::<Result<_, _>>()?;
-//! assert_eq!(heads, [1, 1, 1, 4, 5, 6].map(Vertex));
 //! assert_eq!(index.parent(Vertex(2))?, Some(Vertex(3)));
-//! assert_eq!(index.parent(Vertex(7)), Err(Refusal::NoTerminal));
+//! assert_eq!(index.head(Vertex(2))?, index.head(Vertex(3))?);
+//! assert_eq!(index.head(Vertex(7)), Err(Refusal::NoTerminal));
 //! # Ok::<(), Refusal>(())
 //! ```
 //!
+//! # Types
+//!
+//! | type | what it is |
+//! |---|---|
+//! | [`Record`] | bytes that are checked to be a record; the way to all the rest |
+//! | [`Index`] | a record with its index, built or stored, for questions about single terminals |
+//! | [`Table`], [`Row`] | the answers for all terminals at once |
+//! | [`Section`] | terminals that stay joined whichever one wire is taken out |
+//! | [`Vertex`], [`Dfi`] | the number of a terminal, and the number of a visit |
+//! | [`Neighbours`], [`ChildrenOf`], [`PathToRoot`] | iterators over terminals |
+//! | [`Sizes`] | the numbers of terminals and wires, and the lengths that follow |
+//! | [`Refusal`] | the error: the first rule that is broken |
+//!
+//! The functions below mirror the library's operations one by one. They take bytes and lent buffers, and answer for all bytes, also for damaged
+//! records and for indexes that nobody built. Where one refuses, the buffer for the result is left unchanged.
+//!
+//! What the crate does beside these calls is tested, not proved: it reads the header for [`Sizes`] and a terminal's neighbours for the iterators,
+//! climbs by [`Index::parent`], and gathers the terminals with one head to a [`Section`].
+//!
 //! # The library
 //!
-//! The build script links the file that the environment variable `CELDUGA_ARCHIVE` names, or `target/staticlib/libcelduga.a` in the project's
-//! root; where that one is missing, it calls `rt staticlib celduga`, which makes it. The archive is for x86-64 Linux.
+//! The build script links `target/staticlib/libcelduga.a` in the project's root. Where it is missing, or older than the crates that it is
+//! made from, `rt staticlib celduga` proves and makes it first, which takes minutes (`cargo build -vv` shows it at work); `rt` is the toolchain
+//! of Rattle, the language that the library is written in. Where the environment variable `CELDUGA_ARCHIVE` names an archive (a relative
+//! path counts from the package's folder), that one is linked, and `rt` is not needed. The archive is for x86-64 Linux.
 //!
-//! A call has no state and may run on any thread. [`check`], [`unpack`] and [`loop_figure`] take up to 224 KiB of stack and [`build`] up to
-//! 288 KiB; all four take time linear in the record's bits.
+//! A call has no state and may run on any thread. So much stack is taken at most:
+//!
+//! | call | stack |
+//! |---|---|
+//! | [`table`](fn@table), [`Record::table`], [`Record::sections`] | 328 KiB |
+//! | [`build`], [`Record::index`] | 288 KiB |
+//! | [`check`], [`unpack`], [`loop_figure`], [`Record::new`], [`Record::unpack`], [`Record::loop_figure`] | 224 KiB |
+//! | all others | 16 KiB |
+//!
+//! The calls of the first three lines take time linear in the record's bits.
 
+#![no_std]
 #![warn(missing_docs)]
 #![deny(unsafe_code)]
+
+extern crate alloc;
 
 #[allow(unsafe_code)]
 mod ffi;
 mod index;
+mod neighbours;
 mod numbers;
 mod operations;
 mod record;
 mod refusal;
 mod sizes;
+mod table;
+mod version;
+mod walks;
 
 pub use index::Index;
+pub use neighbours::Neighbours;
 pub use numbers::{Dfi, Vertex};
-pub use operations::{ancestor, build, check, child, children, degree, head, loop_figure, parent, rank, select, unpack, visit, visited};
+pub use operations::{
+    ancestor, build, check, child, children, degree, head, loop_figure, neighbours, parent, rank, select, table, unpack, visit, visited,
+};
 pub use record::Record;
 pub use refusal::Refusal;
 pub use sizes::Sizes;
+pub use table::{Row, Section, Table};
+pub use version::version;
+pub use walks::{ChildrenOf, PathToRoot};

@@ -1,6 +1,6 @@
 //! The numbers of vertices and of visits, which never stand for one another.
 
-use std::fmt;
+use core::fmt;
 
 /// A terminal, by its number from 1. Any number may be asked about; one that is no terminal is refused.
 #[derive(Clone, Copy, Debug, PartialEq, Eq, PartialOrd, Ord, Hash)]

@@ -1,5 +1,7 @@
 //! The operations, one function each, for all bytes.
 
+use core::ops::Range;
+
 use crate::{ffi, Dfi, Refusal, Vertex};
 
 fn vertex(number: u16) -> Vertex {
@@ -42,6 +44,34 @@ pub fn unpack(record: &[u8], list: &mut [u16]) -> Result<(), Refusal> {
     ffi::unpack(record, list).map(drop)
 }
 
+/// Where the neighbours of terminal `v` stand in a list of so many numbers that [`unpack`] filled.
+pub(crate) fn part(record: &[u8], list_len: usize, v: Vertex) -> Range<usize> {
+    ffi::neighbours(record, list_len, v.0)
+}
+
+/// The neighbours of terminal `v`: its part of a list that [`unpack`] filled from the record.
+///
+/// Where [`degree`] refuses, or the list has not [`Sizes::list_len`](crate::Sizes::list_len) numbers, this is the empty part at the front.
+/// [`Record::neighbours`](crate::Record::neighbours) needs no list.
+///
+/// # Examples
+///
+/// ```
+/// use celduga::{neighbours, unpack, Refusal, Vertex};
+///
+/// // 1: 2; 2: 1 3; 3: 2
+/// let path = [0x00, 0x18, 0x00, 0x2A, 0x40, 0x02, 0x00, 0x00, 0x04, 0x00, 0x20];
+/// let mut list = [0; 4];
+/// unpack(&path, &mut list)?;
+/// assert_eq!(neighbours(&path, &list, Vertex(2)), [1, 3]);
+/// assert_eq!(neighbours(&path, &list, Vertex(4)), []);
+/// # Ok::<(), Refusal>(())
+/// ```
+#[must_use]
+pub fn neighbours<'a>(record: &[u8], list: &'a [u16], v: Vertex) -> &'a [u16] {
+    &list[part(record, list.len(), v)]
+}
+
 /// m − n + 1, for n terminals and m wires.
 ///
 /// # Errors
@@ -72,6 +102,38 @@ pub fn loop_figure(record: &[u8]) -> Result<i32, Refusal> {
 /// ```
 pub fn build(record: &[u8], work: &mut [u16], index: &mut [u8]) -> Result<(), Refusal> {
     ffi::build(record, work, index).map(drop)
+}
+
+/// Writes what [`visit`], [`parent`] (0 for a root), [`children`] and [`head`] answer for every terminal, on the index that [`build`] writes;
+/// number `v − 1` of each list is terminal `v`'s. No index is lent, and it takes time linear in the record's bits.
+///
+/// The four lists have n numbers each, for n terminals. The work slice has [`Sizes::work_len`](crate::Sizes::work_len) numbers or more, and
+/// may hold anything before and after the call.
+///
+/// # Errors
+///
+/// Refusals 1 to 8, 9, 10, tried in this order.
+///
+/// # Examples
+///
+/// ```
+/// use celduga::{table, Refusal};
+///
+/// let wire = [0x00, 0x10, 0x00, 0x1A, 0x00, 0x10, 0x00];
+/// let [mut visits, mut parents, mut children, mut heads] = [[0; 2]; 4];
+/// table(&wire, &mut [0; 16], &mut visits, &mut parents, &mut children, &mut heads)?;
+/// assert_eq!((visits, parents, children, heads), ([1, 2], [0, 1], [1, 0], [1, 2]));
+/// # Ok::<(), Refusal>(())
+/// ```
+pub fn table(
+    record: &[u8],
+    work: &mut [u16],
+    visits: &mut [u16],
+    parents: &mut [u16],
+    children: &mut [u16],
+    heads: &mut [u16],
+) -> Result<(), Refusal> {
+    ffi::table(record, work, visits, parents, children, heads).map(drop)
 }
 
 /// The parent of terminal `v` in the forest, `None` for a root.
@@ -152,11 +214,13 @@ pub fn visited(record: &[u8], index: &[u8], i: Dfi) -> Result<Vertex, Refusal> {
 /// assert_eq!(rank(&[0xA0], 1, 4, 2), 1);
 /// assert_eq!(select(&[0xA0], 1, 4, 1), 2);
 /// ```
+#[must_use]
 pub fn rank(bytes: &[u8], start: usize, places: usize, p: usize) -> usize {
     ffi::rank(bytes, start, places, p)
 }
 
 /// The place, from 1, of the `k`-th one of a bit string, which is given as for [`rank`]; 0 for `k` = 0 and where there are fewer ones.
+#[must_use]
 pub fn select(bytes: &[u8], start: usize, places: usize, k: usize) -> usize {
     ffi::select(bytes, start, places, k)
 }

@@ -1,8 +1,11 @@
 //! A record that is accepted.
 
-use crate::{operations, Index, Refusal, Sizes, Vertex};
+use alloc::vec;
+use alloc::vec::Vec;
 
-/// A record that Check accepts, borrowed.
+use crate::{operations, Index, Neighbours, Refusal, Section, Sizes, Table, Vertex};
+
+/// A record that [`check`](crate::check) accepts, borrowed.
 #[derive(Clone, Copy, Debug, PartialEq, Eq, Hash)]
 pub struct Record<'a> {
     bytes: &'a [u8],
@@ -22,18 +25,30 @@ impl<'a> Record<'a> {
     }
 
     /// The record's bytes.
+    #[must_use]
     pub fn as_bytes(self) -> &'a [u8] {
         self.bytes
     }
 
     /// The numbers of terminals and wires.
+    #[must_use]
     pub fn sizes(self) -> Sizes {
         self.sizes
     }
 
     /// The terminals, from 1 upward.
+    #[must_use]
     pub fn vertices(self) -> impl DoubleEndedIterator<Item = Vertex> + ExactSizeIterator {
         (0..self.sizes.terminals()).map(|before| Vertex(before + 1))
+    }
+
+    /// Refusal 11 for a number that is no terminal.
+    pub(crate) fn known(self, v: Vertex) -> Result<(), Refusal> {
+        if (1..=self.sizes.terminals()).contains(&v.0) {
+            Ok(())
+        } else {
+            Err(Refusal::NoTerminal)
+        }
     }
 
     /// How many wires terminal `v` has.
@@ -45,7 +60,35 @@ impl<'a> Record<'a> {
         operations::degree(self.bytes, v)
     }
 
-    /// The neighbours of all terminals, block after block.
+    /// The neighbours of terminal `v`, in listed order.
+    ///
+    /// A call goes through the degrees, 64 bits at a time, which takes some microseconds in the largest record; it copies nothing, and each
+    /// neighbour is read from the record when it is asked for.
+    ///
+    /// # Errors
+    ///
+    /// Refusal 11.
+    ///
+    /// # Examples
+    ///
+    /// ```
+    /// use celduga::{Record, Refusal, Vertex};
+    ///
+    /// // 1: 3; 2: 3; 3: 1 2
+    /// let bytes = [0x00, 0x18, 0x00, 0x2A, 0x80, 0x04, 0x00, 0x40, 0x00, 0x00, 0x20];
+    /// let record = Record::new(&bytes)?;
+    /// assert!(record.neighbours(Vertex(3))?.eq([Vertex(1), Vertex(2)]));
+    /// assert_eq!(record.neighbours(Vertex(3))?.next_back(), Some(Vertex(2)));
+    /// assert_eq!(record.neighbours(Vertex(4)).err(), Some(Refusal::NoTerminal));
+    /// # Ok::<(), Refusal>(())
+    /// ```
+    pub fn neighbours(self, v: Vertex) -> Result<Neighbours<'a>, Refusal> {
+        self.known(v)?;
+        Ok(Neighbours::new(self, v))
+    }
+
+    /// The neighbours of all terminals, block after block; [`neighbours`](fn@crate::neighbours) gives the part of one terminal.
+    #[must_use]
     pub fn unpack(self) -> Vec<u16> {
         let mut list = vec![0; self.sizes.list_len()];
         operations::unpack(self.bytes, &mut list).expect("the record is accepted, and the list has its length");
@@ -53,12 +96,54 @@ impl<'a> Record<'a> {
     }
 
     /// m − n + 1, for n terminals and m wires.
+    #[must_use]
     pub fn loop_figure(self) -> i32 {
         operations::loop_figure(self.bytes).expect("the record is accepted")
     }
 
     /// Builds the index.
+    #[must_use]
     pub fn index(self) -> Index<'a> {
         Index::build(self)
+    }
+
+    /// Finds the visit number, the parent, the number of children and the head of every terminal, in linear time.
+    ///
+    /// # Examples
+    ///
+    /// ```
+    /// use celduga::{Dfi, Record, Refusal};
+    ///
+    /// // 1: 3; 2: 3; 3: 1 2
+    /// let bytes = [0x00, 0x18, 0x00, 0x2A, 0x80, 0x04, 0x00, 0x40, 0x00, 0x00, 0x20];
+    /// let table = Record::new(&bytes)?.table();
+    /// let visits: Vec<Dfi> = table.rows().map(|row| row.visit).collect();
+    /// assert_eq!(visits, [Dfi(1), Dfi(3), Dfi(2)]);
+    /// # Ok::<(), Refusal>(())
+    /// ```
+    #[must_use]
+    pub fn table(self) -> Table {
+        Table::of(self)
+    }
+
+    /// The sections: the classes of terminals that stay joined whichever one wire is taken out, in order of the least terminal of each.
+    /// Each terminal is in one section. This is [`Table::sections`], and takes linear time.
+    ///
+    /// # Examples
+    ///
+    /// ```
+    /// use celduga::{Record, Refusal, Vertex};
+    ///
+    /// // 1: 2 3; 2: 1 3; 3: 1 2 4; 4: 3
+    /// let bytes = [0x00, 0x20, 0x00, 0x49, 0x22, 0x00, 0x10, 0x02, 0x00, 0x00, 0x02, 0x00, 0x00, 0x01, 0x00, 0x30, 0x02];
+    /// let sections = Record::new(&bytes)?.sections();
+    /// assert_eq!(sections.len(), 2);
+    /// assert_eq!(sections[0].terminals, [Vertex(1), Vertex(2), Vertex(3)]);
+    /// assert_eq!(sections[1].terminals, [Vertex(4)]);
+    /// # Ok::<(), Refusal>(())
+    /// ```
+    #[must_use]
+    pub fn sections(self) -> Vec<Section> {
+        self.table().sections()
     }
 }

@@ -1,9 +1,20 @@
 //! The refusals and their numbers.
 
-use std::error::Error;
-use std::fmt;
+use core::error::Error;
+use core::fmt;
 
 /// The rule that is broken. `n` and `m` are the numbers of terminals and wires in the record's header.
+///
+/// # Examples
+///
+/// ```
+/// use celduga::{Record, Refusal};
+///
+/// let refusal = Record::new(&[0x00, 0x08]).unwrap_err();
+/// assert_eq!(refusal, Refusal::TooShort);
+/// assert_eq!(refusal.number(), 1);
+/// assert_eq!(refusal.to_string(), "the record has under 4 bytes");
+/// ```
 #[derive(Clone, Copy, Debug, PartialEq, Eq, Hash)]
 #[non_exhaustive]
 pub enum Refusal {
@@ -25,7 +36,7 @@ pub enum Refusal {
     OneSidedWire = 8,
     /// 9: the work slice has fewer than 8·n numbers.
     ShortWork = 9,
-    /// 10: the length of the index or the list is not the one that n and m give.
+    /// 10: the length of the index or of a list is not the one that n and m give.
     WrongBuffer = 10,
     /// 11: the terminal, or the visit number, is 0 or above n.
     NoTerminal = 11,
@@ -54,11 +65,13 @@ impl Refusal {
     ];
 
     /// The refusal's number, from 1.
+    #[must_use]
     pub const fn number(self) -> u16 {
         self as u16
     }
 
     /// The refusal with this number, where there is one.
+    #[must_use]
     pub fn from_number(number: u16) -> Option<Refusal> {
         Refusal::ALL.into_iter().find(|refusal| refusal.number() == number)
     }
@@ -81,7 +94,7 @@ impl fmt::Display for Refusal {
             Refusal::BadIndex => "the index shows what no forest does",
             Refusal::NoChild => "there is no such child",
         };
-        write!(f, "refused {}: {words}", self.number())
+        f.pad(words)
     }
 }
 

@@ -17,6 +17,7 @@ pub struct Sizes {
 
 impl Sizes {
     /// The sizes that the first 4 bytes of a record hold, also where they are over the limits; `None` where there are fewer bytes.
+    #[must_use]
     pub fn of(record: &[u8]) -> Option<Sizes> {
         let header = u32::from_be_bytes(record.get(..4)?.try_into().ok()?);
         Some(Sizes {
@@ -26,31 +27,42 @@ impl Sizes {
     }
 
     /// n, the number of terminals.
+    #[must_use]
     pub fn terminals(self) -> usize {
         self.terminals.into()
     }
 
     /// m, the number of wires.
+    #[must_use]
     pub fn wires(self) -> usize {
         self.wires.into()
     }
 
+    /// The bit, from 0, at which the record's fields begin: behind n, m and the degrees in unary.
+    pub(crate) fn fields_start(self) -> usize {
+        28 + self.terminals() + 2 * self.wires()
+    }
+
     /// The bytes of the record.
+    #[must_use]
     pub fn record_len(self) -> usize {
-        (28 + self.terminals() + 26 * self.wires()).div_ceil(8)
+        (self.fields_start() + 12 * self.list_len()).div_ceil(8)
     }
 
     /// The bytes of its index: three sections of marks, and the visit numbers.
+    #[must_use]
     pub fn index_len(self) -> usize {
         3 * (self.terminals() + 2 * self.wires()).div_ceil(8) + (12 * self.terminals()).div_ceil(8)
     }
 
-    /// The numbers that the work slice of [`build`](crate::build) has at least.
+    /// The numbers that the work slice of [`build`](crate::build) and of [`table`](fn@crate::table) has at least.
+    #[must_use]
     pub fn work_len(self) -> usize {
         8 * self.terminals()
     }
 
     /// The numbers of the list of [`unpack`](crate::unpack).
+    #[must_use]
     pub fn list_len(self) -> usize {
         2 * self.wires()
     }

@@ -1,6 +1,14 @@
-//! The package beside document 01: the sample's lines, every refusal, and the views.
+//! The package: the lines of the sample record, every refusal, and the views.
 
 mod packing;
+mod readme;
 mod refusals;
 mod sample;
 mod views;
+mod walks;
+
+#[test]
+fn the_archive_has_the_version_of_the_package() {
+    let (major, minor, patch) = celduga::version();
+    assert_eq!(format!("{major}.{minor}.{patch}"), env!("CARGO_PKG_VERSION"));
+}

@@ -1,4 +1,4 @@
-//! What the tests share: document 01's sample, and the packing of records.
+//! What the tests share: the records of docs/FORMAT.md, the packing of records, and shapes.
 
 pub const SAMPLE: [u8; 21] = [
     0x00, 0x30, 0x00, 0x59, 0x22, 0xA0, 0x02, 0x00, 0x10, 0x00, 0x00, 0x20, 0x01, 0x00, 0x30, 0x00, 0x00, 0x20, 0x05, 0x00, 0x40,
@@ -32,4 +32,66 @@ pub fn record<B: AsRef<[u16]>>(blocks: &[B]) -> Vec<u8> {
 /// Appends a number of this width, the most significant bit first.
 fn put(bits: &mut Vec<bool>, number: usize, width: usize) {
     bits.extend((0..width).rev().map(|place| number >> place & 1 == 1));
+}
+
+/// Numbers without a pattern, the same ones for a seed always.
+pub struct Chance(u64);
+
+impl Chance {
+    pub fn new(seed: u64) -> Self {
+        Chance(seed << 1 | 1)
+    }
+
+    /// A number below this one.
+    pub fn below(&mut self, bound: usize) -> usize {
+        // xorshift64*
+        self.0 ^= self.0 >> 12;
+        self.0 ^= self.0 << 25;
+        self.0 ^= self.0 >> 27;
+        (self.0.wrapping_mul(0x2545_F491_4F6C_DD1D) >> 33) as usize % bound
+    }
+}
+
+/// The blocks of so many terminals and at most so many wires, which are any.
+pub fn scattered(terminals: usize, wires: usize, chance: &mut Chance) -> Vec<Vec<u16>> {
+    let mut blocks = vec![Vec::new(); terminals];
+    for _ in 0..wires {
+        let (v, w) = (chance.below(terminals), chance.below(terminals));
+        if v != w && !blocks[v].contains(&(w as u16 + 1)) {
+            blocks[v].push(w as u16 + 1);
+            blocks[w].push(v as u16 + 1);
+        }
+    }
+    blocks
+}
+
+/// The blocks of 4,096 terminals in a ring, each with a wire to those at these steps on both sides.
+pub fn ring(steps: &[u16]) -> Vec<Vec<u16>> {
+    let around = |v: u16, step: u16| (v + step) % 4096 + 1;
+    (0..4096)
+        .map(|v| steps.iter().flat_map(|&step| [around(v, step), around(v, 4096 - step)]).collect())
+        .collect()
+}
+
+/// The blocks of a star: terminal 1 has a wire to each of the 4,095 others.
+pub fn star() -> Vec<Vec<u16>> {
+    core::iter::once((2..=4096).collect()).chain((2..=4096).map(|_| vec![1])).collect()
+}
+
+/// Blocks of many shapes, the smallest and the largest too.
+pub fn shapes() -> Vec<Vec<Vec<u16>>> {
+    let mut chance = Chance::new(4096);
+    let mut shapes = vec![
+        vec![],
+        vec![vec![]],
+        vec![vec![]; 4096],
+        SAMPLE_BLOCKS.map(<[u16]>::to_vec).to_vec(),
+        ring(&[1]),
+        ring(&[1, 2, 3, 4]),
+        star(),
+        scattered(700, 800, &mut chance),
+        scattered(4096, 4000, &mut chance),
+    ];
+    shapes.extend((2..40).flat_map(|n| [n / 2, n, 2 * n].map(|m| scattered(n, m, &mut chance))));
+    shapes
 }

@@ -41,6 +41,23 @@ fn unpack_refuses(record: &[u8], list_len: usize, number: usize) {
     assert_eq!(list, before);
 }
 
+/// Table refuses, and the four lists stay.
+fn table_refuses(record: &[u8], work_len: usize, lens: [usize; 4], number: usize) {
+    let before = lens.map(|len| (0..len).map(|i| 0xA0B1 + i as u16).collect::<Vec<u16>>());
+    let [mut visits, mut parents, mut children, mut heads] = before.clone();
+    assert_eq!(
+        table(record, &mut vec![7; work_len], &mut visits, &mut parents, &mut children, &mut heads),
+        Err(refusal(number))
+    );
+    assert_eq!([visits, parents, children, heads], before);
+}
+
+/// Neighbours gives the empty part at the front.
+fn no_neighbours(record: &[u8], list: &[u16], v: Vertex) {
+    let part = neighbours(record, list, v);
+    assert_eq!(part.as_ptr_range(), list[..0].as_ptr_range());
+}
+
 #[test]
 fn refusals_1_to_8() {
     for (number, record) in (1..).zip(refused_records()) {
@@ -49,6 +66,9 @@ fn refusals_1_to_8() {
         assert_eq!(loop_figure(&record), Err(refusal(number)));
         build_refuses(&record, 48, 15, number);
         unpack_refuses(&record, 10, number);
+        table_refuses(&record, 48, [6; 4], number);
+        // also where the slices are too short
+        table_refuses(&record, 0, [0; 4], number);
     }
 }
 
@@ -64,6 +84,21 @@ fn queries_refuse_1_to_4() {
         assert_eq!(child(&record, &SAMPLE_INDEX, v, 1), Err(no));
         assert_eq!(visit(&record, &SAMPLE_INDEX, v), Err(no));
         assert_eq!(visited(&record, &SAMPLE_INDEX, Dfi(1)), Err(no));
+        for len in 0..12 {
+            no_neighbours(&record, &vec![1; len], Vertex(3));
+        }
+    }
+}
+
+#[test]
+fn neighbours_ask_no_more_of_a_record_than_degrees() {
+    let counts = [(5, 10), (6, 2), (7, 4), (8, 4)];
+    for ((number, len), record) in counts.into_iter().zip(&refused_records()[4..]) {
+        assert_eq!(check(record), Err(refusal(number)));
+        let list: Vec<u16> = (0..len).collect();
+        let first = degree(record, Vertex(1)).unwrap();
+        assert_eq!(neighbours(record, &list, Vertex(1)), &list[..first]);
+        assert_eq!(neighbours(record, &list, Vertex(2))[0], first as u16);
     }
 }
 
@@ -72,6 +107,10 @@ fn refusal_9() {
     build_refuses(&SAMPLE, 47, 15, 9);
     build_refuses(&SAMPLE, 0, 15, 9);
     build_refuses(&SAMPLE, 47, 14, 9);
+    table_refuses(&SAMPLE, 47, [6; 4], 9);
+    table_refuses(&SAMPLE, 0, [6; 4], 9);
+    table_refuses(&SAMPLE, 47, [5; 4], 9);
+    table_refuses(&TERMINAL, 7, [1; 4], 9);
 }
 
 #[test]
@@ -86,12 +125,25 @@ fn refusal_10() {
     build_refuses(&EMPTY, 0, 1, 10);
     for len in [0, 9, 11] {
         unpack_refuses(&SAMPLE, len, 10);
+        no_neighbours(&SAMPLE, &vec![1; len], Vertex(3));
+    }
+    for list in 0..4 {
+        for len in [0, 5, 7] {
+            let mut lens = [6; 4];
+            lens[list] = len;
+            table_refuses(&SAMPLE, 48, lens, 10);
+        }
+        let mut lens = [0; 4];
+        lens[list] = 1;
+        table_refuses(&EMPTY, 0, lens, 10);
     }
 }
 
 #[test]
 fn refusal_11() {
     let no = Refusal::NoTerminal;
+    let sample = Record::new(&SAMPLE).unwrap();
+    let (index, table) = (sample.index(), sample.table());
     for number in [0, 7, 65536, 65537, usize::MAX] {
         let v = Vertex(number);
         assert_eq!(degree(&SAMPLE, v), Err(no));
@@ -103,6 +155,15 @@ fn refusal_11() {
         assert_eq!(child(&SAMPLE, &SAMPLE_INDEX, v, 1), Err(no));
         assert_eq!(visit(&SAMPLE, &SAMPLE_INDEX, v), Err(no));
         assert_eq!(visited(&SAMPLE, &SAMPLE_INDEX, Dfi(number)), Err(no));
+        no_neighbours(&SAMPLE, &[1; 10], v);
+        assert_eq!(sample.neighbours(v).err(), Some(no));
+        assert_eq!(index.children_of(v).err(), Some(no));
+        assert_eq!(index.path_to_root(v).err(), Some(no));
+        assert_eq!(table.row(v), Err(no));
+        assert_eq!(table.visit(v), Err(no));
+        assert_eq!(table.parent(v), Err(no));
+        assert_eq!(table.children(v), Err(no));
+        assert_eq!(table.head(v), Err(no));
     }
     assert_eq!(degree(&EMPTY, Vertex(1)), Err(no));
     assert_eq!(parent(&EMPTY, &[], Vertex(1)), Err(no));
@@ -144,6 +205,23 @@ fn numbers_and_words() {
     assert!(refusals.iter().map(|refusal| refusal.number()).eq(1..=13));
     assert_eq!(refusals[0], Refusal::TooShort);
     assert_eq!(refusals[12], Refusal::NoChild);
+    // celduga_refusal_text in include/celduga.h has the same words
+    let words = [
+        "the record has under 4 bytes",
+        "the record has too many terminals or wires",
+        "the record has another length than its header gives",
+        "the degrees in unary do not fit the number of terminals",
+        "a spare bit of the record is set",
+        "a neighbour is no terminal, or the terminal itself",
+        "a neighbour stands twice in a block",
+        "a wire is listed at one end only",
+        "the work slice is too short",
+        "the index or the list has another length than the record gives",
+        "there is no such terminal or visit number",
+        "the index shows what no forest does",
+        "there is no such child",
+    ];
+    assert!(refusals.iter().map(|refusal| refusal.to_string()).eq(words));
     let error: Box<dyn std::error::Error> = Refusal::OneSidedWire.into();
-    assert_eq!(error.to_string(), "refused 8: a wire is listed at one end only");
+    assert_eq!(error.to_string(), words[7]);
 }

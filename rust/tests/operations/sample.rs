@@ -1,4 +1,4 @@
-//! The lines of document 01's sample, by the functions that mirror the operations.
+//! The sample record of docs/FORMAT.md and the small ones beside it, by the functions that mirror the operations.
 
 use crate::packing::*;
 use celduga::*;
@@ -38,18 +38,19 @@ fn refused_records() {
     assert_eq!(check(&record(&[&[2, 3][..], &[1], &[2]])), Err(Refusal::OneSidedWire));
 }
 
+/// Terminal, visit number, parent, children, head.
+const LISTING: [(usize, usize, usize, usize, usize); 6] = [
+    (1, 1, 0, 1, 1),
+    (2, 3, 3, 0, 1),
+    (3, 2, 1, 2, 1),
+    (4, 4, 3, 0, 4),
+    (5, 5, 0, 1, 5),
+    (6, 6, 5, 0, 6),
+];
+
 #[test]
 fn the_listing() {
-    // terminal, visit number, parent, children, head
-    let rows = [
-        (1, 1, 0, 1, 1),
-        (2, 3, 3, 0, 1),
-        (3, 2, 1, 2, 1),
-        (4, 4, 3, 0, 4),
-        (5, 5, 0, 1, 5),
-        (6, 6, 5, 0, 6),
-    ];
-    for (v, number, above, count, top) in rows {
+    for (v, number, above, count, top) in LISTING {
         let v = Vertex(v);
         assert_eq!(visit(&SAMPLE, &SAMPLE_INDEX, v), Ok(Dfi(number)));
         assert_eq!(visited(&SAMPLE, &SAMPLE_INDEX, Dfi(number)), Ok(v));
@@ -59,6 +60,35 @@ fn the_listing() {
         assert_eq!(degree(&SAMPLE, v), Ok(SAMPLE_BLOCKS[v.0 - 1].len()));
     }
     assert_eq!(loop_figure(&SAMPLE), Ok(0));
+}
+
+/// What Table answers and writes: visit numbers, parents, children and heads.
+fn tabled(record: &[u8], work_len: usize) -> [Vec<u16>; 4] {
+    let n = Sizes::of(record).unwrap().terminals();
+    let [mut visits, mut parents, mut children, mut heads] = [(); 4].map(|()| vec![0xFFFF; n]);
+    let mut work = vec![0xFFFF; work_len];
+    assert_eq!(
+        table(record, &mut work, &mut visits, &mut parents, &mut children, &mut heads),
+        Ok(())
+    );
+    [visits, parents, children, heads]
+}
+
+#[test]
+fn the_table() {
+    let columns = [
+        LISTING.map(|(_, number, ..)| number as u16),
+        LISTING.map(|(_, _, above, ..)| above as u16),
+        LISTING.map(|(.., count, _)| count as u16),
+        LISTING.map(|(.., top)| top as u16),
+    ];
+    // a longer work slice does as well
+    for work_len in [48, 49, 1000] {
+        assert_eq!(tabled(&SAMPLE, work_len), columns);
+    }
+    assert_eq!(tabled(&EMPTY, 0), [[]; 4]);
+    assert_eq!(tabled(&TERMINAL, 8), [[1], [0], [0], [1]]);
+    assert_eq!(tabled(&WIRE, 16), [[1, 2], [0, 1], [1, 0], [1, 2]]);
 }
 
 #[test]
@@ -86,6 +116,22 @@ fn the_unpacked_list() {
     let mut list = [0; 10];
     assert_eq!(unpack(&SAMPLE, &mut list), Ok(()));
     assert_eq!(list[..], SAMPLE_BLOCKS.concat());
+}
+
+#[test]
+fn the_parts_of_the_unpacked_list() {
+    let list = SAMPLE_BLOCKS.concat();
+    let mut before = 0;
+    for (v, block) in (1..).zip(SAMPLE_BLOCKS) {
+        let part = neighbours(&SAMPLE, &list, Vertex(v));
+        assert_eq!(part, block);
+        // it is a part of the list itself
+        assert_eq!(part.as_ptr(), list[before..].as_ptr());
+        before += block.len();
+    }
+    // what the list holds does not matter
+    assert_eq!(neighbours(&SAMPLE, &[9; 10], Vertex(3)), [9; 3]);
+    assert_eq!(neighbours(&TERMINAL, &[], Vertex(1)), []);
 }
 
 #[test]

@@ -1,4 +1,4 @@
-//! `Record` and `Index`, over the same operations.
+//! `Record`, `Index` and `Table`, over the same operations.
 
 use crate::packing::*;
 use celduga::*;
@@ -72,14 +72,6 @@ fn visit_numbers_are_no_terminals() {
     }
 }
 
-/// The blocks of 4,096 terminals in a ring, each with a wire to those at these steps on both sides.
-fn ring(steps: &[u16]) -> Vec<Vec<u16>> {
-    let around = |v: u16, step: u16| (v + step) % 4096 + 1;
-    (0..4096)
-        .map(|v| steps.iter().flat_map(|&step| [around(v, step), around(v, 4096 - step)]).collect())
-        .collect()
-}
-
 #[test]
 fn the_largest_record() {
     let blocks = ring(&[1, 2, 3, 4]);
@@ -96,6 +88,86 @@ fn the_largest_record() {
         assert_eq!(index.head(v), Ok(Vertex(1)));
         assert_eq!(index.visited(index.visit(v).unwrap()), Ok(v));
     }
+}
+
+#[test]
+fn the_table_is_what_the_index_answers() {
+    for blocks in shapes() {
+        let bytes = record(&blocks);
+        let record = Record::new(&bytes).unwrap();
+        let (index, table) = (record.index(), record.table());
+        assert!(table.rows().map(|row| row.terminal).eq(record.vertices()));
+        assert!(table.rows().rev().map(|row| row.terminal).eq(record.vertices().rev()));
+        for (v, row) in record.vertices().zip(table.rows()) {
+            let answers = Row {
+                terminal: v,
+                visit: index.visit(v).unwrap(),
+                parent: index.parent(v).unwrap(),
+                children: index.children(v).unwrap(),
+                head: index.head(v).unwrap(),
+            };
+            assert_eq!((row, table.row(v)), (answers, Ok(answers)));
+            assert_eq!((table.visit(v), table.parent(v)), (Ok(row.visit), Ok(row.parent)));
+            assert_eq!((table.children(v), table.head(v)), (Ok(row.children), Ok(row.head)));
+        }
+    }
+}
+
+/// The heads and the terminals of the sections.
+fn sections(blocks: &[Vec<u16>]) -> Vec<(usize, Vec<usize>)> {
+    Record::new(&record(blocks))
+        .unwrap()
+        .sections()
+        .into_iter()
+        .map(|section| (section.head.0, section.terminals.iter().map(|v| v.0).collect()))
+        .collect()
+}
+
+#[test]
+fn the_sections_are_the_terminals_by_their_heads() {
+    for blocks in shapes() {
+        let bytes = record(&blocks);
+        let record = Record::new(&bytes).unwrap();
+        let index = record.index();
+        let mut grouped: Vec<(usize, Vec<usize>)> = Vec::new();
+        for v in record.vertices() {
+            let head = index.head(v).unwrap().0;
+            match grouped.iter_mut().find(|(of, _)| *of == head) {
+                Some((_, terminals)) => terminals.push(v.0),
+                None => grouped.push((head, vec![v.0])),
+            }
+        }
+        assert_eq!(sections(&blocks), grouped);
+    }
+}
+
+#[test]
+fn the_sections_of_known_records() {
+    assert_eq!(sections(&[]), []);
+    assert_eq!(sections(&[vec![]]), [(1, vec![1])]);
+    let alone: Vec<_> = (1..=4096).map(|v| (v, vec![v])).collect();
+    assert_eq!(sections(&vec![vec![]; 4096]), alone);
+    // each wire of a star is a bridge
+    assert_eq!(sections(&star()), alone);
+    for steps in [&[1][..], &[1, 2, 3, 4]] {
+        assert_eq!(sections(&ring(steps)), [(1, (1..=4096).collect())]);
+    }
+    let sample = [(1, vec![1, 2, 3]), (4, vec![4]), (5, vec![5]), (6, vec![6])];
+    assert_eq!(sections(&SAMPLE_BLOCKS.map(<[u16]>::to_vec)), sample);
+    // the head need not be the least terminal
+    let blocks = [vec![3], vec![4, 3], vec![1, 2, 4], vec![3, 2]];
+    assert_eq!(sections(&blocks), [(1, vec![1]), (3, vec![2, 3, 4])]);
+    // the terminals of a section need not stand together
+    let blocks = [vec![4, 5], vec![3, 6], vec![6, 2], vec![5, 1], vec![1, 4], vec![2, 3]];
+    assert_eq!(sections(&blocks), [(1, vec![1, 4, 5]), (2, vec![2, 3, 6])]);
+}
+
+#[test]
+fn a_table_outlives_its_record() {
+    let table = { Record::new(&record(&SAMPLE_BLOCKS)).unwrap().table() };
+    let record = Record::new(&SAMPLE).unwrap();
+    assert_eq!(table, record.table());
+    assert_eq!(table.sections(), record.sections());
 }
 
 #[test]
