@@ -1,7 +1,11 @@
 // Asks `bits` on fixed bytes and prints the answers, a line for each bit string, field and write. The file stdout has what they must be.
 ghost use Prim.Native.Nat.{_<_, _≤_};
 ghost use lib.ListN.{length};
-use libc::STDOUT_FILENO;
+use print::label;
+use print::number;
+use print::show_bytes;
+use print::text;
+use print::value;
 
 // The sample record.
 const SAMPLE: [u8; 21] = [
@@ -104,25 +108,9 @@ const ASKED: [usize; 20] = [
     18446744073709551615,
 ];
 
-fn text(s: &[u8]) {
-    io::write_all(STDOUT_FILENO, s);
-}
-
-fn number(n: usize) {
-    io::print_decimal(STDOUT_FILENO, n as u64);
-}
-
-// A name, a number, and a colon.
-fn title(name: &[u8], start: usize) {
-    text(name);
-    number(start);
-    text(b":");
-}
-
 // Rank and select of one string at n.
 fn pair(bytes: &[u8], start: usize, places: usize, n: usize) {
-    text(b" ");
-    number(bits::rank(bytes, start, places, n));
+    value(bits::rank(bytes, start, places, n));
     text(b"/");
     number(bits::select(bytes, start, places, n));
 }
@@ -137,9 +125,9 @@ fn pairs(bytes: &[u8], start: usize, places: usize, asked: &[usize]) {
 }
 
 fn string(bytes: &[u8], start: usize, places: usize) {
-    text(b"string ");
-    number(start);
-    title(b" ", places);
+    text(b"string");
+    value(start);
+    label(b" ", places);
     pairs(bytes, start, places, &ASKED);
     text(b"\n");
 }
@@ -149,7 +137,7 @@ fn fields(bytes: &[u8], start: usize)
     requires { ⌜ (length (now bytes) ≤ 1000) × (start < 1000) ⌝ }
 {
     let held = 8 * bytes.len();
-    title(b"fields ", start);
+    label(b"fields ", start);
     if start < held {
         if bits::fields::read_bit(bytes, start) {
             text(b" 1");
@@ -158,30 +146,13 @@ fn fields(bytes: &[u8], start: usize)
         }
     }
     if start + 12 <= held {
-        text(b" ");
-        number(bits::fields::read12(bytes, start));
+        value(bits::fields::read12(bytes, start));
     }
     if start + 13 <= held {
-        text(b" ");
-        number(bits::fields::read13(bytes, start));
+        value(bits::fields::read13(bytes, start));
     }
     if start + 15 <= held {
-        text(b" ");
-        number(bits::fields::read15(bytes, start));
-    }
-    text(b"\n");
-}
-
-fn hex(b: u8) {
-    text(b" ");
-    io::print_hex(STDOUT_FILENO, b as u64, 2);
-}
-
-fn show(bytes: &[u8]) {
-    let mut i = 0;
-    while i < bytes.len() {
-        hex(bytes[i]);
-        i += 1;
+        value(bits::fields::read15(bytes, start));
     }
     text(b"\n");
 }
@@ -193,11 +164,11 @@ fn write(start: usize, v: usize)
     let mut bytes = [0x00, 0x00, 0x00, 0x00, 0xFF, 0xFF, 0xFF, 0xFF];
     let buffer: &mut [u8] = &mut bytes;
     bits::fields::write12(buffer, start, v);
-    title(b"field ", start);
-    show(buffer);
+    label(b"field ", start);
+    show_bytes(buffer);
     bits::fields::set_bit(buffer, start);
-    title(b"bit ", start);
-    show(buffer);
+    label(b"bit ", start);
+    show_bytes(buffer);
 }
 
 // The sample record: its header, D and fields, all its bits, no bits, and strings that it does not hold.

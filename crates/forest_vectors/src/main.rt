@@ -1,21 +1,40 @@
 // Has `forest` build the indexes of fixed records and prints the answers, a line for each call. The file stdout has what they must be.
 ghost use Prim.Native.Nat.{_+_, _*_, _≤_};
 use print::digest;
-use print::number;
-use print::show;
+use print::label;
+use print::refused;
+use print::show_bytes;
 use print::text;
-use print::title;
-use print::verdict;
+use print::value;
+use record::Verdict;
 use shapes::Shape;
 
-mod print; // print.rt: words, numbers, bytes, digests and verdicts
 mod shapes; // shapes.rt: the largest records
+
+// The record, what the work slice and the buffer hold before the call, and their lengths.
+fn heading(name: &[u8], before: &[u8], work: usize, buffer: usize) {
+    text(name);
+    text(b" ");
+    text(before);
+    value(work);
+    value(buffer);
+    text(b": ");
+}
+
+// The verdict, and a comma.
+fn verdict(answer: Verdict) {
+    match answer {
+        Verdict::Accepted => text(b"accepted"),
+        Verdict::Refused(r) => refused(record::number_of(r)),
+    }
+    text(b",");
+}
 
 // Build, with the buffer after it.
 fn build(name: &[u8], before: &[u8], bytes: &[u8], work: &mut [u16], index: &mut [u8]) {
-    title(name, before, work.len(), index.len());
+    heading(name, before, work.len(), index.len());
     verdict(forest::build(bytes, work, index));
-    show(index);
+    show_bytes(index);
 }
 
 // The bytes of a section of marks.
@@ -255,8 +274,7 @@ fn several() {
 
 // The ones of a section that starts at this bit of the index.
 fn section_ones(index: &[u8], start: usize, places: usize) {
-    text(b" ");
-    number(bits::rank(index, start, places, places));
+    value(bits::rank(index, start, places, places));
 }
 
 // The ones of E, P and B.
@@ -275,11 +293,9 @@ fn ones(index: &[u8], m: usize)
 fn measure(name: &[u8], s: Shape, bytes: &mut [u8], work: &mut [u16], index: &mut [u8]) {
     shapes::pack(bytes, s);
     text(name);
-    text(b" record ");
-    number(bytes.len());
-    text(b":");
+    label(b" record ", bytes.len());
     digest(bytes);
-    title(name, b"ones", work.len(), index.len());
+    heading(name, b"ones", work.len(), index.len());
     verdict(forest::build(bytes, work, index));
     ones(index, shapes::wires(s));
     digest(index);

@@ -1,19 +1,18 @@
 // Asks `queries` about fixed records and indexes and prints the answers: a line for each query, of Child and Ancestor one for each terminal.
 // The file stdout has what they must be.
 ghost use Prim.Native.Nat.{_≤_};
+use answers::above;
+use answers::counted;
+use answers::found;
+use answers::numbered;
+use answers::related;
 use forest::Dfi;
-use print::above;
-use print::counted;
-use print::found;
-use print::numbered;
-use print::related;
+use print::label;
 use print::text;
-use print::title;
-use print::title_of;
 use record::Counted;
 use record::Vertex;
 
-mod print; // print.rt: words, numbers and answers
+mod answers; // answers.rt: how the answers are printed
 
 // What a line asks for each number: a query of one number, Child of a terminal, or whether a terminal is an ancestor.
 enum Asked {
@@ -27,14 +26,15 @@ enum Asked {
 }
 
 fn heading(name: &[u8], asked: Asked) {
+    text(name);
     match asked {
-        Asked::Parent => title(name, b" parent:"),
-        Asked::Head => title(name, b" head:"),
-        Asked::Children => title(name, b" children:"),
-        Asked::Visit => title(name, b" visit:"),
-        Asked::Visited => title(name, b" visited:"),
-        Asked::Child(v) => title_of(name, b" child ", v),
-        Asked::Ancestor(u) => title_of(name, b" ancestor ", u),
+        Asked::Parent => text(b" parent:"),
+        Asked::Head => text(b" head:"),
+        Asked::Children => text(b" children:"),
+        Asked::Visit => text(b" visit:"),
+        Asked::Visited => text(b" visited:"),
+        Asked::Child(v) => label(b" child ", v),
+        Asked::Ancestor(u) => label(b" ancestor ", u),
     }
 }
 
@@ -394,7 +394,8 @@ fn bad_index() {
 // The largest number, as the only number, as each number of Child, and as each number of Ancestor.
 fn largest(name: &[u8], bytes: &[u8], index: &[u8]) {
     let top = 0xFFFF_FFFF_FFFF_FFFF;
-    title(name, b" largest:");
+    text(name);
+    text(b" largest:");
     ask(Asked::Parent, bytes, index, top);
     ask(Asked::Head, bytes, index, top);
     ask(Asked::Children, bytes, index, top);

@@ -1,88 +1,49 @@
 // Asks `record` about fixed records and prints the answers, a line for each call. The file stdout has what they must be.
 ghost use Prim.Native.Nat.{_≤_};
-use libc::STDOUT_FILENO;
+use print::label;
+use print::number;
+use print::refused;
+use print::show_numbers;
+use print::signed;
+use print::text;
+use print::value;
 use record::Counted;
 use record::Figure;
-use record::Refusal;
 use record::Verdict;
 use record::Vertex;
-
-fn text(s: &[u8]) {
-    io::write_all(STDOUT_FILENO, s);
-}
-
-fn number(n: usize) {
-    io::print_decimal(STDOUT_FILENO, n as u64);
-}
-
-// A number with its sign.
-fn signed(z: i32) {
-    let wide = z as i64;
-    if wide < 0 {
-        text(b"-");
-        number((0 - wide) as usize);
-    } else {
-        number(wide as usize);
-    }
-}
-
-// The name of the record, and what is asked.
-fn title(name: &[u8], asked: &[u8]) {
-    text(name);
-    text(asked);
-}
-
-fn refused(r: Refusal) {
-    text(b"refused ");
-    number(record::number_of(r));
-}
 
 fn verdict(answer: Verdict) {
     match answer {
         Verdict::Accepted => text(b"accepted"),
-        Verdict::Refused(r) => refused(r),
+        Verdict::Refused(r) => refused(record::number_of(r)),
     }
 }
 
 fn counted(answer: Counted) {
     match answer {
         Counted::Count(k) => number(k),
-        Counted::Refused(r) => refused(r),
+        Counted::Refused(r) => refused(record::number_of(r)),
     }
 }
 
 fn figure(answer: Figure) {
     match answer {
         Figure::Loops(z) => signed(z),
-        Figure::Refused(r) => refused(r),
+        Figure::Refused(r) => refused(record::number_of(r)),
     }
-}
-
-fn item(k: u16) {
-    text(b" ");
-    number(k as usize);
-}
-
-// The numbers of a list, to the end of the line.
-fn show(list: &[u16]) {
-    let mut i = 0;
-    while i < list.len() {
-        item(list[i]);
-        i += 1;
-    }
-    text(b"\n");
 }
 
 fn check(name: &[u8], bytes: &[u8]) {
-    title(name, b" check: ");
+    text(name);
+    text(b" check: ");
     verdict(record::check(bytes));
     text(b"\n");
 }
 
 fn degree(name: &[u8], bytes: &[u8], v: usize) {
-    title(name, b" degree ");
-    number(v);
-    text(b": ");
+    text(name);
+    label(b" degree ", v);
+    text(b" ");
     counted(record::degree(bytes, Vertex(v)));
     text(b"\n");
 }
@@ -100,21 +61,20 @@ fn degrees(name: &[u8], bytes: &[u8], last: usize)
 
 // Unpack, with the list after it.
 fn unpack(name: &[u8], bytes: &[u8], list: &mut [u16]) {
-    title(name, b" unpack ");
-    number(list.len());
-    text(b": ");
+    text(name);
+    label(b" unpack ", list.len());
+    text(b" ");
     verdict(record::unpack(bytes, list));
     text(b",");
-    show(list);
+    show_numbers(list);
 }
 
 fn neighbours(name: &[u8], bytes: &[u8], list: &[u16], v: usize) {
-    title(name, b" neighbours ");
-    number(list.len());
-    text(b" ");
-    number(v);
-    text(b":");
-    show(record::neighbours(bytes, list, Vertex(v)));
+    text(name);
+    text(b" neighbours");
+    value(list.len());
+    label(b" ", v);
+    show_numbers(record::neighbours(bytes, list, Vertex(v)));
 }
 
 // Neighbours of terminals `first` to `last`.
@@ -139,7 +99,8 @@ fn lists(name: &[u8], bytes: &[u8], length: usize, first: usize, last: usize)
 }
 
 fn loops(name: &[u8], bytes: &[u8]) {
-    title(name, b" loops: ");
+    text(name);
+    text(b" loops: ");
     figure(record::loop_figure(bytes));
     text(b"\n");
 }

@@ -1,9 +1,9 @@
--- `show` meets its contract: each byte is printed.
+-- `show_bytes` meets its contract: each byte is printed.
 use Prim.Native.Nat.{_≤_, _-_}
-use borrow.Author.Needs.{needs}
 use lib.ListN.{length}
-use Rattle.bits_vectors.proofs.show.Statement.{statement}
-use Rattle.bits_vectors.proofs.show.Tie as tie
+use borrow.Author.Needs.{needs}
+use Rattle.print.proofs.show_bytes.Statement.{statement}
+use Rattle.print.proofs.show_bytes.Tie as tie
 
 abbrev Inv-loop : tie.InvT-loop
 Inv-loop bytes i₀ t3 i = i ≤ length bytes
@@ -38,8 +38,8 @@ text-requires c κs = search needs
 returns : tie.Need-returns Inv-loop μ-loop
 returns c = search needs
 
-pub show-spec : {M : Type 1} → statement M
-show-spec =
+pub show-bytes-spec : {M : Type 1} → statement M
+show-bytes-spec =
     tie.close
     (tie.spec
     Inv-loop

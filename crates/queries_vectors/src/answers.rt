@@ -1,37 +1,13 @@
-// What the program prints: words, numbers and answers. A refusal is printed as its number in brackets.
-use libc::STDOUT_FILENO;
+// How the program prints what the queries answer. A refusal is printed as its number in brackets.
+use print::number;
+use print::text;
+use print::value;
 use queries::Above;
 use queries::Found;
 use queries::Numbered;
 use queries::Related;
 use record::Counted;
 use record::Refusal;
-
-pub fn text(s: &[u8]) {
-    io::write_all(STDOUT_FILENO, s);
-}
-
-fn number(n: usize) {
-    io::print_decimal(STDOUT_FILENO, n as u64);
-}
-
-// The name of the pair, and what is asked.
-pub fn title(name: &[u8], asked: &[u8]) {
-    text(name);
-    text(asked);
-}
-
-// The same, for one terminal.
-pub fn title_of(name: &[u8], asked: &[u8], v: usize) {
-    title(name, asked);
-    number(v);
-    text(b":");
-}
-
-fn value(n: usize) {
-    text(b" ");
-    number(n);
-}
 
 fn refused(r: Refusal) {
     text(b" (");

@@ -1,9 +1,9 @@
--- `print::digest` meets its contract: each byte is mixed in.
+-- `digest` meets its contract: each byte is mixed in.
 use Prim.Native.Nat.{_≤_, _<_, _-_}
 use lib.ListN.{length}
 use borrow.Author.Needs.{needs}
-use Rattle.forest_vectors.proofs.print.digest.Statement.{statement}
-use Rattle.forest_vectors.proofs.print.digest.Tie as tie
+use Rattle.print.proofs.digest.Statement.{statement}
+use Rattle.print.proofs.digest.Tie as tie
 
 abbrev Inv-loop : tie.InvT-loop
 Inv-loop bytes d₀ i₀ t4 t5 d i = (i ≤ length bytes) × (d < 4294967296)

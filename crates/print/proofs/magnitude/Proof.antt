@@ -1,0 +1,28 @@
+-- `magnitude` meets its contract: each number that is cast fits.
+use borrow.Author.Needs.{needs}
+use mir.Facts.{fits-ofZ, sfits-toZ, sfits-widen}
+use Rattle.print.proofs.Signs.{above, below}
+use Rattle.print.proofs.magnitude.Statement.{statement}
+use Rattle.print.proofs.magnitude.Tie as tie
+
+cast-result : tie.Need-cast-result
+cast-result c = sfits-widen tt (sfits-toZ (fits-ofZ (c .before .fits .z)))
+
+sub-result : tie.Need-sub-result
+sub-result c = below _ (sfits-toZ (fits-ofZ (c .before .fits .z))) (c .if1 .taken) .0
+
+cast-result-2 : tie.Need-cast-result-2
+cast-result-2 c = below _ (sfits-toZ (fits-ofZ (c .before .fits .z))) (c .if1 .taken) .1
+
+returns : tie.Need-returns
+returns c = search needs
+
+cast-result-3 : tie.Need-cast-result-3
+cast-result-3 c = above _ (sfits-toZ (fits-ofZ (c .before .fits .z))) (c .if1 .left)
+
+returns-2 : tie.Need-returns-2
+returns-2 c = search needs
+
+pub magnitude-spec : {M : Type 1} → statement M
+magnitude-spec =
+    tie.close (tie.spec cast-result sub-result cast-result-2 returns cast-result-3 returns-2)
