@@ -1,8 +1,7 @@
 // Standard input.
-ghost use mathlib.Core.Path.{_≡_};
-ghost use Prim.Native.Nat.{_+_, _≤_};
+ghost use Prim.Native.Nat.{_≤_};
 ghost use lib.ListN.{length};
-ghost use Rattle.loomlist.specs.Input.{Within, Behind};
+ghost use Rattle.loomlist.specs.Input.{Within};
 use libc::STDIN_FILENO;
 
 // How many bytes were read, or that a read failed.
@@ -14,7 +13,7 @@ pub enum Input {
 // Reads once, behind the bytes that are there. Tells how many there are then.
 fn read_on(room: &mut [u8], done: usize) -> Input
     requires { ⌜ done ≤ length (now room) ⌝ }
-    ensures { λ r. ⌜ Behind done (length (now (room .entry))) r ⌝ }
+    ensures { λ r. ⌜ Within done (length (now (room .entry))) r ⌝ }
 {
     let got = libc::read(STDIN_FILENO, &mut room[done..]);
     if got < 0 {
@@ -25,7 +24,7 @@ fn read_on(room: &mut [u8], done: usize) -> Input
 
 // Reads until the room is full or the input ends.
 pub fn read_all(room: &mut [u8]) -> Input
-    ensures { λ r. ⌜ Within (length (now (room .entry))) r ⌝ }
+    ensures { λ r. ⌜ Within 0 (length (now (room .entry))) r ⌝ }
 {
     let mut done = 0;
     while done < room.len() {

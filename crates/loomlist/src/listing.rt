@@ -108,9 +108,9 @@ fn loops(out: &mut [u8], at: usize, z: i32) -> usize
     let from = put(out, at, b"loops ");
     if z < 0 {
         let sign = put(out, from, b"-");
-        return number(out, sign, print::magnitude(z), b'\n');
+        return number(out, sign, print::magnitude(z) as u64, b'\n');
     }
-    number(out, from, print::magnitude(z), b'\n')
+    number(out, from, print::magnitude(z) as u64, b'\n')
 }
 
 // ---- the two answers

@@ -11,7 +11,7 @@ pub fn number(n: usize) {
 }
 
 // A number without its sign. The negation may be too large for 32 bits.
-fn magnitude(z: i32) -> usize {
+pub fn magnitude(z: i32) -> usize {
     if z < 0 {
         return (0 - z as i64) as usize;
     }

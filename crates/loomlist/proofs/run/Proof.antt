@@ -18,8 +18,11 @@ refused-requires c κs = search needs
 enum-known-s : tie.Need-enum-known-s
 enum-known-s c = search needs
 
-with-index-requires : tie.Need-with-index-requires
-with-index-requires c κs = told-sound (c .before .before .before .before .before .args .bytes .now) (sym (ap shape (c .before .s .given .1)) ∙ c .before .before .before .order-r .ensures)
+with-room-requires : tie.Need-with-room-requires
+with-room-requires c κs =
+    let args = c .before .before .before .before .before .args in
+    let order-r = c .before .before .before .order-r in
+    told-sound (args .bytes .now) (sym (ap shape (c .before .s .given .1)) ∙ order-r .ensures) .n-fits
 
 returns : tie.Need-returns
 returns c = search needs
@@ -35,6 +38,6 @@ run-spec =
     enum-known-r
     refused-requires
     enum-known-s
-    with-index-requires
+    with-room-requires
     returns
     returns-2)

@@ -1,19 +1,19 @@
--- `print::lines` meets its contract.
-use Prim.Native.Nat.{_*_, _-_, _≤_}
+-- `listing::lines` meets its contract.
+use Prim.Native.Nat.{_+_, _*_, _-_, _≤_}
 use lib.ListN.{length}
 use native.Mathlib.Omega.{arith}
 use mathlib.Core.Path.{_≡_, sym, _∙_}
-use Rattle.loomlist.proofs.print.lines.Statement.{statement}
-use Rattle.loomlist.proofs.print.lines.Tie as tie
+use Rattle.loomlist.proofs.listing.lines.Statement.{statement}
+use Rattle.loomlist.proofs.listing.lines.Tie as tie
 
 abbrev Inv-loop : tie.InvT-loop
-Inv-loop n visits parents counts heads out₀ at₀ v₀ out at v = (v ≤ n) × (at ≤ 30 * v) × (length out ≡ 122880)
+Inv-loop n visits parents counts heads out₀ from at₀ v₀ out at v = (v ≤ n) × (at ≤ 36 + 30 * v) × (length out ≡ 122944)
 
 abbrev μ-loop : tie.MeasureT-loop
-μ-loop n visits parents counts heads out₀ at₀ v₀ out at v = n - v
+μ-loop n visits parents counts heads out₀ from at₀ v₀ out at v = n - v
 
 loop-holds : tie.Need-loop-holds Inv-loop μ-loop
-loop-holds c = (omega arith, omega arith, c .before .before .before .before .before .pre .5)
+loop-holds c = let f = c .before .before .before .before .before .pre .6 in (omega arith, omega arith, c .before .before .before .before .before .pre .5)
 
 add-line : tie.Need-add-line Inv-loop μ-loop
 add-line c = let t = c .before .loop-test .taken in let f = c .before .before .before .before .before .before .before .before .pre .0 in omega arith
