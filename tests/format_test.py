@@ -83,7 +83,7 @@ def blocks_in(text):
 # The sample, bit by bit
 
 def taken_apart(text, data, parts):
-    """What the table says of the data. Every bit must stand in it once, in order, as a bit of the part that is named."""
+    """What the table says of the data. Every bit must stand in it once, in order, as a bit of the named part."""
     passed, left, facts = 0, {name: 1 for name in parts}, []
     for numbers, shown, bits, names, words in tabled(text, "bytes", "hex", "bits", "parts", "what it comes to"):
         piece = bytes.fromhex(shown)
@@ -337,7 +337,7 @@ def orders(page):
 
 
 def operations(page):
-    """Each refuses just what its row tries, on the page's records and indexes, with numbers and lengths that fit or not."""
+    """Each refuses just what its row tries: on the page's records and indexes, with numbers that fit or not."""
     shown = tabled(titled(page, "Operations"), "operation", "takes", "tries, in order", "answers")
     same("the operations", sorted(set(CALLS) - {"Rank", "Select"}), sorted(row[0] for row in shown))
     refused = tabled(titled(page, "Small records"), "record", "what it is", "refused")
