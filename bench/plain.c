@@ -480,25 +480,28 @@ static void search_table(const struct graph *g, uint16_t *work, uint16_t *visits
         visits[root] = (uint16_t)(lowest = ++count);
         open[top++] = (uint16_t)root;
         for (;;) {
-            if (at < end) {
-                size_t v = g->nbrs[at++];
-                if (visits[v] == 0) {
-                    children[u]++;
-                    next[u] = (uint16_t)at;
-                    low[u] = (uint16_t)lowest;
-                    up = u + 1;
-                    u = v;
-                    parents[u] = (uint16_t)up;
-                    at = g->starts[u];
-                    end = g->starts[u + 1];
-                    visits[u] = (uint16_t)(lowest = ++count);
-                    open[top++] = (uint16_t)u;
-                } else if (v + 1 != up && visits[v] < lowest) {
-                    lowest = visits[v];
-                }
+            size_t v = 0, seen = 1;
+            while (at < end) {
+                v = g->nbrs[at++];
+                seen = visits[v];
+                if (seen == 0)
+                    break;
+                if (seen < lowest && v + 1 != up)
+                    lowest = seen;
+            }
+            if (seen == 0) {
+                children[u]++;
+                next[u] = (uint16_t)at;
+                low[u] = (uint16_t)lowest;
+                up = u + 1;
+                u = v;
+                parents[u] = (uint16_t)up;
+                at = g->starts[u];
+                end = g->starts[u + 1];
+                visits[u] = (uint16_t)(lowest = ++count);
+                open[top++] = (uint16_t)u;
             } else {
                 if (lowest == visits[u]) {
-                    size_t v;
                     do {
                         v = open[--top];
                         heads[v] = (uint16_t)(u + 1);
