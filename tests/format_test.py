@@ -80,6 +80,15 @@ def blocks_in(text):
     return [[int(w) for w in block] for _, block in found]
 
 
+def definitions(page):
+    """Each file that is named is there."""
+    for names, _ in tabled(titled(page, "The format"), "files, below `crates`", "what they define"):
+        first, *others = re.findall(r"`([^`]+)`", names)
+        folder = (ROOT / "crates" / first).parent
+        for file in (ROOT / "crates" / first, *(folder / name for name in others)):
+            demand(file.is_file(), f"there is no {file.relative_to(ROOT)}")
+
+
 # The sample, bit by bit
 
 def taken_apart(text, data, parts):
@@ -402,8 +411,8 @@ def program(page):
     same("the listing", plain.listing(SAMPLE_RECORD).splitlines(), drawn(titled(page, "The program `loomlist`")))
 
 
-TESTS = [sample_record, sample_index, record_layout, index_sections, limits, small_records, refused_records, indexes]
-TESTS += [refusals, operations, examples, results, figures, program]
+TESTS = [definitions, sample_record, sample_index, record_layout, index_sections, limits, small_records, refused_records]
+TESTS += [indexes, refusals, operations, examples, results, figures, program]
 
 
 def main():
