@@ -2,7 +2,8 @@
 
    bench                      the tables, as Markdown
    bench compare              the answers alone
-   bench once SIDE OP SHAPE   one call on the largest record of a shape, to be counted: SIDE is product or plain, OP is check or build
+   bench once SIDE OP SHAPE   one call on the largest record of a shape, to be counted: SIDE is product or plain, OP is check,
+                              build or table
    bench record SHAPE         that record's bytes
 
    Both sides run in turn, many times, and the least time of each counts. No buffer is cleared between two timed calls. */
@@ -17,7 +18,7 @@
 #include <time.h>
 
 enum { MOST_N = 4096, MOST_M = 16384, MOST_INDEX = 3 * 4608 + 6144, COPIES = 1 << (SIZES - 1), ARGUMENTS = 1024, ROUNDS = 40,
-       QUERY_ROUNDS = 100, STRING_ROUNDS = 400, LENGTHS = 7 };
+       QUERY_ROUNDS = 100, STRING_ROUNDS = 400, LENGTHS = 7, COLUMNS = 4 };
 
 /* All operations under one name each. */
 struct side {
@@ -25,30 +26,35 @@ struct side {
     uint32_t (*build)(const uint8_t *, size_t, uint16_t *, size_t, uint8_t *, size_t);
     uint32_t (*unpack)(const uint8_t *, size_t, uint16_t *, size_t);
     uint32_t (*loop_figure)(const uint8_t *, size_t);
+    uint32_t (*table)(const uint8_t *, size_t, uint16_t *, size_t, uint16_t *, size_t, uint16_t *, size_t, uint16_t *, size_t, uint16_t *,
+                      size_t);
     uint32_t (*degree)(const uint8_t *, size_t, size_t);
+    uint64_t (*neighbours)(const uint8_t *, size_t, size_t, size_t);
     uint32_t (*one[5])(const uint8_t *, size_t, const uint8_t *, size_t, size_t);
     uint32_t (*two[2])(const uint8_t *, size_t, const uint8_t *, size_t, size_t, size_t);
     size_t (*rank)(const uint8_t *, size_t, size_t, size_t, size_t);
     size_t (*select)(const uint8_t *, size_t, size_t, size_t, size_t);
 };
 
-static const struct side product = { celduga_check, celduga_build, celduga_unpack, celduga_loop_figure, celduga_degree,
+static const struct side product = { celduga_check, celduga_build, celduga_unpack, celduga_loop_figure, celduga_table,
+    celduga_degree, celduga_neighbours,
     { celduga_parent, celduga_head, celduga_children, celduga_visit, celduga_visited }, { celduga_ancestor, celduga_child },
     celduga_rank, celduga_select };
 
-static const struct side plain = { plain_check, plain_build, plain_unpack, plain_loop_figure, plain_degree,
+static const struct side plain = { plain_check, plain_build, plain_unpack, plain_loop_figure, plain_table, plain_degree, plain_neighbours,
     { plain_parent, plain_head, plain_children, plain_visit, plain_visited }, { plain_ancestor, plain_child },
     plain_rank, plain_select };
 
 /* What is called. PARENT to VISITED are the side's queries of one argument, ANCESTOR and CHILD those of two. */
-enum op { CHECK, BUILD, UNPACK, LOOPS, WHOLE, DEGREE = WHOLE, PARENT, HEAD, CHILDREN, VISIT, VISITED, ANCESTOR, CHILD, RANK, SELECT, OPS };
+enum op { CHECK, BUILD, UNPACK, LOOPS, TABLE, WHOLE, DEGREE = WHOLE, NEIGHBOURS, PARENT, HEAD, CHILDREN, VISIT, VISITED, ANCESTOR, CHILD,
+          RANK, SELECT, OPS };
 
-static const char *const op_names[OPS] = { "Check", "Build", "Unpack", "Loop figure", "Degree", "Parent", "Head", "Children", "Visit",
-    "Visited", "Ancestor", "Child", "Rank", "Select" };
+static const char *const op_names[OPS] = { "Check", "Build", "Unpack", "Loop figure", "Table", "Degree", "Neighbours", "Parent", "Head",
+    "Children", "Visit", "Visited", "Ancestor", "Child", "Rank", "Select" };
 
-/* What one side writes to. */
+/* What one side writes to. The columns are Table's: visit numbers, parents, counts of children and heads. */
 struct room {
-    uint16_t work[8 * MOST_N], list[2 * MOST_M];
+    uint16_t work[8 * MOST_N], list[2 * MOST_M], columns[COLUMNS][MOST_N + 1];
     uint8_t index[MOST_INDEX + 1];
 };
 
@@ -60,16 +66,19 @@ static volatile size_t sink;
 /* What is asked: a record, its buffers' lengths, or a string. */
 static struct record records[2 * COPIES];
 static const struct record *asked;
-static size_t work_len, index_len, list_len;
+static size_t work_len, index_len, list_len, column_lens[COLUMNS];
 static const uint8_t *string;
 static size_t string_len, string_start, string_places;
 
 static void ask(const struct record *r)
 {
+    int i;
     asked = r;
     work_len = 8 * r->n;
     index_len = r->index_len;
     list_len = 2 * r->m;
+    for (i = 0; i < COLUMNS; i++)
+        column_lens[i] = r->n;
 }
 
 static inline size_t call(const struct side *s, struct room *r, enum op op, size_t a, size_t b)
@@ -85,8 +94,13 @@ static inline size_t call(const struct side *s, struct room *r, enum op op, size
         return s->unpack(bytes, len, r->list, list_len);
     case LOOPS:
         return s->loop_figure(bytes, len);
+    case TABLE:
+        return s->table(bytes, len, r->work, work_len, r->columns[0], column_lens[0], r->columns[1], column_lens[1], r->columns[2],
+                        column_lens[2], r->columns[3], column_lens[3]);
     case DEGREE:
         return s->degree(bytes, len, a);
+    case NEIGHBOURS:
+        return s->neighbours(bytes, len, list_len, a);
     case RANK:
         return s->rank(string, string_len, string_start, string_places, a);
     case SELECT:
@@ -113,20 +127,21 @@ static size_t same(enum op op, size_t a, size_t b)
     if (left != right)
         differ(op_names[op], a, b, left, right);
     answers++;
-    if (op < RANK)
+    if (op < RANK && op != NEIGHBOURS)
         refusals[left >> 16]++;
     return left;
 }
 
-/* Check, Loop figure, Build and Unpack. The two sides' buffers hold different bytes before, so that a byte left out shows; a refused call
-   must leave its own. */
+/* Check, Loop figure, Build, Unpack and Table. The two sides' buffers hold different bytes before, so that a byte left out shows; a refused
+   call must leave its own. */
 static void compare_whole(void)
 {
     static struct room before[2];
-    int s;
+    int s, i;
     for (s = 0; s < 2; s++) {
         memset(rooms[s].index, s == 0 ? 0xAA : 0x55, sizeof rooms[s].index);
         memset(rooms[s].list, s == 0 ? 0xAA : 0x55, sizeof rooms[s].list);
+        memset(rooms[s].columns, s == 0 ? 0xAA : 0x55, sizeof rooms[s].columns);
         before[s] = rooms[s];
     }
     same(CHECK, 0, 0);
@@ -142,6 +157,13 @@ static void compare_whole(void)
             differ("the list written by Unpack", 0, 0, 0, 0);
     } else if (memcmp(rooms[0].list, before[0].list, sizeof rooms[0].list) != 0) {
         differ("the list left by Unpack", 0, 0, 0, 0);
+    }
+    if (same(TABLE, 0, 0) == 0) {
+        for (i = 0; i < COLUMNS; i++)
+            if (memcmp(rooms[0].columns[i], rooms[1].columns[i], asked->n * sizeof rooms[0].columns[i][0]) != 0)
+                differ("a list written by Table", (size_t)i, 0, 0, 0);
+    } else if (memcmp(rooms[0].columns, before[0].columns, sizeof rooms[0].columns) != 0) {
+        differ("a list left by Table", 0, 0, 0, 0);
     }
 }
 
@@ -171,7 +193,7 @@ static int bit(const uint8_t *bytes, size_t at)
 static void harm(struct record *r, uint64_t *state)
 {
     size_t d = r->n + 2 * r->m, fields = 28 + d, at, from, i;
-    switch (draw(state, 6)) {
+    switch (draw(state, 7)) {
     case 0: /* any bits */
         for (i = draw(state, 3); i > 0; i--)
             turn_bit(r->bytes, draw(state, 8 * r->len));
@@ -205,15 +227,20 @@ static void harm(struct record *r, uint64_t *state)
     case 4: /* the last bit */
         turn_bit(r->bytes, 8 * r->len - 1);
         break;
+    case 5: /* a bit of n or m */
+        turn_bit(r->bytes, draw(state, 28));
+        break;
     default: /* another length, or other lengths of the buffers */
         if (draw(state, 2) == 0)
-            r->len = draw(state, r->len + 1);
+            r->len = draw(state, draw(state, 8) == 0 ? 4 : r->len + 1);
         if (draw(state, 4) == 0)
             work_len = draw(state, work_len + 1);
         if (draw(state, 2) == 0)
             index_len = index_len > 0 ? index_len - 1 : 1;
         if (draw(state, 2) == 0)
             list_len = list_len > 0 ? list_len - 1 : 1;
+        if (draw(state, 2) == 0)
+            column_lens[draw(state, COLUMNS)] += draw(state, 2) == 0 ? 1 : (size_t)-1;
         break;
     }
 }
@@ -356,8 +383,8 @@ static void try_records(struct times *t, enum op op, const struct record *first,
     keep_least(t, a, pass_over(&plain, &rooms[1], op, first, count));
 }
 
-/* One shape: Check, Build, Unpack and Loop figure at all sizes, in turn. At each size there are as many records as make up the same volume,
-   since the processor learns the branches of a small record that it meets again and again. */
+/* One shape: Check, Build, Unpack, Loop figure and Table at all sizes, in turn. At each size there are as many records as make up the same
+   volume, since the processor learns the branches of a small record that it meets again and again. */
 static void print_shape(int shape)
 {
     static const struct times nothing;
@@ -543,10 +570,11 @@ static int largest(const char *shape)
 static int once(const char *side, const char *op, const char *shape)
 {
     const struct side *s = strcmp(side, "product") == 0 ? &product : &plain;
+    enum op o = strcmp(op, "check") == 0 ? CHECK : strcmp(op, "build") == 0 ? BUILD : TABLE;
     if (!largest(shape))
         return 2;
     ask(&records[0]);
-    return call(s, &rooms[0], strcmp(op, "check") == 0 ? CHECK : BUILD, 0, 0) != 0;
+    return call(s, &rooms[0], o, 0, 0) != 0;
 }
 
 int main(int argc, char **argv)

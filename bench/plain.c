@@ -348,6 +348,16 @@ uint32_t plain_degree(const uint8_t *record, size_t len, size_t v)
     return (uint32_t)(to - from);
 }
 
+uint64_t plain_neighbours(const uint8_t *record, size_t len, size_t list_len, size_t v)
+{
+    struct sizes s;
+    size_t from, to;
+    if (order_r(record, len, &s) != 0 || v == 0 || v > s.n || list_len != 2 * s.m)
+        return 0;
+    find_block(record, len, &s, v - 1, &from, &to);
+    return (uint64_t)(from - v) << 32 | (to - from);
+}
+
 /* ---- forest ---- */
 
 static inline size_t mark_bytes(size_t n, size_t m)
@@ -451,6 +461,77 @@ uint32_t plain_build(const uint8_t *record, size_t len, uint16_t *work, size_t w
     memset(index, 0, 3 * k);
     search(&g, work, index, index + k, index + 2 * k);
     write_numbers(work, g.n, index + 3 * k);
+    return 0;
+}
+
+/* The same search without marks. Parents count from 1 here, and 0 is a root's. `open` is a stack of the vertices that have no head yet: one
+   that is left without a way back above it is a root or below a bridge, and the head of all that stand from it on. */
+static void search_table(const struct graph *g, uint16_t *work, uint16_t *visits, uint16_t *parents, uint16_t *children, uint16_t *heads)
+{
+    size_t n = g->n, count = 0, top = 0, root;
+    uint16_t *next = work, *low = work + n, *open = work + 2 * n;
+    memset(visits, 0, n * sizeof visits[0]);
+    memset(children, 0, n * sizeof children[0]);
+    for (root = 0; root < n; root++) {
+        size_t u = root, up = 0, at = g->starts[u], end = g->starts[u + 1], lowest;
+        if (visits[root] != 0)
+            continue;
+        parents[root] = 0;
+        visits[root] = (uint16_t)(lowest = ++count);
+        open[top++] = (uint16_t)root;
+        for (;;) {
+            size_t v = 0, seen = 1;
+            while (at < end) {
+                v = g->nbrs[at++];
+                seen = visits[v];
+                if (seen == 0)
+                    break;
+                if (seen < lowest && v + 1 != up)
+                    lowest = seen;
+            }
+            if (seen == 0) {
+                children[u]++;
+                next[u] = (uint16_t)at;
+                low[u] = (uint16_t)lowest;
+                up = u + 1;
+                u = v;
+                parents[u] = (uint16_t)up;
+                at = g->starts[u];
+                end = g->starts[u + 1];
+                visits[u] = (uint16_t)(lowest = ++count);
+                open[top++] = (uint16_t)u;
+            } else {
+                if (lowest == visits[u]) {
+                    do {
+                        v = open[--top];
+                        heads[v] = (uint16_t)(u + 1);
+                    } while (v != u);
+                }
+                if (up == 0)
+                    break;
+                u = up - 1;
+                up = parents[u];
+                at = next[u];
+                end = g->starts[u + 1];
+                if (low[u] < lowest)
+                    lowest = low[u];
+            }
+        }
+    }
+}
+
+uint32_t plain_table(const uint8_t *record, size_t len, uint16_t *work, size_t work_len, uint16_t *visits, size_t visits_len,
+                     uint16_t *parents, size_t parents_len, uint16_t *children, size_t children_len, uint16_t *heads, size_t heads_len)
+{
+    struct graph g;
+    uint32_t why = take_apart(record, len, &g);
+    if (why != 0)
+        return refused(why);
+    if (work_len < 8 * g.n)
+        return refused(SHORT_WORK);
+    if (visits_len != g.n || parents_len != g.n || children_len != g.n || heads_len != g.n)
+        return refused(WRONG_BUFFER);
+    search_table(&g, work, visits, parents, children, heads);
     return 0;
 }
 
