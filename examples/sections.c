@@ -8,25 +8,27 @@
 
 /* Room for the longest record and for a byte more, by which an input that is too long is told. */
 static uint8_t record[CELDUGA_MAX_RECORD_LEN + 1];
-static uint8_t forest[CELDUGA_MAX_INDEX_LEN];
 static uint16_t work[CELDUGA_MAX_WORK_LEN];
-static unsigned head[CELDUGA_MAX_TERMINALS + 1];
+static uint16_t visits[CELDUGA_MAX_TERMINALS], parents[CELDUGA_MAX_TERMINALS];
+static uint16_t children[CELDUGA_MAX_TERMINALS], heads[CELDUGA_MAX_TERMINALS];
 
-/* Prints each section in order of its least terminal, and clears the heads of the terminals that are printed. */
+/* The least terminal of each head, and after each terminal the next one with the same head; 0 for none. */
+static size_t first[CELDUGA_MAX_TERMINALS + 1], next[CELDUGA_MAX_TERMINALS + 1];
+
+/* Prints each section in order of its least terminal. */
 static void print_sections(size_t n)
 {
     size_t sections = 0;
+    for (size_t v = n; v >= 1; v--) {
+        next[v] = first[heads[v - 1]];
+        first[heads[v - 1]] = v;
+    }
     for (size_t v = 1; v <= n; v++) {
-        unsigned h = head[v];
-        if (h == 0)
+        if (first[heads[v - 1]] != v)
             continue;
         printf("section %zu:", ++sections);
-        for (size_t w = v; w <= n; w++) {
-            if (head[w] == h) {
-                printf(" %zu", w);
-                head[w] = 0;
-            }
-        }
+        for (size_t w = v; w != 0; w = next[w])
+            printf(" %zu", w);
         putchar('\n');
     }
 }
@@ -38,18 +40,16 @@ int main(void)
         perror("sections: standard input");
         return 2;
     }
-    unsigned refusal = celduga_refusal(celduga_check(record, len));
-    if (refusal == 0) {
-        /* The index of an accepted record fits its buffer, and on a built one no terminal from 1 to n is refused. */
-        size_t n = celduga_terminals(record);
-        size_t forest_len = celduga_index_len(n, celduga_wires(record));
-        celduga_build(record, len, work, celduga_work_len(n), forest, forest_len);
-        for (size_t v = 1; v <= n; v++)
-            head[v] = celduga_value(celduga_head(record, len, forest, forest_len, v));
+    /* A record that is short or over the limits is refused whatever lengths are lent. */
+    size_t n = celduga_terminals(record);
+    if (n > CELDUGA_MAX_TERMINALS)
+        n = CELDUGA_MAX_TERMINALS;
+    unsigned refusal = celduga_refusal(
+        celduga_table(record, len, work, celduga_work_len(n), visits, n, parents, n, children, n, heads, n));
+    if (refusal == 0)
         print_sections(n);
-    } else {
+    else
         printf("refused %u\n", refusal);
-    }
     if (fflush(stdout) != 0 || ferror(stdout)) {
         perror("sections: standard output");
         return 2;

@@ -2,11 +2,11 @@
  * The C interface of the static library: packed records of graphs, their depth-first search index, and the questions to both.
  *
  * A terminal is a vertex and a wire is an edge. Terminals, visit numbers and children count from 1. n and m are the numbers of
- * terminals and of wires in a record's header.
+ * terminals and of wires in a record's header. docs/FORMAT.md has the format of records and indexes, bit by bit.
  *
  * Results. A uint32_t has the number of the refusal, or 0, in its high half and the value, or 0 where there is none, in its low
  * half: read it with celduga_refusal and celduga_value. A call names the first broken rule, in the order given at its function,
- * and then leaves the buffer for the result unchanged.
+ * and then leaves the buffers for the result unchanged.
  *
  * What a caller lends. A call answers for all numbers and for all contents of its slices, also for damaged records and for
  * indexes that nobody built. It asks that
@@ -14,8 +14,8 @@
  *   - no pointer is NULL, also where the length is 0 (data() of an empty std::vector may be NULL);
  *   - a pointer to uint16_t is aligned for it;
  *   - a buffer that is written overlaps no other slice of the call (a record and an index that are only read may overlap);
- *   - the stack has room: 288 KiB for celduga_build, 224 KiB for celduga_check, celduga_unpack and celduga_loop_figure, 16 KiB for
- *     others.
+ *   - the stack has room: 328 KiB for celduga_table, 288 KiB for celduga_build, 224 KiB for celduga_check, celduga_unpack and
+ *     celduga_loop_figure, 16 KiB for others.
  *
  * Threads. There is no state, and no pointer is kept after a call. Calls may run at once where none writes what another is lent.
  */
@@ -28,6 +28,15 @@
 #ifdef __cplusplus
 extern "C" {
 #endif
+
+/* The header's version. Each part of it is below 256. */
+#define CELDUGA_VERSION_MAJOR 0
+#define CELDUGA_VERSION_MINOR 2
+#define CELDUGA_VERSION_PATCH 0
+#define CELDUGA_VERSION (CELDUGA_VERSION_MAJOR * 65536 + CELDUGA_VERSION_MINOR * 256 + CELDUGA_VERSION_PATCH)
+
+/* The archive's version, as CELDUGA_VERSION is the header's: a plain number. It refuses nothing. */
+uint32_t celduga_version(void);
 
 /* The limits of n and m, and the greatest lengths: bytes of a record and of an index, numbers of a work slice and of a list. */
 #define CELDUGA_MAX_TERMINALS 4096
@@ -51,7 +60,7 @@ enum celduga_refusal_number {
     CELDUGA_DOUBLED_NEIGHBOUR = 7, /* a neighbour stands twice in a block */
     CELDUGA_ONE_SIDED_WIRE = 8,    /* a wire is listed at one end only */
     CELDUGA_SHORT_WORK = 9,        /* the work slice has fewer numbers than celduga_work_len(n) */
-    CELDUGA_WRONG_BUFFER = 10,     /* the index or the list has another length than n and m give */
+    CELDUGA_WRONG_BUFFER = 10,     /* the index or a list has another length than n and m give */
     CELDUGA_NO_TERMINAL = 11,      /* the terminal, or the visit number, is 0 or above n */
     CELDUGA_BAD_INDEX = 12,        /* the index shows what no forest does */
     CELDUGA_NO_CHILD = 13          /* j is 0 or above the number of children */
@@ -78,6 +87,28 @@ static inline int16_t celduga_figure(uint32_t result)
     return (int16_t)(value < 0x8000 ? value : value - 0x10000);
 }
 
+/* A refusal in words, for a message; 0 gives "nothing is refused". */
+static inline const char *celduga_refusal_text(unsigned refusal)
+{
+    switch (refusal) {
+    case 0: return "nothing is refused";
+    case CELDUGA_TOO_SHORT: return "the record has under 4 bytes";
+    case CELDUGA_OVER_LIMIT: return "the record has too many terminals or wires";
+    case CELDUGA_WRONG_LENGTH: return "the record has another length than its header gives";
+    case CELDUGA_BAD_UNARY: return "the degrees in unary do not fit the number of terminals";
+    case CELDUGA_SPARE_SET: return "a spare bit of the record is set";
+    case CELDUGA_STRAY_NEIGHBOUR: return "a neighbour is no terminal, or the terminal itself";
+    case CELDUGA_DOUBLED_NEIGHBOUR: return "a neighbour stands twice in a block";
+    case CELDUGA_ONE_SIDED_WIRE: return "a wire is listed at one end only";
+    case CELDUGA_SHORT_WORK: return "the work slice is too short";
+    case CELDUGA_WRONG_BUFFER: return "the index or the list has another length than the record gives";
+    case CELDUGA_NO_TERMINAL: return "there is no such terminal or visit number";
+    case CELDUGA_BAD_INDEX: return "the index shows what no forest does";
+    case CELDUGA_NO_CHILD: return "there is no such child";
+    default: return "no refusal has this number";
+    }
+}
+
 /* Sizes */
 
 /* n and m, from the 4 bytes of the header; they may be over their limits. */
@@ -102,7 +133,7 @@ static inline size_t celduga_index_len(size_t n, size_t m)
     return 3 * ((n + 2 * m + 7) / 8) + (12 * n + 7) / 8;
 }
 
-/* The numbers that the work slice of celduga_build must have at least, and those of the list of celduga_unpack. */
+/* The numbers that the work slice of celduga_build and celduga_table must have at least, and those of the list of celduga_unpack. */
 static inline size_t celduga_work_len(size_t n)
 {
     return 8 * n;
@@ -124,6 +155,22 @@ uint32_t celduga_degree(const uint8_t *record, size_t record_len, size_t v);
 /* Writes the neighbours of all terminals to the list, block after block. No value. Refuses 1 to 8, 10. */
 uint32_t celduga_unpack(const uint8_t *record, size_t record_len, uint16_t *list, size_t list_len);
 
+/*
+ * Where terminal v's neighbours stand in a list of list_len numbers that celduga_unpack filled: the high 32 bits say how many
+ * numbers stand before its part, the low 32 bits how many numbers the part has. 0 where celduga_degree refuses (1 to 4, 11) or the
+ * list is not 2m numbers long.
+ */
+uint64_t celduga_neighbours(const uint8_t *record, size_t record_len, size_t list_len, size_t v);
+
+/* The pointer to that part, and its length in *count; the list itself and 0 where celduga_neighbours gives 0. */
+static inline const uint16_t *celduga_neighbours_of(const uint8_t *record, size_t record_len, const uint16_t *list, size_t list_len,
+                                                    size_t v, size_t *count)
+{
+    uint64_t part = celduga_neighbours(record, record_len, list_len, v);
+    *count = (size_t)(part & 0xFFFFFFFFu);
+    return list + (size_t)(part >> 32);
+}
+
 /* m - n + 1, to be read with celduga_figure. Refuses 1 to 8. */
 uint32_t celduga_loop_figure(const uint8_t *record, size_t record_len);
 
@@ -132,6 +179,16 @@ uint32_t celduga_loop_figure(const uint8_t *record, size_t record_len);
  * No value. Refuses 1 to 8, 9, 10.
  */
 uint32_t celduga_build(const uint8_t *record, size_t record_len, uint16_t *work, size_t work_len, uint8_t *index, size_t index_len);
+
+/*
+ * Writes what celduga_visit, celduga_parent, celduga_children and celduga_head answer for every terminal on the index that
+ * celduga_build writes; element v - 1 of each list is terminal v's. No index is lent, and all together take time linear in the
+ * record's bits. The work slice may hold anything before and after the call, refused or not.
+ * No value. Refuses 1 to 8, 9, 10 where one of the four lists is not n numbers long.
+ */
+uint32_t celduga_table(const uint8_t *record, size_t record_len, uint16_t *work, size_t work_len, uint16_t *visits, size_t visits_len,
+                       uint16_t *parents, size_t parents_len, uint16_t *children, size_t children_len, uint16_t *heads,
+                       size_t heads_len);
 
 /* Queries. They take any index of the right length. On the one that celduga_build wrote for the record none refuses with 12. */
 

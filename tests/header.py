@@ -7,19 +7,28 @@ import ctypes
 import faulthandler
 import mmap
 import os
+import re
 import subprocess
 from pathlib import Path
 
 import plain
 from families import shown
 
-ARCHIVE = Path(os.environ.get("CELDUGA_ARCHIVE") or Path(__file__).parent.parent / "target/staticlib/libcelduga.a")
+ROOT = Path(__file__).parent.parent
+ARCHIVE = Path(os.environ.get("CELDUGA_ARCHIVE") or ROOT / "target/staticlib/libcelduga.a")
+HEADER = ROOT / "include/celduga.h"
 GUARD = bytes(range(0xC0, 0x100))
+
+# The four lists of the table, and of every slice the bytes of one number
+LISTS = ["visits", "parents", "children", "heads"]
+WIDTHS = {"record": 1, "index": 1, "work": 2, "list": 2, **dict.fromkeys(LISTS, 2)}
 
 # What each returns, the slices that it takes, and how many numbers after them
 FUNCTIONS = {
+    "version": (ctypes.c_uint32, [], 0),
     "check": (ctypes.c_uint32, ["record"], 0),
     "build": (ctypes.c_uint32, ["record", "work", "index"], 0),
+    "table": (ctypes.c_uint32, ["record", "work", *LISTS], 0),
     "parent": (ctypes.c_uint32, ["record", "index"], 1),
     "head": (ctypes.c_uint32, ["record", "index"], 1),
     "ancestor": (ctypes.c_uint32, ["record", "index"], 2),
@@ -29,6 +38,7 @@ FUNCTIONS = {
     "visited": (ctypes.c_uint32, ["record", "index"], 1),
     "degree": (ctypes.c_uint32, ["record"], 1),
     "unpack": (ctypes.c_uint32, ["record", "list"], 0),
+    "neighbours": (ctypes.c_uint64, ["record"], 2),
     "loop_figure": (ctypes.c_uint32, ["record"], 0),
     "rank": (ctypes.c_size_t, ["record"], 3),
     "select": (ctypes.c_size_t, ["record"], 3),
@@ -50,6 +60,12 @@ def exported(library):
     return {line.split()[-1].removeprefix("celduga_") for line in listed.splitlines() if "celduga_" in line}
 
 
+def header_version():
+    """The header's version: the numbers of its macros."""
+    found = dict(re.findall(r"^#define CELDUGA_VERSION_(MAJOR|MINOR|PATCH) (\d+)$", HEADER.read_text(), re.MULTILINE))
+    return tuple(int(found[part]) for part in ("MAJOR", "MINOR", "PATCH"))
+
+
 # The functions and the memory of this process
 calls, lent = {}, {}
 
@@ -62,7 +78,7 @@ def load(library):
         calls[name] = opened[f"celduga_{name}"]
         calls[name].restype = kind
         calls[name].argtypes = [ctypes.c_void_p, ctypes.c_size_t] * len(slices) + [ctypes.c_size_t] * numbers
-    for name, width in (("record", 1), ("work", 2), ("index", 1), ("list", 2)):
+    for name, width in WIDTHS.items():
         lent[name] = Lent(width)
 
 
@@ -130,15 +146,24 @@ class Compared:
         found = self.call(name, *self.both, *numbers)
         self.settle(found == expected, name, *numbers, "gives", hex(found), "for", hex(expected))
 
+    def part(self, room, v):
+        """Where terminal v's part of a list of so many numbers stands."""
+        before, count = plain.part(self.data, room, v)
+        found, expected = self.call("neighbours", *self.record, room, v), before << 32 | count
+        self.settle(found == expected, "neighbours", room, v, "gives", hex(found), "for", hex(expected))
+
     def write(self, name, outcome, *held):
-        """An operation that writes: what plain.py says, and what the lent slices hold before, the last being the result's buffer."""
+        """An operation that writes: the refusal and what is written to each buffer of the result, as plain.py says, and what the lent slices
+        hold before, those buffers last."""
         refusal, written = outcome
         memories = [lent[taken] for taken in FUNCTIONS[name][1][1:]]
         slices = [part for memory, data in zip(memories, held) for part in memory.hold(data)]
         found, expected = self.call(name, *self.record, *slices), returned(refusal, None)
         lengths = "with " + " and ".join(str(len(data)) for data in held) + " bytes"
         self.settle(found == expected, name, lengths, "gives", hex(found), "for", hex(expected))
-        self.settle(memories[-1].holds(held[-1] if refusal else written), name, lengths, "leaves other bytes in the buffer")
+        buffers = [taken for taken in FUNCTIONS[name][1][1:] if taken != "work"]
+        for taken, left in zip(buffers, held[-len(buffers) :] if refusal else written, strict=True):
+            self.settle(lent[taken].holds(left), name, lengths, f"leaves other bytes in the {taken}")
         self.settle(all(memory.guarded() for memory in memories), name, lengths, "writes outside a slice")
 
     def rank_and_select(self, start, places, numbers):

@@ -12,10 +12,10 @@ from random import Random
 
 import shapes
 from families import fail, tally
-from header import ARCHIVE, FUNCTIONS, Compared, exported, load, shared
+from header import ARCHIVE, FUNCTIONS, LISTS, Compared, exported, header_version, load, shared
 from packing import WIRE, bits_of, index_layout, index_length, layout, packed, record
-from plain import MOST_TERMINALS, MOST_WIRES, answer, blocks_of, build, built, check, children, head, joined, order_r, sizes, unpack, wires
-from plain import without
+from plain import MOST_TERMINALS, MOST_WIRES, answer, blocks_of, build, built, check, children, columns, head, joined, order_r, sizes, table
+from plain import unpack, wires, without
 
 LARGE = [65536, 65537, 2**32 + 1, 2**63, 2**64 - 1]
 
@@ -37,6 +37,11 @@ def asked_sizes(data):
     return min(n, MOST_TERMINALS), min(m, MOST_WIRES)
 
 
+def cells(numbers):
+    """The bytes of these numbers of 16 bits each."""
+    return array("H", numbers).tobytes()
+
+
 # A record
 
 def alone(data):
@@ -45,11 +50,14 @@ def alone(data):
     n, m = asked_sizes(data)
     compared.ask("check")
     compared.ask("loop_figure")
+    other = [0, 1, 2 * m + 1, abs(2 * m - 1), 2 * m + 65536, 2 * m + 2**32, 2**63, 2**64 - 1]
     for v in terminals(rng, n, 40) + LARGE:
         compared.ask("degree", v)
+        compared.part(2 * m, v)
+        compared.part(rng.choice(other), v)
     for room in sorted({0, m, 2 * m, 2 * m + 1, 2 * m + 2, abs(2 * m - 1)}):
         refusal, numbers = answer(unpack, data, room)
-        compared.write("unpack", (refusal, array("H", numbers or []).tobytes()), junk(rng, 2 * room))
+        compared.write("unpack", (refusal, [cells(numbers or [])]), junk(rng, 2 * room))
     return compared.result()
 
 
@@ -57,12 +65,32 @@ def building(data):
     """Build, with a work slice and a buffer of the right lengths and of others."""
     rng, compared = Random(data), Compared(data)
     n, m = asked_sizes(data)
-    cells, length = 8 * n, index_length(n, m)
-    short = abs(cells - 1)
-    fitting = product((cells, cells + rng.randint(1, 99), short, 0), [length])
-    other = product((cells, short), (length + 1, abs(length - 1), 0))
+    least, length = 8 * n, index_length(n, m)
+    short = abs(least - 1)
+    fitting = product((least, least + rng.randint(1, 99), short, 0), [length])
+    other = product((least, short), (length + 1, abs(length - 1), 0))
     for work, room in [*fitting, *other]:
-        compared.write("build", answer(build, data, work, room), junk(rng, 2 * work), junk(rng, room))
+        refusal, index = answer(build, data, work, room)
+        compared.write("build", (refusal, [index]), junk(rng, 2 * work), junk(rng, room))
+    return compared.result()
+
+
+def tabling(data):
+    """The table, with a work slice and lists of the right lengths, and with each of the lists one shorter or longer."""
+    rng, compared = Random(data), Compared(data)
+    n, _ = asked_sizes(data)
+    least = 8 * n
+    short, fitting = abs(least - 1), [n] * len(LISTS)
+    other = [[*fitting[:i], length, *fitting[i + 1 :]] for i in range(len(LISTS)) for length in (abs(n - 1), n + 1)]
+    trials = [(work, fitting) for work in (least, least + rng.randint(1, 99), short, 0)]
+    trials += [(least, rooms) for rooms in other] + [(short, rng.choice(other)), (least, [n + 1] * len(LISTS)), (least, [0] * len(LISTS))]
+    for work, rooms in trials:
+        refusal, filled = answer(table, data, work, *rooms)
+        held = [junk(rng, 2 * room) for room in rooms]
+        compared.write("table", (refusal, [cells(column) for column in filled or []]), junk(rng, 2 * work), *held)
+    if n <= 40 and not answer(check, data)[0]:
+        climbed = [head(data, built(data), v) for v in range(1, n + 1)]
+        compared.settle(columns(data)[3] == climbed, "plain.py's table has other heads than its climbs")
     return compared.result()
 
 
@@ -98,7 +126,7 @@ def largest(data):
     """Every operation on a record of the largest size, and the queries on its index."""
     refusal, _ = answer(check, data)
     queries = [] if refusal else [asking((data, built(data)), most=8)]
-    return summed([alone(data), building(data)] + queries)
+    return summed([alone(data), building(data), tabling(data)] + queries)
 
 
 def sections(data):
@@ -172,7 +200,7 @@ def stated(case):
     compared, terminals = Compared(data, index), range(1, len(heads) + 1)
     compared.settle(answer(build, data, 8 * len(heads), len(index)) == (0, index), "plain.py builds another index")
     compared.settle([head(data, index, v) for v in terminals] == heads, "plain.py finds other heads")
-    compared.write("build", (0, index), bytes(16 * len(heads)), bytes(len(index)))
+    compared.write("build", (0, [index]), bytes(16 * len(heads)), bytes(len(index)))
     found = [compared.call("head", *compared.both, v) for v in terminals]
     compared.settle(found == heads, "heads", found)
     return compared.result()
@@ -183,6 +211,13 @@ def stated_refusal(case):
     compared = Compared(data)
     compared.settle(answer(check, data) == (number, None), "plain.py refuses otherwise")
     compared.ask("check")
+    return compared.result()
+
+
+def version(numbers):
+    compared = Compared(b"")
+    found, expected = compared.call("version"), int.from_bytes(bytes(numbers), "big")
+    compared.settle(found == expected, "version gives", hex(found), "for", hex(expected))
     return compared.result()
 
 
@@ -259,11 +294,13 @@ def families():
     return {
         "document 01's records": (stated, STATED),
         "document 01's refusals": (stated_refusal, STATED_REFUSALS),
+        "the header's version": (version, [header_version()]),
         "largest": (largest, large),
         "largest damaged": (largest, large_damaged),
         "largest, indexes that nobody built": (on_unbuilt, large_damaged[3:6]),
         "without an index": (alone, every + small + medium + damaged),
         "Build": (building, every + small + medium + damaged),
+        "table": (tabling, every[::4] + small[::2] + medium[::4] + damaged[::2]),
         "built indexes": (as_built, every[::8] + small[::3] + medium[::4]),
         "altered indexes": (on_altered, some(rng, small, 14, 150)),
         "indexes of other records": (on_foreign, [twins(rng) for _ in range(150)]),

@@ -10,6 +10,7 @@ static const uint8_t sample[] = {0x00, 0x30, 0x00, 0x59, 0x22, 0xA0, 0x02, 0x00,
 static uint16_t work[8 * N];
 static uint16_t list[2 * M];
 static uint8_t forest[15];
+static uint16_t visits[N], parents[N], children[N], heads[N];
 
 static void sizes(size_t n, size_t m)
 {
@@ -27,12 +28,33 @@ static void told(const char *call, uint32_t result)
     printf("%s: %u %u\n", call, celduga_refusal(result), celduga_value(result));
 }
 
+static void numbers(const char *name, const uint16_t *from, size_t count)
+{
+    printf("%s:", name);
+    for (size_t i = 0; i < count; i++)
+        printf(" %u", (unsigned)from[i]);
+    putchar('\n');
+}
+
+/* Where the part of terminal v stands in a list of so many numbers, and its numbers. */
+static void part(size_t list_len, size_t v)
+{
+    size_t count = 99;
+    uint64_t place = celduga_neighbours(sample, sizeof sample, list_len, v);
+    const uint16_t *from = celduga_neighbours_of(sample, sizeof sample, list, list_len, v, &count);
+    printf("part %zu of %zu: %lu %lu at %ld\n", v, list_len, (unsigned long)(place >> 32), (unsigned long)(place & 0xFFFFFFFFu),
+           (long)(from - list));
+    numbers("neighbours", from, count);
+}
+
 int main(void)
 {
     static const uint8_t highest[] = {0xFF, 0xFF, 0xFF, 0xFF}, mixed[] = {0xA5, 0x1C, 0x5A, 0xC3};
     const uint8_t *r = sample, *x = forest;
     const size_t rl = sizeof sample, xl = sizeof forest;
 
+    printf("version: %d %d %d, %lu, %lu\n", CELDUGA_VERSION_MAJOR, CELDUGA_VERSION_MINOR, CELDUGA_VERSION_PATCH,
+           (unsigned long)CELDUGA_VERSION, (unsigned long)celduga_version());
     printf("largest: %d %d %d %d %d %d\n", CELDUGA_MAX_TERMINALS, CELDUGA_MAX_WIRES, CELDUGA_MAX_RECORD_LEN, CELDUGA_MAX_INDEX_LEN,
            CELDUGA_MAX_WORK_LEN, CELDUGA_MAX_LIST_LEN);
     sizes(0, 0);
@@ -47,17 +69,31 @@ int main(void)
     header(highest);
     printf("figures: %d %d %d %d %d\n", celduga_figure(0), celduga_figure(0x4001), celduga_figure(0x7FFF), celduga_figure(0x8000),
            celduga_figure(0xF001));
+    for (unsigned refusal = 0; refusal <= 15; refusal++)
+        printf("refusal %u: %s\n", refusal, celduga_refusal_text(refusal));
+    printf("refusal %u: %s\n", 0xFFFFFFFFu, celduga_refusal_text(0xFFFFFFFFu));
 
     told("check", celduga_check(r, rl));
     told("check short", celduga_check(r, 3));
     told("figure", celduga_loop_figure(r, rl));
     told("unpack", celduga_unpack(r, rl, list, 2 * M));
-    for (size_t i = 0; i < 2 * M; i++)
-        printf("%s%u", i == 0 ? "list: " : " ", (unsigned)list[i]);
-    told("\nbuild", celduga_build(r, rl, work, 8 * N, forest, xl));
+    numbers("list", list, 2 * M);
+    for (size_t v = 0; v <= N + 1; v++)
+        part(2 * M, v);
+    part(2 * M - 1, 3);
+    part(2 * M + 1, 3);
+    told("build", celduga_build(r, rl, work, 8 * N, forest, xl));
     for (size_t i = 0; i < xl; i++)
         printf("%s%02X", i == 0 ? "index: " : " ", (unsigned)forest[i]);
     putchar('\n');
+    told("table of 5", celduga_table(r, rl, work, 8 * N, visits, N, parents, N, children, N, heads, N - 1));
+    told("table in 47", celduga_table(r, rl, work, 8 * N - 1, visits, N, parents, N, children, N, heads, N));
+    numbers("heads", heads, N);
+    told("table", celduga_table(r, rl, work, 8 * N, visits, N, parents, N, children, N, heads, N));
+    numbers("visits", visits, N);
+    numbers("parents", parents, N);
+    numbers("children", children, N);
+    numbers("heads", heads, N);
     for (size_t v = 1; v <= N + 1; v++) {
         told("degree", celduga_degree(r, rl, v));
         told("visit", celduga_visit(r, rl, x, xl, v));

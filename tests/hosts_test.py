@@ -1,54 +1,23 @@
 """Compiles and runs what C, C++ and Rust programs are given: the header, the example and the Rust package.
 
 The sections that the example must print are found by a plain search: terminals that are joined in the record, and in it without each one of
-its wires. The archive is the file that CELDUGA_ARCHIVE names, or the one that `rt staticlib celduga` makes.
+its wires.
 """
 import os
 import random
 import re
 import subprocess
 import sys
-import tempfile
-from pathlib import Path
 
 from forest_vectors_test import shapes
+from header import header_version
 from packing import SAMPLE, flipped, layout, record
 from plain import answer, check
+from programs import C, CPP, HEADER, ROOT, archive, cargo, demand, linked, run, rust_program, tally
 from shapes import FIXED
 
-ROOT = Path(__file__).resolve().parent.parent
-ARCHIVE = Path(os.environ.get("CELDUGA_ARCHIVE") or ROOT / "target/staticlib/libcelduga.a").resolve()
 EXAMPLE = ROOT / "examples/sections.c"
 CALLS = ROOT / "tests/hosts_calls.c"
-STRICT = ["-Wall", "-Wextra", "-pedantic", "-Werror", "-O1", f"-I{ROOT / 'include'}"]
-C = [os.environ.get("CC", "cc"), "-std=c99", "-x", "c", *STRICT]
-CPP = [os.environ.get("CXX", "c++"), "-std=c++11", "-x", "c++", *STRICT]
-
-
-class Wrong(Exception):
-    """What a test found."""
-
-
-def demand(holds, words):
-    if not holds:
-        raise Wrong(words)
-
-
-def run(command, **given):
-    """What the command prints; wrong where it fails."""
-    done = subprocess.run(command, stdout=subprocess.PIPE, stderr=subprocess.STDOUT, text=True, **given)
-    demand(done.returncode == 0, f"{' '.join(map(str, command))} ends with status {done.returncode}\n{done.stdout}")
-    return done.stdout
-
-
-def archive():
-    demand(ARCHIVE.is_file(), f"there is no archive {ARCHIVE}: `rt staticlib celduga` makes it, or CELDUGA_ARCHIVE names another")
-    return ARCHIVE
-
-
-def linked(compiler, source, program):
-    run([*compiler, source, "-x", "none", archive(), "-o", program])
-    return program
 
 
 # The header
@@ -58,6 +27,42 @@ def header_alone(compiler, room):
     source = room / "alone"
     source.write_text('#include "celduga.h"\n#include "celduga.h"\nint main(void) { return 0; }\n')
     run([*compiler, "-fsyntax-only", source])
+
+
+def functions():
+    """The names of the functions that the header declares, and of those that it defines."""
+    text = run([*C, "-E", "-P", HEADER])
+    while re.search(r"\{[^{}]*\}", text):
+        text = re.sub(r"\{[^{}]*\}", ";", text)
+    found = [(re.search(r"\b(celduga_\w+)\s*\(", part), part) for part in text.split(";")]
+    named = {(name[1], bool(re.match(r"\s*static inline\b", part))) for name, part in found if name}
+    return {name for name, inline in named if not inline}, {name for name, inline in named if inline}
+
+
+def header_exports():
+    """The header declares just the functions that the archive has."""
+    listed = run(["nm", "-g", "--defined-only", archive()])
+    exported = {line.split()[2] for line in listed.splitlines() if len(line.split()) == 3}
+    declared, _ = functions()
+    demand(exported, f"nm lists nothing that is defined:\n{listed}")
+    demand(declared == exported, f"declared alone: {sorted(declared - exported)}, exported alone: {sorted(exported - declared)}")
+
+
+def header_is_called():
+    """Every function is called in tests/hosts_calls.c."""
+    text = CALLS.read_text()
+    uncalled = [name for names in functions() for name in sorted(names) if not re.search(rf"\b{name}\(", text)]
+    demand(not uncalled, f"{CALLS.name} does not call {uncalled}")
+
+
+def header_inline(compiler, room):
+    """The code of each function that the header defines is made, and linked."""
+    _, inline = functions()
+    demand(inline and len(inline) == HEADER.read_text().count("static inline"), f"some are not found: {sorted(inline)}")
+    source, pointer = room / "inline", "void (*)(void)"
+    kept = ", ".join(f"({pointer})&{name}" for name in sorted(inline))
+    source.write_text(f'#include "celduga.h"\nvoid (*volatile kept[])(void) = {{{kept}}};\nint main(void) {{ return kept[0] == 0; }}\n')
+    run([linked(compiler, source, room / "inline.run")])
 
 
 def lengths(n, m):
@@ -73,6 +78,9 @@ def header_sizes(data):
 def calls():
     """What the program of tests/hosts_calls.c must print; the answers on the sample are those of document 01."""
     spaced = lambda numbers: " ".join(map(str, numbers))
+    version = header_version()
+    whole = int.from_bytes(bytes(version), "big")
+    yield f"version: {spaced(version)}, {whole}, {whole}"
     yield f"largest: 4096 16384 {spaced(lengths(4096, 16384))}"
     for n, m in (0, 0), (1, 0), (2, 1), (6, 5), (7, 9), (4096, 16384), (8191, 32767):
         yield f"lengths {n} {m}: {spaced(lengths(n, m))}"
@@ -82,8 +90,15 @@ def calls():
     yield from ("check: 0 0", "check short: 1 0", "figure: 0 0")
     yield "unpack: 0 0"
     yield f"list: {spaced(w for block in SAMPLE for w in block)}"
+    parts = [("0 2 at 0", [3, 2]), ("2 2 at 2", [1, 3]), ("4 3 at 4", [2, 4, 1]), ("7 1 at 7", [3]), ("8 1 at 8", [6]), ("9 1 at 9", [5])]
+    for v, (place, block) in enumerate([("0 0 at 0", []), *parts, ("0 0 at 0", [])]):
+        yield from (f"part {v} of 10: {place}", f"neighbours:{''.join(f' {w}' for w in block)}")
+    for room in 9, 11:
+        yield from (f"part 3 of {room}: 0 0 at 0", "neighbours:")
     yield "build: 0 0"
     yield "index: 41 84 04 51 00 95 00 00 02 00 10 03 00 40 05"
+    yield from ("table of 5: 10 0", "table in 47: 9 0", "heads: 0 0 0 0 0 0", "table: 0 0")
+    yield from ("visits: 1 3 2 4 5 6", "parents: 0 3 1 3 0 5", "children: 1 0 2 0 1 0", "heads: 1 1 1 4 5 6")
     rows = [(1, 1, 1, 0, 1, 1), (2, 3, 3, 3, 0, 1), (3, 2, 2, 1, 2, 1), (4, 4, 4, 3, 0, 4), (5, 5, 5, 0, 1, 5), (6, 6, 6, 5, 0, 6)]
     for v, *answers in rows:
         for call, answer in zip(("degree", "visit", "visited", "parent", "children", "head"), (len(SAMPLE[v - 1]), *answers)):
@@ -95,11 +110,57 @@ def calls():
     yield from ("rank: 3", "select: 11")
 
 
-def header_calls(compiler, room):
-    found = run([linked(compiler, CALLS, room / "calls")]).splitlines()
-    expected = list(calls())
+def called(compiler, room):
+    """The lines that the program prints, those with the refusals in words by themselves."""
+    lines = run([linked(compiler, CALLS, room / "calls")]).splitlines()
+    words = [line for line in lines if line.startswith("refusal ")]
+    return [line for line in lines if line not in words], words
+
+
+def same_lines(found, expected):
     for i in range(max(len(found), len(expected))):
         demand(found[i : i + 1] == expected[i : i + 1], f"line {i + 1}: expected {expected[i : i + 1]}, printed {found[i : i + 1]}")
+
+
+def header_calls(compiler, room):
+    same_lines(called(compiler, room)[0], list(calls()))
+
+
+RUST_WORDS = """
+fn main() {
+    for number in 0..=15 {
+        match celduga::Refusal::from_number(number) {
+            Some(refusal) => println!("{refusal}"),
+            None => println!(),
+        }
+    }
+}
+"""
+
+
+def refusals_in_words(room):
+    """The header's words for a refusal are those of the Rust package, 1 to 13, and it has others for 0 and for all above."""
+    rust = rust_program(room, "words", RUST_WORDS).splitlines()
+    demand(len(rust) == 16 and len(set(rust[1:14])) == 13 and all(rust[1:14]), f"the Rust package has other refusals than 1 to 13: {rust}")
+    demand(not rust[0] and not any(rust[14:]), f"the Rust package has more refusals than 1 to 13: {rust}")
+    none = "no refusal has this number"
+    expected = [f"refusal {number}: {words}" for number, words in enumerate(["nothing is refused", *rust[1:14], none, none])]
+    for compiler in C, CPP:
+        same_lines(called(compiler, room)[1], [*expected, f"refusal {2**32 - 1}: {none}"])
+
+
+def same_version(room):
+    """The version is one in the header, in the archive, in the Rust package and at the head of the list of changes."""
+    sources = {
+        "rust/Cargo.toml": r'^\[package\]\n(?:[^\[].*\n)*?version = "(.*)"$',
+        "rust/Cargo.lock": r'^name = "celduga"\nversion = "(.*)"$',
+        "CHANGELOG.md": r"\A(?:(?!## ).*\n)*## \[?([^\s\]]*)",
+    }
+    found = {name: re.findall(pattern, (ROOT / name).read_text(), re.MULTILINE) for name, pattern in sources.items()}
+    found["include/celduga.h"] = [".".join(map(str, header_version()))]
+    printed = re.fullmatch(r"version: .*, .*, (\d+)", called(C, room)[0][0])
+    found["celduga_version()"] = [".".join(map(str, int(printed[1]).to_bytes(3, "big")))]
+    demand(all(len(versions) == 1 for versions in found.values()) and len({versions[0] for versions in found.values()}) == 1, str(found))
 
 
 # The example
@@ -191,6 +252,20 @@ def example_refuses(program):
         example_runs(program, data, f"refused {refusal}\n", 1)
 
 
+def example_says_errors(program):
+    """What can't be read or written is said on standard error, with exit status 2."""
+    folder = os.open("/", os.O_RDONLY)
+    done = subprocess.run([program], stdin=folder, capture_output=True)
+    os.close(folder)
+    demand((done.returncode, done.stdout) == (2, b""), f"reading a folder ends with {done.returncode}, and prints {done.stdout}")
+    demand(done.stderr == b"sections: standard input: Is a directory\n", f"reading a folder says {done.stderr}")
+    for data in record(SAMPLE), b"":
+        with open("/dev/full", "wb") as full:
+            done = subprocess.run([program], input=data, stdout=full, stderr=subprocess.PIPE)
+        demand(done.returncode == 2, f"writing to a full device ends with {done.returncode}")
+        demand(done.stderr == b"sections: standard output: No space left on device\n", f"writing to a full device says {done.stderr}")
+
+
 def example(test, room):
     test(linked(C, EXAMPLE, room / "sections"))
 
@@ -203,8 +278,7 @@ def example_is_short():
 # The Rust package
 
 def rust_package(room):
-    env = dict(os.environ, CELDUGA_ARCHIVE=str(archive()), CARGO_TARGET_DIR=str(room / "rust"), CARGO_TERM_COLOR="never")
-    output = run(["cargo", "test", "--offline", "--locked"], cwd=ROOT / "rust", env=env)
+    output = cargo(room, ROOT / "rust", "test", "--locked")
     passed = [int(count) for count in re.findall(r"^test result: ok\. (\d+) passed", output, re.MULTILINE)]
     # the tests in src, each program in tests, and the examples of the pages
     demand(len(passed) >= 3 and all(passed), f"a part of the package has no test that passed: {passed}\n{output}")
@@ -213,27 +287,19 @@ def rust_package(room):
 def tests(room):
     yield "the header as C99", header_alone, C, room
     yield "the header as C++11", header_alone, CPP, room
+    yield "the header declares what the archive has", header_exports,
+    yield "every function of the header is called", header_is_called,
+    yield "the header's inline functions as C99", header_inline, C, room
+    yield "the header's inline functions as C++11", header_inline, CPP, room
     yield "the header's calls from C99", header_calls, C, room
     yield "the header's calls from C++11", header_calls, CPP, room
+    yield "the refusals in words", refusals_in_words, room
+    yield "the version", same_version, room
     yield "the example is short", example_is_short,
-    for test in example_accepts, example_takes_the_largest, example_refuses:
+    for test in example_accepts, example_takes_the_largest, example_refuses, example_says_errors:
         yield test.__name__.replace("_", " "), example, test, room
     yield "the Rust package", rust_package, room
 
 
-def main():
-    passed = failed = 0
-    with tempfile.TemporaryDirectory() as folder:
-        for name, test, *given in tests(Path(folder)):
-            try:
-                test(*given)
-                passed += 1
-            except (Wrong, OSError) as wrong:
-                failed += 1
-                print(f"FAILED: {name}: {wrong}")
-    print(f"{passed} passed, {failed} failed")
-    return 1 if failed else 0
-
-
 if __name__ == "__main__":
-    sys.exit(main())
+    sys.exit(tally(tests))

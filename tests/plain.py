@@ -198,6 +198,7 @@ def answer(operation, *given):
         return refusal.number, None
 
 
+@kept
 def order_r(data):
     refuse(1, len(data) < 4)
     n, m = sizes(data)
@@ -220,6 +221,7 @@ def refuse_11(data, v):
 
 # Operations on a record, and Build
 
+@kept
 def check(data):
     order_r(data)
     n, _ = sizes(data)
@@ -255,12 +257,18 @@ def unpack(data, room):
     return [w for block in blocks_of(data) for w in block]
 
 
-def neighbours(data, unpacked, v):
-    """The part of the list that belongs to v's block; empty where Degree refuses or the list is not 2·m long."""
+def part(data, room, v):
+    """Where v's block stands in an unpacked list of so many numbers: how many are before it, and how many it has. It is the empty part at the
+    front where Degree refuses or the list is not 2·m long."""
     refusal, count = answer(degree, data, v)
-    if refusal or len(unpacked) != 2 * sizes(data)[1]:
-        return []
-    before = sum(len(block) for block in blocks_of(data)[: v - 1])
+    if refusal or room != 2 * sizes(data)[1]:
+        return 0, 0
+    return sum(len(block) for block in blocks_of(data)[: v - 1]), count
+
+
+def neighbours(data, unpacked, v):
+    """The part of the list that belongs to v's block."""
+    before, count = part(data, len(unpacked), v)
     return unpacked[before : before + count]
 
 
@@ -351,6 +359,30 @@ def visited(data, index, i):
     _, _, _, stored = sections_of(data, index)
     refuse(12, i - 1 not in stored)
     return stored.index(i - 1) + 1
+
+
+# Table
+
+@kept
+def columns(data):
+    """What Visit, Parent, Children and Head answer for each terminal of an accepted record on its index."""
+    index = built(data)
+    visits, parents, counts = ([asked(data, index, v) for v in range(1, sizes(data)[0] + 1)] for asked in (visit, parent, children))
+    heads = {}
+    # a parent is visited before its children; where Head doesn't stop, it goes to the parent and stops where it stops from there
+    for _, v in sorted((i, v) for v, i in enumerate(visits, 1)):
+        above, single = step(data, index, v)
+        heads[v] = v if above == 0 or single else heads[above]
+    return visits, parents, counts, [heads[v] for v in sorted(heads)]
+
+
+def table(data, work, *rooms):
+    """The four columns, for the lengths of the work slice and of the four lists."""
+    check(data)
+    n, _ = sizes(data)
+    refuse(9, work < 8 * n)
+    refuse(10, rooms != (n, n, n, n))
+    return columns(data)
 
 
 # Listing
