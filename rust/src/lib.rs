@@ -19,7 +19,7 @@
 //!     0x00, 0x30, 0x00, 0x59, 0x22, 0xA0, 0x02, 0x00, 0x10, 0x00, 0x00, 0x20, 0x01, 0x00, 0x30, 0x00, 0x00, 0x20, 0x05, 0x00, 0x40,
 //! ];
 //! let record = Record::new(&bytes)?;
-//! let sections: Vec<Vec<Vertex>> = record.sections().into_iter().map(|section| section.terminals).collect();
+//! let sections: Vec<Vec<Vertex>> = record.sections().map(|section| section.terminals).collect();
 //! assert_eq!(sections, [vec![Vertex(1), Vertex(2), Vertex(3)], vec![Vertex(4)], vec![Vertex(5)], vec![Vertex(6)]]);
 //!
 //! assert!(record.neighbours(Vertex(3))?.eq([Vertex(2), Vertex(4), Vertex(1)]));
@@ -40,7 +40,7 @@
 //! | [`Table`], [`Row`] | the answers for all terminals at once |
 //! | [`Section`] | terminals that stay joined whichever one wire is taken out |
 //! | [`Vertex`], [`Dfi`] | the number of a terminal, and the number of a visit |
-//! | [`Neighbours`], [`ChildrenOf`], [`PathToRoot`] | iterators over terminals |
+//! | [`Neighbours`], [`ChildrenOf`], [`PathToRoot`], [`Sections`] | iterators over terminals, and over sections |
 //! | [`Sizes`] | the numbers of terminals and wires, and the lengths that follow |
 //! | [`Refusal`] | the error: the first rule that is broken |
 //!
@@ -96,6 +96,6 @@ pub use operations::{
 pub use record::Record;
 pub use refusal::Refusal;
 pub use sizes::Sizes;
-pub use table::{Row, Section, Table};
+pub use table::{Row, Section, Sections, Table};
 pub use version::version;
 pub use walks::{ChildrenOf, PathToRoot};

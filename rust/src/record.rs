@@ -3,7 +3,7 @@
 use alloc::vec;
 use alloc::vec::Vec;
 
-use crate::{operations, Index, Neighbours, Refusal, Section, Sizes, Table, Vertex};
+use crate::{operations, Index, Neighbours, Refusal, Sections, Sizes, Table, Vertex};
 
 /// A record that [`check`](crate::check) accepts, borrowed.
 #[derive(Clone, Copy, Debug, PartialEq, Eq, Hash)]
@@ -136,14 +136,13 @@ impl<'a> Record<'a> {
     ///
     /// // 1: 2 3; 2: 1 3; 3: 1 2 4; 4: 3
     /// let bytes = [0x00, 0x20, 0x00, 0x49, 0x22, 0x00, 0x10, 0x02, 0x00, 0x00, 0x02, 0x00, 0x00, 0x01, 0x00, 0x30, 0x02];
-    /// let sections = Record::new(&bytes)?.sections();
-    /// assert_eq!(sections.len(), 2);
-    /// assert_eq!(sections[0].terminals, [Vertex(1), Vertex(2), Vertex(3)]);
-    /// assert_eq!(sections[1].terminals, [Vertex(4)]);
+    /// let record = Record::new(&bytes)?;
+    /// assert_eq!(record.sections().len(), 2);
+    /// let terminals: Vec<Vec<Vertex>> = record.sections().map(|section| section.terminals).collect();
+    /// assert_eq!(terminals, [vec![Vertex(1), Vertex(2), Vertex(3)], vec![Vertex(4)]]);
     /// # Ok::<(), Refusal>(())
     /// ```
-    #[must_use]
-    pub fn sections(self) -> Vec<Section> {
+    pub fn sections(self) -> Sections {
         self.table().sections()
     }
 }

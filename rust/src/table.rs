@@ -2,6 +2,7 @@
 
 use alloc::vec;
 use alloc::vec::Vec;
+use core::iter::FusedIterator;
 
 use crate::{operations, Dfi, Record, Refusal, Vertex};
 
@@ -56,6 +57,33 @@ pub struct Section {
     /// The terminals, in rising order.
     pub terminals: Vec<Vertex>,
 }
+
+/// The sections of a record, in order of the least terminal of each. [`Record::sections`] and [`Table::sections`] give it.
+#[derive(Clone, Debug)]
+#[must_use = "iterators are lazy and do nothing unless consumed"]
+pub struct Sections(vec::IntoIter<Section>);
+
+impl Iterator for Sections {
+    type Item = Section;
+
+    fn next(&mut self) -> Option<Section> {
+        self.0.next()
+    }
+
+    fn size_hint(&self) -> (usize, Option<usize>) {
+        self.0.size_hint()
+    }
+}
+
+impl DoubleEndedIterator for Sections {
+    fn next_back(&mut self) -> Option<Section> {
+        self.0.next_back()
+    }
+}
+
+impl ExactSizeIterator for Sections {}
+
+impl FusedIterator for Sections {}
 
 impl Table {
     pub(crate) fn of(record: Record<'_>) -> Self {
@@ -170,14 +198,13 @@ impl Table {
     ///
     /// // 1: 3; 2: 3; 3: 1 2
     /// let bytes = [0x00, 0x18, 0x00, 0x2A, 0x80, 0x04, 0x00, 0x40, 0x00, 0x00, 0x20];
-    /// let sections = Record::new(&bytes)?.table().sections();
+    /// let mut sections = Record::new(&bytes)?.table().sections();
     /// // both wires are bridges
     /// assert_eq!(sections.len(), 3);
-    /// assert_eq!(sections[2], Section { head: Vertex(3), terminals: vec![Vertex(3)] });
+    /// assert_eq!(sections.next(), Some(Section { head: Vertex(1), terminals: vec![Vertex(1)] }));
     /// # Ok::<(), Refusal>(())
     /// ```
-    #[must_use]
-    pub fn sections(&self) -> Vec<Section> {
+    pub fn sections(&self) -> Sections {
         let mut sections: Vec<Section> = Vec::new();
         // for each terminal, how many sections stand before the one that it heads
         let mut before = vec![None; self.heads.len()];
@@ -191,6 +218,6 @@ impl Table {
             }
             sections[at].terminals.push(row.terminal);
         }
-        sections
+        Sections(sections.into_iter())
     }
 }

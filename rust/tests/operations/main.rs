@@ -1,7 +1,6 @@
 //! The package: the lines of the sample record, every refusal, and the views.
 
 mod packing;
-mod readme;
 mod refusals;
 mod sample;
 mod views;

@@ -118,7 +118,6 @@ fn sections(blocks: &[Vec<u16>]) -> Vec<(usize, Vec<usize>)> {
     Record::new(&record(blocks))
         .unwrap()
         .sections()
-        .into_iter()
         .map(|section| (section.head.0, section.terminals.iter().map(|v| v.0).collect()))
         .collect()
 }
@@ -167,7 +166,7 @@ fn a_table_outlives_its_record() {
     let table = { Record::new(&record(&SAMPLE_BLOCKS)).unwrap().table() };
     let record = Record::new(&SAMPLE).unwrap();
     assert_eq!(table, record.table());
-    assert_eq!(table.sections(), record.sections());
+    assert!(table.sections().eq(record.sections()));
 }
 
 #[test]
