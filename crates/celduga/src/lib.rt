@@ -121,9 +121,11 @@ pub extern "C" fn celduga_table(
     heads: &mut [u16],
 ) -> u32
     ensures { λ r. ⌜
-        (r ≡ code nothing (table (now (bytes .entry)) (now (work .entry)) (columns (now (visits .entry)) (now (parents .entry)) (now (children .entry)) (now (heads .entry)))))
+        (r ≡ code nothing (table (now (bytes .entry)) (now (work .entry))
+        (columns (now (visits .entry)) (now (parents .entry)) (now (children .entry)) (now (heads .entry)))))
         × (columns (now (visits .exit)) (now (parents .exit)) (now (children .exit)) (now (heads .exit))
-        ≡ tabled (now (bytes .entry)) (now (work .entry)) (columns (now (visits .entry)) (now (parents .entry)) (now (children .entry)) (now (heads .entry))))
+        ≡ tabled (now (bytes .entry)) (now (work .entry))
+        (columns (now (visits .entry)) (now (parents .entry)) (now (children .entry)) (now (heads .entry))))
         ⌝ }
 {
     codes::of_verdict(queries::table(bytes, work, visits, parents, children, heads))

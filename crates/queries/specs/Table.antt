@@ -5,6 +5,7 @@
 --   tableRules   Check's rules, 9, and 10 for the four lists that are lent
 --   table        what the operation answers
 --   tabled       what the four lists hold afterwards
+--   TableDone    both, of a call
 --   Tabled       each cell is what its query answers
 use mathlib.Core.Path.{_≡_}
 use mathlib.Core.Bool.{Bool, _||_}
@@ -64,6 +65,11 @@ table bytes work lent = tried (tableRules bytes work lent) tt
 
 unfoldable pub tabled : List ℕ → List ℕ → Columns → Columns
 tabled bytes work lent = bufferAfter (tableRules bytes work lent) (tableOf bytes) lent
+
+-- a call answers r, and the lists before it become those after it
+pub record TableDone (bytes work : List ℕ) (before after : Columns) (r : Answer (Unit {0})) : Type 0 where
+  pub answers : r ≡ table bytes work before
+  pub leaves : after ≡ tabled bytes work before
 
 -- ---- cell by cell
 

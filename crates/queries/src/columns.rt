@@ -138,8 +138,18 @@ pub fn fill(
     counts: &mut [u16],
     heads: &mut [u16],
 )
-    requires { ⌜ (Ready (now bytes) (now index) n m) × (length (now starts) ≡ n + 1) × (length (now order) ≡ n) × (length (now visits) ≡ n) × (length (now parents) ≡ n) × (length (now counts) ≡ n) × (length (now heads) ≡ n) ⌝ }
-    ensures { λ _. ⌜ columns (now (visits .exit)) (now (parents .exit)) (now (counts .exit)) (now (heads .exit)) ≡ tableOf (now (bytes .entry)) ⌝ }
+    requires { ⌜
+        (Ready (now bytes) (now index) n m)
+        × (length (now starts) ≡ n + 1)
+        × (length (now order) ≡ n)
+        × (length (now visits) ≡ n)
+        × (length (now parents) ≡ n)
+        × (length (now counts) ≡ n)
+        × (length (now heads) ≡ n)
+        ⌝ }
+    ensures { λ _. ⌜
+        columns (now (visits .exit)) (now (parents .exit)) (now (counts .exit)) (now (heads .exit)) ≡ tableOf (now (bytes .entry))
+        ⌝ }
 {
     fill_starts(bytes, n, m, starts);
     fill_visits(bytes, index, n, m, visits);

@@ -4,7 +4,7 @@ ghost use mathlib.Core.Path.{_≡_};
 ghost use Rattle.record.specs.Answers.{counted, verdict};
 ghost use Rattle.queries.specs.Answers.{above, terminal, related, numbered};
 ghost use Rattle.queries.specs.Operations.{parent as parentOf, head as headOf, ancestor as ancestorOf, children as childrenOf, child as childOf, visit as visitOf, visited as visitedOf};
-ghost use Rattle.queries.specs.Table.{columns, table as tableAnswer, tabled};
+ghost use Rattle.queries.specs.Table.{columns, TableDone};
 use forest::Dfi;
 use record::Counted;
 use record::Refusal;
@@ -158,11 +158,10 @@ pub fn table(
     counts: &mut [u16],
     heads: &mut [u16],
 ) -> Verdict
-    ensures { λ r. ⌜
-        (verdict r ≡ tableAnswer (now (bytes .entry)) (now (work .entry)) (columns (now (visits .entry)) (now (parents .entry)) (now (counts .entry)) (now (heads .entry))))
-        × (columns (now (visits .exit)) (now (parents .exit)) (now (counts .exit)) (now (heads .exit))
-        ≡ tabled (now (bytes .entry)) (now (work .entry)) (columns (now (visits .entry)) (now (parents .entry)) (now (counts .entry)) (now (heads .entry))))
-        ⌝ }
+    ensures { λ r. ⌜ TableDone (now (bytes .entry)) (now (work .entry))
+        (columns (now (visits .entry)) (now (parents .entry)) (now (counts .entry)) (now (heads .entry)))
+        (columns (now (visits .exit)) (now (parents .exit)) (now (counts .exit)) (now (heads .exit)))
+        (verdict r) ⌝ }
 {
     match record::header::order_r(bytes) {
         Shape::Refused(r) => Verdict::Refused(r),

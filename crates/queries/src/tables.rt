@@ -5,7 +5,7 @@ ghost use Rattle.record.specs.Answers.{verdict};
 ghost use Rattle.record.specs.Steps.{Sound};
 ghost use Rattle.forest.specs.Index.{indexLength};
 ghost use Rattle.queries.specs.Filling.{Ready};
-ghost use Rattle.queries.specs.Table.{columns, misfits, tableOf, table as tableAnswer, tabled};
+ghost use Rattle.queries.specs.Table.{columns, misfits, tableOf, TableDone};
 use super::columns::fill;
 use forest::lengths::index_length;
 use record::Refusal;
@@ -13,7 +13,9 @@ use record::Verdict;
 
 // Rule 10: one of the lists is not n long.
 fn some_misfit(n: usize, visits: &[u16], parents: &[u16], counts: &[u16], heads: &[u16]) -> bool
-    ensures { λ r. ⌜ r ≡ misfits n (columns (now (visits .entry)) (now (parents .entry)) (now (counts .entry)) (now (heads .entry))) ⌝ }
+    ensures { λ r. ⌜
+        r ≡ misfits n (columns (now (visits .entry)) (now (parents .entry)) (now (counts .entry)) (now (heads .entry)))
+        ⌝ }
 {
     if visits.len() != n {
         return true;
@@ -38,8 +40,16 @@ fn fill_lists(
     counts: &mut [u16],
     heads: &mut [u16],
 )
-    requires { ⌜ (Ready (now bytes) (now index) n m) × (length (now visits) ≡ n) × (length (now parents) ≡ n) × (length (now counts) ≡ n) × (length (now heads) ≡ n) ⌝ }
-    ensures { λ _. ⌜ columns (now (visits .exit)) (now (parents .exit)) (now (counts .exit)) (now (heads .exit)) ≡ tableOf (now (bytes .entry)) ⌝ }
+    requires { ⌜
+        (Ready (now bytes) (now index) n m)
+        × (length (now visits) ≡ n)
+        × (length (now parents) ≡ n)
+        × (length (now counts) ≡ n)
+        × (length (now heads) ≡ n)
+        ⌝ }
+    ensures { λ _. ⌜
+        columns (now (visits .exit)) (now (parents .exit)) (now (counts .exit)) (now (heads .exit)) ≡ tableOf (now (bytes .entry))
+        ⌝ }
 {
     let mut starts = [0u16; 4097];
     let mut order = [0u16; 4096];
@@ -71,11 +81,10 @@ fn table_by(
     heads: &mut [u16],
 ) -> Verdict
     requires { ⌜ (Sound (now bytes) n m) × (length (now index) ≡ indexLength n m) ⌝ }
-    ensures { λ r. ⌜
-        (verdict r ≡ tableAnswer (now (bytes .entry)) (now (work .entry)) (columns (now (visits .entry)) (now (parents .entry)) (now (counts .entry)) (now (heads .entry))))
-        × (columns (now (visits .exit)) (now (parents .exit)) (now (counts .exit)) (now (heads .exit))
-        ≡ tabled (now (bytes .entry)) (now (work .entry)) (columns (now (visits .entry)) (now (parents .entry)) (now (counts .entry)) (now (heads .entry))))
-        ⌝ }
+    ensures { λ r. ⌜ TableDone (now (bytes .entry)) (now (work .entry))
+        (columns (now (visits .entry)) (now (parents .entry)) (now (counts .entry)) (now (heads .entry)))
+        (columns (now (visits .exit)) (now (parents .exit)) (now (counts .exit)) (now (heads .exit)))
+        (verdict r) ⌝ }
 {
     match forest::build(bytes, work, index) {
         Verdict::Refused(r) => Verdict::Refused(r),
@@ -101,11 +110,10 @@ pub fn table_in(
     heads: &mut [u16],
 ) -> Verdict
     requires { ⌜ Sound (now bytes) n m ⌝ }
-    ensures { λ r. ⌜
-        (verdict r ≡ tableAnswer (now (bytes .entry)) (now (work .entry)) (columns (now (visits .entry)) (now (parents .entry)) (now (counts .entry)) (now (heads .entry))))
-        × (columns (now (visits .exit)) (now (parents .exit)) (now (counts .exit)) (now (heads .exit))
-        ≡ tabled (now (bytes .entry)) (now (work .entry)) (columns (now (visits .entry)) (now (parents .entry)) (now (counts .entry)) (now (heads .entry))))
-        ⌝ }
+    ensures { λ r. ⌜ TableDone (now (bytes .entry)) (now (work .entry))
+        (columns (now (visits .entry)) (now (parents .entry)) (now (counts .entry)) (now (heads .entry)))
+        (columns (now (visits .exit)) (now (parents .exit)) (now (counts .exit)) (now (heads .exit)))
+        (verdict r) ⌝ }
 {
     let mut index = [0u8; 19968];
     let size = index_length(n, m);

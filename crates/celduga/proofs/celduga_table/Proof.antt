@@ -29,7 +29,7 @@ same-length-5 c = search needs
 returns : tie.Need-returns
 returns c =
     let table = c .before .before .before .before .before .before .before .before .before .before .before .table in
-    (code-call nothing (table .ensures .0) (c .of-verdict .ensures), table .ensures .1)
+    (code-call nothing (table .ensures .answers) (c .of-verdict .ensures), table .ensures .leaves)
 
 pub celduga-table-spec : {M : Type 1} → statement M
 celduga-table-spec =

@@ -20,7 +20,7 @@ use Rattle.forest.specs.Operations.{buildRules, build, built}
 use Rattle.queries.specs.Written.{Written}
 use Rattle.queries.specs.Demands.{build-writes}
 use Rattle.queries.specs.Filling.{Ready}
-use Rattle.queries.specs.Table.{Columns, columns, misfits, tableOf, tableRules, table, tabled}
+use Rattle.queries.specs.Table.{Columns, columns, misfits, tableOf, tableRules, table, tabled, TableDone}
 
 module _ (bytes work : List ℕ) (lent : Columns) where
   -- Check's rules and 9
@@ -34,17 +34,18 @@ module _ (bytes work : List ℕ) (lent : Columns) where
   unfolding tableRules
   table-split = sym (append-assoc (checkRules bytes) _ _)
 
-  refuses : {k : ℕ} → firstBroken (tableRules bytes work lent) ≡ suc k
-      → (refused (suc k) ≡ table bytes work lent) × (lent ≡ tabled bytes work lent)
+  refuses : {k : ℕ} → firstBroken (tableRules bytes work lent) ≡ suc k → TableDone bytes work lent lent (refused (suc k))
   unfolding table tabled
-  refuses e = (told tt e, buffer-kept (tableRules bytes work lent) (tableOf bytes) lent e)
+  refuses e = record {
+    answers = told tt e;
+    leaves = buffer-kept (tableRules bytes work lent) (tableOf bytes) lent e;
+  }
 
   broken : {k : ℕ} → firstBroken shared ≡ suc k → firstBroken (tableRules bytes work lent) ≡ suc k
   broken {k} e = ap firstBroken table-split ∙ append-broken shared _ k e
 
   -- order R refuses
-  pub table-unread : {k : ℕ} → refused k ≡ tried (orderR bytes) (sizesOf bytes)
-      → (refused k ≡ table bytes work lent) × (lent ≡ tabled bytes work lent)
+  pub table-unread : {k : ℕ} → refused k ≡ tried (orderR bytes) (sizesOf bytes) → TableDone bytes work lent lent (refused k)
   unfolding tableRules checkRules
   table-unread e =
       let (i, f, g) = told-back (firstBroken (orderR bytes)) (sizesOf bytes) e in
@@ -62,8 +63,7 @@ module _ (bytes work : List ℕ) (lent : Columns) where
         ∙ last-kept shared 10 (ap not (eq-eqb (length index) (indexLength (terminals bytes) (wires bytes)) sized))
 
     -- Build refuses
-    pub table-refused : {k : ℕ} → refused k ≡ build bytes work index
-        → (refused k ≡ table bytes work lent) × (lent ≡ tabled bytes work lent)
+    pub table-refused : {k : ℕ} → refused k ≡ build bytes work index → TableDone bytes work lent lent (refused k)
     unfolding build
     table-refused e =
         let (i, f, g) = told-back (firstBroken (buildRules bytes work index)) tt e in
@@ -88,15 +88,18 @@ module _ (bytes work : List ℕ) (lent : Columns) where
         is-m = s .is-m;
       }
 
-      pub table-misfit : misfits n lent ≡ true → (refused 10 ≡ table bytes work lent) × (lent ≡ tabled bytes work lent)
+      pub table-misfit : misfits n lent ≡ true → TableDone bytes work lent lent (refused 10)
       table-misfit m = refuses (last ∙ first-broken 10 [] m)
 
       pub table-done : misfits n lent ≡ false → {next : Columns} → next ≡ tableOf bytes
-          → (answered tt ≡ table bytes work lent) × (next ≡ tabled bytes work lent)
+          → TableDone bytes work lent next (answered tt)
       unfolding table tabled firstBroken
       table-done m is =
           let f : firstBroken (tableRules bytes work lent) ≡ 0 = last ∙ first-kept 10 [] m in
-          (untold tt f, is ∙ buffer-written (tableRules bytes work lent) (tableOf bytes) lent f)
+          record {
+            answers = untold tt f;
+            leaves = is ∙ buffer-written (tableRules bytes work lent) (tableOf bytes) lent f;
+          }
 
 -- ---- rule 10
 
