@@ -4,26 +4,16 @@ page, every call that it gives with an answer, the listing, and at several sizes
 import re
 import sys
 from itertools import product
-from pathlib import Path
 
 import plain
 from packing import SAMPLE, binary, bits_of, index_layout, index_length, layout, record, record_length, unary, whole
-from plain import answer, blocks_of, built, check, refuse, rows, sizes
+from plain import answer, built, check, rows, sizes
+from programs import ROOT, demand
 
-ROOT = Path(__file__).resolve().parent.parent
 PAGE = ROOT / "docs/FORMAT.md"
 REFUSALS = ROOT / "rust/src/refusal.rs"
 SAMPLE_RECORD = record(SAMPLE)
 SAMPLE_INDEX = built(SAMPLE_RECORD)
-
-
-class Wrong(Exception):
-    """What a test found."""
-
-
-def demand(holds, words):
-    if not holds:
-        raise Wrong(words)
 
 
 def same(what, expected, found):
@@ -288,32 +278,14 @@ def refusals(page):
     same("refusals", [[number, f"`{name}`"] for name, number in named], found)
 
 
-def table(data, work, *lengths):
-    """Visit numbers, parents, counts of children and heads, for the lengths of the work slice and of the four lists."""
-    check(data)
-    n, _ = sizes(data)
-    refuse(9, work < 8 * n)
-    refuse(10, lengths != (n, n, n, n))
-    _, *columns = zip(*rows(blocks_of(data)))
-    return columns
-
-
-def neighbours(data, room, v):
-    """How many numbers of a list so long stand before v's part, and how many it has; 0 and 0 for a refusal."""
-    refusal, count = answer(plain.degree, data, v)
-    if refusal or room != 2 * sizes(data)[1]:
-        return 0, 0
-    return sum(len(block) for block in blocks_of(data)[: v - 1]), count
-
-
 CALLS = {
     "Check": check,
     "Degree": plain.degree,
     "Unpack": plain.unpack,
-    "Neighbours": neighbours,
+    "Neighbours": plain.part,
     "Loop figure": plain.loop_figure,
     "Build": plain.build,
-    "Table": table,
+    "Table": plain.table,
     "Parent": plain.parent,
     "Head": plain.head,
     "Ancestor": plain.ancestor,
