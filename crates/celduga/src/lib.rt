@@ -36,7 +36,7 @@ pub extern "C" fn celduga_unpack(bytes: &[u8], list: &mut [u16]) -> u32
     codes::of_verdict(record::unpack(bytes, list))
 }
 
-// Where terminal v's part of an unpacked list of len numbers stands: how many numbers come before it, and how many it has.
+// Where terminal v's part of an unpacked list of len numbers stands: how many come before it, and how many it has.
 #[no_mangle]
 pub extern "C" fn celduga_neighbours(bytes: &[u8], len: usize, v: usize) -> u64
     ensures { λ r. ⌜ TellsPart (now (bytes .entry)) len v r ⌝ }

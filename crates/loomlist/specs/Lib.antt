@@ -1,2 +1,3 @@
 -- What the program's contracts cite.
 pub mod Input
+pub mod Listing

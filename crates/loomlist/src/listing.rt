@@ -2,6 +2,7 @@
 ghost use mathlib.Core.Path.{_≡_};
 ghost use Prim.Native.Nat.{_+_, _*_, _≤_, _<_};
 ghost use lib.ListN.{length};
+ghost use Rattle.loomlist.specs.Listing.{Sized};
 use libc::STDERR_FILENO;
 use libc::STDOUT_FILENO;
 use record::Refusal;
@@ -60,7 +61,15 @@ fn line(
     count: usize,
     head: usize,
 ) -> usize
-    requires { ⌜ (at + 45 ≤ length (now out)) × (at < 800000) × (v < 65536) × (visit < 65536) × (parent < 65536) × (count < 65536) × (head < 65536) ⌝ }
+    requires { ⌜
+        (at + 45 ≤ length (now out))
+        × (at < 800000)
+        × (v < 65536)
+        × (visit < 65536)
+        × (parent < 65536)
+        × (count < 65536)
+        × (head < 65536)
+        ⌝ }
     ensures { λ r. ⌜ r ≤ at + 30 ⌝ }
 {
     let a = number(out, at, v as u64, b' ');
@@ -80,7 +89,11 @@ fn lines(
     out: &mut [u8],
     from: usize,
 ) -> usize
-    requires { ⌜ (n ≤ 4096) × (length (now visits) ≡ n) × (length (now parents) ≡ n) × (length (now counts) ≡ n) × (length (now heads) ≡ n) × (length (now out) ≡ 122944) × (from ≤ 36) ⌝ }
+    requires { ⌜
+        (Sized n (now visits) (now parents) (now counts) (now heads))
+        × (length (now out) ≡ 122944)
+        × (from ≤ 36)
+        ⌝ }
     ensures { λ r. ⌜ r ≤ 122916 ⌝ }
 {
     let mut at = from;
@@ -137,7 +150,7 @@ fn all_lines(
     z: i32,
     out: &mut [u8],
 )
-    requires { ⌜ (n ≤ 4096) × (length (now visits) ≡ n) × (length (now parents) ≡ n) × (length (now counts) ≡ n) × (length (now heads) ≡ n) × (length (now out) ≡ 122944) ⌝ }
+    requires { ⌜ (Sized n (now visits) (now parents) (now counts) (now heads)) × (length (now out) ≡ 122944) ⌝ }
 {
     let first = put(out, 0, b"terminal visit parent children head\n");
     let last = lines(n, visits, parents, counts, heads, out, first);
@@ -147,7 +160,7 @@ fn all_lines(
 
 // The heading, a line for each terminal, and the loop figure.
 pub fn accepted(n: usize, visits: &[u16], parents: &[u16], counts: &[u16], heads: &[u16], z: i32)
-    requires { ⌜ (n ≤ 4096) × (length (now visits) ≡ n) × (length (now parents) ≡ n) × (length (now counts) ≡ n) × (length (now heads) ≡ n) ⌝ }
+    requires { ⌜ Sized n (now visits) (now parents) (now counts) (now heads) ⌝ }
 {
     let mut room = [0u8; 122944];
     all_lines(n, visits, parents, counts, heads, z, &mut room);

@@ -1,8 +1,7 @@
 // The listing of the record on standard input (document 01, `loomlist`): what the search forest says of each terminal, or `refused` and the
 // refusal's number. An error of a read or a write is told on standard error.
-ghost use mathlib.Core.Path.{_≡_};
 ghost use Prim.Native.Nat.{_≤_};
-ghost use lib.ListN.{length};
+ghost use Rattle.loomlist.specs.Listing.{Sized};
 use input::Input;
 use listing::refused;
 use record::Figure;
@@ -22,7 +21,7 @@ fn list(
     counts: &mut [u16],
     heads: &mut [u16],
 )
-    requires { ⌜ (n ≤ 4096) × (length (now visits) ≡ n) × (length (now parents) ≡ n) × (length (now counts) ≡ n) × (length (now heads) ≡ n) ⌝ }
+    requires { ⌜ Sized n (now visits) (now parents) (now counts) (now heads) ⌝ }
 {
     match queries::table(bytes, work, visits, parents, counts, heads) {
         Verdict::Refused(r) => refused(r),

@@ -1,4 +1,4 @@
--- What may be cast to an unsigned number: a signed one of 32 bits from 0 on, and the negation, at 64 bits, of one below 0.
+-- What may be cast to an unsigned number: one of 32 bits from 0 on, and the negation at 64 bits of one below 0.
 use mathlib.Core.Path.{_≡_, sym, subst}
 use mathlib.Core.Bool.{true, false}
 use native.Mathlib.Omega.{arith}

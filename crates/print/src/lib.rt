@@ -1,4 +1,4 @@
-// What the vector programs print: words, numbers, lists of numbers, bytes and digests. It rests on none of the crates that they ask.
+// What programs print: words, numbers, lists, bytes and digests. It rests on none of the crates that they ask.
 ghost use Prim.Native.Nat.{_<_};
 use libc::STDOUT_FILENO;
 

@@ -19,10 +19,15 @@ pub record Cells (at value : ℕ → ℕ) (n k : ℕ) (l : List ℕ) : Type 0 wh
   pub size : length l ≡ n
   pub cells : (i : ℕ) → i < k → getD l (at i) 0 ≡ value i
 
+-- a list with the number `value v` of each of the first k vertices v in order of visits
+abbrev InVisits : List ℕ → (ℕ → ℕ) → ℕ → ℕ → List ℕ → Type 0
+InVisits bytes value n k l =
+    Cells (vertexAt (forest (blocks bytes))) (λ i. value (vertexAt (forest (blocks bytes)) i)) n k l
+
 -- the heads of the first k vertices in order of visits
 pub record HeadsTo (bytes : List ℕ) (n k : ℕ) (heads : List ℕ) : Type 0 where
-  pub hold : Cells (vertexAt (forest (blocks bytes))) (λ i. suc (headIn (blocks bytes) (forest (blocks bytes)) (vertexAt (forest (blocks bytes)) i))) n k heads
+  pub hold : InVisits bytes (λ v. suc (headIn (blocks bytes) (forest (blocks bytes)) v)) n k heads
 
 -- and their parents
 pub record ParentsTo (bytes : List ℕ) (n k : ℕ) (parents : List ℕ) : Type 0 where
-  pub hold : Cells (vertexAt (forest (blocks bytes))) (λ i. parentIn (forest (blocks bytes)) (vertexAt (forest (blocks bytes)) i)) n k parents
+  pub hold : InVisits bytes (parentIn (forest (blocks bytes))) n k parents

@@ -75,6 +75,7 @@ pub record TableDone (bytes work : List ℕ) (before after : Columns) (r : Answe
 
 pub record Tabled (bytes index : List ℕ) (t : Columns) : Type 0 where
   pub visits-are : {v : ℕ} → Terminal bytes v → visit bytes index v ≡ answered (getD (t .visits) (v - 1) 0)
-  pub parents-are : {v : ℕ} → Terminal bytes v → parent bytes index v ≡ answered (unlessZero (getD (t .parents) (v - 1) 0))
+  pub parents-are : {v : ℕ} → Terminal bytes v
+      → parent bytes index v ≡ answered (unlessZero (getD (t .parents) (v - 1) 0))
   pub counts-are : {v : ℕ} → Terminal bytes v → children bytes index v ≡ answered (getD (t .counts) (v - 1) 0)
   pub heads-are : {v : ℕ} → Terminal bytes v → head bytes index v ≡ answered (getD (t .heads) (v - 1) 0)

@@ -148,7 +148,8 @@ pub fn fill(
         × (length (now heads) ≡ n)
         ⌝ }
     ensures { λ _. ⌜
-        columns (now (visits .exit)) (now (parents .exit)) (now (counts .exit)) (now (heads .exit)) ≡ tableOf (now (bytes .entry))
+        columns (now (visits .exit)) (now (parents .exit)) (now (counts .exit)) (now (heads .exit))
+        ≡ tableOf (now (bytes .entry))
         ⌝ }
 {
     fill_starts(bytes, n, m, starts);

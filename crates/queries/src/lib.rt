@@ -1,5 +1,6 @@
-// The queries on a record and its index (document 01, "Operations and their answers"), and their answers for all terminals at once. No
-// operation of this file has a precondition: each answers for every record and index, built or not, and every number.
+// The queries on a record and its index (document 01, "Operations and their answers"), and their answers for all
+// terminals at once. No operation of this file has a precondition: each answers for every record and index, built or
+// not, and every number.
 ghost use mathlib.Core.Path.{_≡_};
 ghost use Rattle.record.specs.Answers.{counted, verdict};
 ghost use Rattle.queries.specs.Answers.{above, terminal, related, numbered};
@@ -148,8 +149,9 @@ pub fn visited(bytes: &[u8], index: &[u8], i: Dfi) -> Found
     }
 }
 
-// Table: what Visit, Parent (0 for a root), Children and Head answer for every terminal on the index that Build writes, cell v - 1 for
-// terminal v. The work slice is Build's, and no index is lent. A refused call leaves the lists as they were.
+// Table: what Visit, Parent (0 for a root), Children and Head answer for every terminal on the index that Build writes,
+// cell v - 1 for terminal v. The work slice is Build's, and no index is lent. A refused call leaves the lists as they
+// were.
 pub fn table(
     bytes: &[u8],
     work: &mut [u16],

@@ -48,7 +48,8 @@ fn fill_lists(
         × (length (now heads) ≡ n)
         ⌝ }
     ensures { λ _. ⌜
-        columns (now (visits .exit)) (now (parents .exit)) (now (counts .exit)) (now (heads .exit)) ≡ tableOf (now (bytes .entry))
+        columns (now (visits .exit)) (now (parents .exit)) (now (counts .exit)) (now (heads .exit))
+        ≡ tableOf (now (bytes .entry))
         ⌝ }
 {
     let mut starts = [0u16; 4097];

@@ -1,5 +1,5 @@
 -- `read` meets its contract.
-use Prim.Native.Nat.{_≤_}
+use Prim.Native.Nat.{ℕ, _≤_}
 use mathlib.Core.Path.{sym, subst}
 use native.Mathlib.Omega.{arith}
 use borrow.Author.Needs.{needs}
@@ -22,10 +22,16 @@ enum-known-len : tie.Need-enum-known-len
 enum-known-len c = search needs
 
 -- what was read lies within the room
-within : (c : tie.After-known-told) → c .before .len .given .0 .0 ≤ length (c .before .before .before .before .before .read-all .last .0)
+abbrev called : tie.After-known-told → tie.After-read-all
+called c = c .before .before .before .before .before
+
+abbrev len : tie.After-known-told → ℕ
+len c = c .before .len .given .0 .0
+
+within : (c : tie.After-known-told) → len c ≤ length (called c .read-all .last .0)
 within c =
-    let f = c .before .before .before .before .before .before .before .before .args .room .now in
-    let (a, b) = subst (Within 0 (length f)) (c .before .len .given .1) (c .before .before .before .before .before .read-all .ensures) in
+    let room = c .before .before .before .before .before .before .before .before .args .room .now in
+    let (a, b) = subst (Within 0 (length room)) (c .before .len .given .1) (called c .read-all .ensures) in
     let e = c .before .before .before .before .room .given in
     omega arith
 
@@ -33,7 +39,8 @@ slice-reshare-prefix-run : tie.Need-slice-reshare-prefix-run
 slice-reshare-prefix-run c = within c
 
 slice-aggregate-run : tie.Need-slice-aggregate-run
-slice-aggregate-run c = sym (length-take-le _ (c .before .before .before .before .before .before .read-all .last .0) (within (c .before)))
+slice-aggregate-run c =
+    sym (length-take-le (len (c .before)) (called (c .before) .read-all .last .0) (within (c .before)))
 
 run-requires : tie.Need-run-requires
 run-requires c κs = search needs

@@ -35,19 +35,23 @@ array-borrow-prefix-counts : tie.Need-array-borrow-prefix-counts
 array-borrow-prefix-counts c = search needs
 
 slice-aggregate-list-4 : tie.Need-slice-aggregate-list-4
-slice-aggregate-list-4 c = let s = c .before .before .before .before .before in sym (part-zeros 4096 (s .args .n) (s .pre))
+slice-aggregate-list-4 c =
+    let s = c .before .before .before .before .before in
+    sym (part-zeros 4096 (s .args .n) (s .pre))
 
 array-borrow-prefix-heads : tie.Need-array-borrow-prefix-heads
 array-borrow-prefix-heads c = search needs
 
 slice-aggregate-list-5 : tie.Need-slice-aggregate-list-5
-slice-aggregate-list-5 c = let s = c .before .before .before .before .before .before in sym (part-zeros 4096 (s .args .n) (s .pre))
+slice-aggregate-list-5 c =
+    let s = c .before .before .before .before .before .before in
+    sym (part-zeros 4096 (s .args .n) (s .pre))
 
 list-requires : tie.Need-list-requires
 list-requires c κs =
     let s = c .before .before .before .before .before .before in
     let e = part-zeros 4096 (s .args .n) (s .pre) in
-    (s .pre, e, e, e, e)
+    record { few = s .pre; visits-fit = e; parents-fit = e; counts-fit = e; heads-fit = e }
 
 returns : tie.Need-returns
 returns c = search needs

@@ -34,7 +34,8 @@ module _ (bytes work : List ℕ) (lent : Columns) where
   unfolding tableRules
   table-split = sym (append-assoc (checkRules bytes) _ _)
 
-  refuses : {k : ℕ} → firstBroken (tableRules bytes work lent) ≡ suc k → TableDone bytes work lent lent (refused (suc k))
+  refuses : {k : ℕ} → firstBroken (tableRules bytes work lent) ≡ suc k
+      → TableDone bytes work lent lent (refused (suc k))
   unfolding table tabled
   refuses e = record {
     answers = told tt e;
@@ -45,7 +46,8 @@ module _ (bytes work : List ℕ) (lent : Columns) where
   broken {k} e = ap firstBroken table-split ∙ append-broken shared _ k e
 
   -- order R refuses
-  pub table-unread : {k : ℕ} → refused k ≡ tried (orderR bytes) (sizesOf bytes) → TableDone bytes work lent lent (refused k)
+  pub table-unread : {k : ℕ} → refused k ≡ tried (orderR bytes) (sizesOf bytes)
+      → TableDone bytes work lent lent (refused k)
   unfolding tableRules checkRules
   table-unread e =
       let (i, f, g) = told-back (firstBroken (orderR bytes)) (sizesOf bytes) e in

@@ -24,7 +24,8 @@ use Rattle.queries.specs.View.{viewBy, sectionOf, numberOf, blockMarks}
 use Rattle.queries.specs.Queries.{Step, stuck, top, rise, stepUp, parentBy, parentOf, headBy}
 use Rattle.queries.specs.Answers.{orZero, unlessZero}
 use Rattle.queries.specs.Queries.{headNext}
-use Rattle.queries.specs.Operations.{parent as parentAnswer, head as headAnswer, children as childrenAnswer, visit}
+use Rattle.queries.specs.Operations.{visit, parent as parentAnswer, head as headAnswer}
+use Rattle.queries.specs.Operations.{children as childrenAnswer}
 use Rattle.queries.specs.Written.{Written, Terminal}
 use Rattle.queries.specs.Table.{columns, answersOf, tableOf}
 use Rattle.queries.specs.Filling.{Ready, Cells, HeadsTo, ParentsTo}
@@ -205,7 +206,8 @@ module _ {bytes index : List ℕ} {n m : ℕ} (r : Ready bytes index n m) where
   -- ---- the whole table
 
   -- a list that was filled in order of visits, by vertices
-  by-visit : (f : ℕ → ℕ) {l : List ℕ} → Cells (vertexAt (forest (blocks bytes))) (λ i. f (vertexAt (forest (blocks bytes)) i)) n n l
+  by-visit : (f : ℕ → ℕ) {l : List ℕ}
+      → Cells (vertexAt (forest (blocks bytes))) (λ i. f (vertexAt (forest (blocks bytes)) i)) n n l
       → Cells (λ v. v) f n n l
   by-visit f {l} c = record {
     size = c .size;
@@ -234,13 +236,20 @@ module _ {bytes index : List ℕ} {n m : ℕ} (r : Ready bytes index n m) where
     filled cv cp cc ch =
         let index : List ℕ = indexOf (blocks bytes) in
         let F = forest (blocks bytes) in
+        let top : ℕ → ℕ = λ u. suc (head (blocks bytes) F u) in
         let pc = parent-cells (by-visit (parent F) (cp .hold)) in
+        let hc = by-visit top (ch .hold) in
         let v = column (λ i. i) (visit bytes index) (λ u. suc (number F u)) (λ v t. visit-answer here t) cv in
-        let p = column orZero (parentAnswer bytes index) (λ u. unlessZero (parent F u)) (λ v t. parent-answer here t) pc in
-        let c = column (λ k. k) (childrenAnswer bytes index) (λ u. length (children F u)) (λ v t. children-answer here t) cc in
-        let h = column (λ u. u) (headAnswer bytes index) (λ u. suc (head (blocks bytes) F u)) (λ v t. head-answer here t) (by-visit (λ u. suc (head (blocks bytes) F u)) (ch .hold)) in
+        let p =
+        column orZero (parentAnswer bytes index) (λ u. unlessZero (parent F u)) (λ v t. parent-answer here t) pc in
+        let c =
+        column (λ k. k) (childrenAnswer bytes index) (λ u. length (children F u)) (λ v t. children-answer here t) cc in
+        let h = column (λ u. u) (headAnswer bytes index) top (λ v t. head-answer here t) hc in
         rw (v, p, c, h)
       where
         parent-cells : {l : List ℕ} → Cells (λ v. v) (parent (forest (blocks bytes))) n n l
             → Cells (λ v. v) (λ v. orZero (unlessZero (parent (forest (blocks bytes)) v))) n n l
-        parent-cells c = record { size = c .size; cells = λ i h. c .cells i h ∙ sym (or-unless (parent (forest (blocks bytes)) i)) }
+        parent-cells c = record {
+          size = c .size;
+          cells = λ i h. c .cells i h ∙ sym (or-unless (parent (forest (blocks bytes)) i));
+        }

@@ -17,18 +17,25 @@ enum-known-r c = search needs
 enum-known-s : tie.Need-enum-known-s
 enum-known-s c = search needs
 
+-- the call of order R, and where it began
+abbrev start : tie.After-order-r → tie.Start
+start c = c .before .before .before .before .before .before .before
+
+abbrev passed : tie.After-s → tie.After-order-r
+passed c = c .before .before
+
 table-in-requires : tie.Need-table-in-requires
 table-in-requires c κs =
-    let args = c .before .before .before .before .before .before .before .before .before .before .before .before .before .before .before .args in
-    let order-r = c .before .before .before .before .before .before .before .before .order-r in
-    told-sound (args .bytes .now) (sym (ap shape (c .before .before .before .before .before .before .s .given .1)) ∙ order-r .ensures)
+    let s = c .before .before .before .before .before .before in
+    told-sound (start (passed s) .args .bytes .now) (sym (ap shape (s .s .given .1)) ∙ passed s .order-r .ensures)
 
 returns : tie.Need-returns
 returns c =
-    let args = c .before .before .before .before .before .before .before .before .before .before .args in
-    let order-r = c .before .before .before .order-r in
+    let o = c .before .before .before in
+    let args = start o .args in
     let lent = columns (args .visits .now) (args .parents .now) (args .counts .now) (args .heads .now) in
-    table-unread (args .bytes .now) (args .work .now) lent (sym (ap shape (c .before .r .given .1)) ∙ order-r .ensures)
+    table-unread (args .bytes .now) (args .work .now) lent
+    (sym (ap shape (c .before .r .given .1)) ∙ o .order-r .ensures)
 
 same-length : tie.Need-same-length
 same-length c = search needs

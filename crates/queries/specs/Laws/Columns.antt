@@ -14,7 +14,7 @@ use Rattle.forest.specs.Laws.Sections.{length-each, each-at}
 use Rattle.queries.specs.Steps.{Ranged}
 use Rattle.queries.specs.Answers.{orZero, unlessZero}
 use Rattle.queries.specs.Operations.{parent, head, children, visit}
-use Rattle.queries.specs.Written.{Written}
+use Rattle.queries.specs.Written.{Written, Terminal}
 use Rattle.queries.specs.Table.{answersOf, tableOf, Tabled}
 use Rattle.queries.specs.Laws.Answered.{visit-answer, parent-answer, children-answer, head-answer}
 
@@ -63,20 +63,23 @@ module _ {bytes index : List ℕ} (w : Written bytes index) where
   here : Written bytes (indexOf (blocks bytes))
   here = record { accepted = w .accepted; is = refl }
 
+  -- the cell of a terminal, by what its query answers
+  cell : {A : Type 0} (number : A → ℕ) (ask : ℕ → Answer A) {v : ℕ} {a : A} → Terminal bytes v → ask v ≡ answered a
+      → number a ≡ getD (answersOf number ask (terminals bytes)) (v - 1) 0
+  cell number ask t e = sym (cell-told number ask (terminals bytes) t e)
+
   pub table-cells : Tabled bytes index (tableOf bytes)
   unfolding tableOf
-  table-cells = record {
-    visits-are =
-        λ t. visit-answer w t
-        ∙ ap answered (sym (cell-told (λ i. i) (visit bytes (indexOf (blocks bytes))) (terminals bytes) t (visit-answer here t)));
-    parents-are =
-        λ {v} t. parent-answer w t
-        ∙ ap (λ (k : ℕ). answered (unlessZero k))
-        (sym (cell-told orZero (parent bytes (indexOf (blocks bytes))) (terminals bytes) t (parent-answer here t) ∙ or-unless (parentIn (forest (blocks bytes)) (v - 1))));
-    counts-are =
-        λ t. children-answer w t
-        ∙ ap answered (sym (cell-told (λ k. k) (children bytes (indexOf (blocks bytes))) (terminals bytes) t (children-answer here t)));
-    heads-are =
-        λ t. head-answer w t
-        ∙ ap answered (sym (cell-told (λ v. v) (head bytes (indexOf (blocks bytes))) (terminals bytes) t (head-answer here t)));
-  }
+  table-cells =
+      let x : List ℕ = indexOf (blocks bytes) in
+      record {
+        visits-are = λ t. visit-answer w t ∙ ap answered (cell (λ i. i) (visit bytes x) t (visit-answer here t));
+        parents-are =
+            λ {v} t. parent-answer w t
+            ∙ ap (λ (k : ℕ). answered (unlessZero k))
+            (sym (or-unless (parentIn (forest (blocks bytes)) (v - 1)))
+            ∙ cell orZero (parent bytes x) t (parent-answer here t));
+        counts-are =
+            λ t. children-answer w t ∙ ap answered (cell (λ k. k) (children bytes x) t (children-answer here t));
+        heads-are = λ t. head-answer w t ∙ ap answered (cell (λ v. v) (head bytes x) t (head-answer here t));
+      }

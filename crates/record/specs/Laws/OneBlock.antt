@@ -1,4 +1,4 @@
--- Degree and Neighbours of one terminal: by two starts, where order R lets the record pass; and where v's part of a list stands.
+-- Degree and Neighbours of one terminal by two starts, where order R lets the record pass; and where a part stands.
 use mathlib.Core.Path.{_≡_, refl, sym, ap, ap₂, subst, _∙_}
 use mathlib.Core.Bool.{true, false, not}
 use mathlib.Core.List.{List, [], _∷_}
@@ -36,7 +36,8 @@ ungiven : (bytes list : List ℕ) (v : ℕ) → neighboursGiven bytes list v ≡
 unfolding neighbours neighboursBefore
 ungiven bytes list v e = rw (e, neighbours, neighboursBefore) (refl, refl)
 
-part-none : (bytes : List ℕ) (v : ℕ) {len : ℕ} → ((list : List ℕ) → length list ≡ len → neighboursGiven bytes list v ≡ false)
+part-none : (bytes : List ℕ) (v : ℕ) {len : ℕ}
+    → ((list : List ℕ) → length list ≡ len → neighboursGiven bytes list v ≡ false)
     → PartOf bytes len v 0 0
 part-none bytes v none = record {
   begins = λ list l. sym (ungiven bytes list v (none list l) .0);
@@ -108,7 +109,8 @@ module _ {bytes : List ℕ} {n m : ℕ} (s : Sound bytes n m) where
           let c = sound-ones s in
           rw (given, neighbours)
           (sym (part-block (unary bytes) (sound-shaped s .begins) list (v - 1) (omega (arith, some, upto))
-          ∙ ap₂ (λ (x y : ℕ). take (x - y) (drop y list)) (ap (λ (k : ℕ). getD (startsOf (unary bytes)) k 0) next ∙ sym eb) (sym ea)))
+          ∙ ap₂ (λ (x y : ℕ). take (x - y) (drop y list))
+          (ap (λ (k : ℕ). getD (startsOf (unary bytes)) k 0) next ∙ sym eb) (sym ea)))
 
       part-begins : a ≡ neighboursBefore bytes list v
       unfolding neighboursBefore
@@ -147,7 +149,8 @@ module _ {bytes : List ℕ} {n m : ℕ} (s : Sound bytes n m) where
         ))
 
 -- order R refuses
-pub part-unread : (bytes : List ℕ) (v : ℕ) {len k : ℕ} → refused k ≡ tried (orderR bytes) (sizesOf bytes) → PartOf bytes len v 0 0
+pub part-unread : (bytes : List ℕ) (v : ℕ) {len k : ℕ} → refused k ≡ tried (orderR bytes) (sizesOf bytes)
+    → PartOf bytes len v 0 0
 unfolding degreeRules neighboursGiven
 part-unread bytes v e = part-none bytes v (λ list l. (
     let (i, f, g) = told-back (firstBroken (orderR bytes)) (sizesOf bytes) e in

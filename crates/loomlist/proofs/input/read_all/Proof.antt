@@ -1,6 +1,7 @@
 -- `input::read_all` meets its contract.
 use Prim.Native.Nat.{ℕ, _-_, _≤_}
 use mathlib.Core.Path.{_≡_, refl, subst, _∙_}
+use mathlib.Core.List.{List}
 use native.Mathlib.Omega.{arith}
 use borrow.Author.Needs.{needs}
 use lib.ListN.{length}
@@ -40,16 +41,19 @@ returns-2 c =
     let (i, l) = c .before .before .before .before .before .before .before .before .before .loop .inv in
     (omega arith, omega arith)
 
--- how many bytes there were before, and how many there are then
+-- the room and how many bytes there were before, and how many there are then
+abbrev room : tie.Else1 Inv-loop μ-loop → List ℕ
+room c = c .before .before .before .before .before .before .before .before .before .loop .room
+
 abbrev former : tie.Else1 Inv-loop μ-loop → ℕ
 former c = c .before .before .before .before .before .before .before .before .before .loop .done
 
 abbrev read : tie.Else1 Inv-loop μ-loop → ℕ
 read c = c .before .before .k .given .0 .0
 
-within : (c : tie.Else1 Inv-loop μ-loop) → (former c ≤ read c) × (read c ≤ length (c .before .before .before .before .before .before .before .before .before .loop .room))
+within : (c : tie.Else1 Inv-loop μ-loop) → (former c ≤ read c) × (read c ≤ length (room c))
 within c =
-    subst (Within (former c) (length (c .before .before .before .before .before .before .before .before .before .loop .room))) (c .before .before .k .given .1)
+    subst (Within (former c) (length (room c))) (c .before .before .k .given .1)
     (c .before .before .before .before .before .before .read-on .ensures)
 
 loop-less : tie.Need-loop-less Inv-loop μ-loop

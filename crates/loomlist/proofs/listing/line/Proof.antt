@@ -6,31 +6,46 @@ use Rattle.loomlist.proofs.listing.line.Statement.{statement}
 use Rattle.loomlist.proofs.listing.line.Tie as tie
 
 -- each number takes at most 6 bytes
-one : (c : tie.After-number) → c .number .result ≤ c .before .before .before .args .at + 6
-one c = c .number .ensures .1 (c .before .before .before .pre .2)
+abbrev start : tie.After-number → tie.Start
+start c = c .before .before .before
 
-two : (c : tie.After-number2) → c .number2 .result ≤ c .before .before .before .before .before .before .before .args .at + 12
+one : (c : tie.After-number) → c .number .result ≤ start c .args .at + 6
+one c = c .number .ensures .1 (start c .pre .2)
+
+abbrev from-two : tie.After-number2 → tie.Start
+from-two c = start (c .before .before .before .before)
+
+two : (c : tie.After-number2) → c .number2 .result ≤ from-two c .args .at + 12
 two c =
     let a = one (c .before .before .before .before) in
-    let b = c .number2 .ensures .1 (c .before .before .before .before .before .before .before .pre .3) in
+    let b = c .number2 .ensures .1 (from-two c .pre .3) in
     omega arith
 
-three : (c : tie.After-number3) → c .number3 .result ≤ c .before .before .before .before .before .before .before .before .before .before .before .args .at + 18
+abbrev from-three : tie.After-number3 → tie.Start
+from-three c = from-two (c .before .before .before .before)
+
+three : (c : tie.After-number3) → c .number3 .result ≤ from-three c .args .at + 18
 three c =
     let a = two (c .before .before .before .before) in
-    let b = c .number3 .ensures .1 (c .before .before .before .before .before .before .before .before .before .before .before .pre .4) in
+    let b = c .number3 .ensures .1 (from-three c .pre .4) in
     omega arith
 
-four : (c : tie.After-number4) → c .number4 .result ≤ c .before .before .before .before .before .before .before .before .before .before .before .before .before .before .before .args .at + 24
+abbrev from-four : tie.After-number4 → tie.Start
+from-four c = from-three (c .before .before .before .before)
+
+four : (c : tie.After-number4) → c .number4 .result ≤ from-four c .args .at + 24
 four c =
     let a = three (c .before .before .before .before) in
-    let b = c .number4 .ensures .1 (c .before .before .before .before .before .before .before .before .before .before .before .before .before .before .before .pre .5) in
+    let b = c .number4 .ensures .1 (from-four c .pre .5) in
     omega arith
 
-five : (c : tie.After-number5) → c .number5 .result ≤ c .before .before .before .before .before .before .before .before .before .before .before .before .before .before .before .before .before .before .before .args .at + 30
+abbrev from-five : tie.After-number5 → tie.Start
+from-five c = from-four (c .before .before .before .before)
+
+five : (c : tie.After-number5) → c .number5 .result ≤ from-five c .args .at + 30
 five c =
     let a = four (c .before .before .before .before) in
-    let b = c .number5 .ensures .1 (c .before .before .before .before .before .before .before .before .before .before .before .before .before .before .before .before .before .before .before .pre .6) in
+    let b = c .number5 .ensures .1 (from-five c .pre .6) in
     omega arith
 
 number-requires : tie.Need-number-requires

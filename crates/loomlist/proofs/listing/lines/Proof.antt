@@ -1,61 +1,53 @@
 -- `listing::lines` meets its contract.
 use Prim.Native.Nat.{_+_, _*_, _-_, _≤_}
+use mathlib.Core.Path.{_≡_}
+use borrow.Author.Needs.{needs}
 use lib.ListN.{length}
-use native.Mathlib.Omega.{arith}
-use mathlib.Core.Path.{_≡_, sym, _∙_}
 use Rattle.loomlist.proofs.listing.lines.Statement.{statement}
 use Rattle.loomlist.proofs.listing.lines.Tie as tie
 
 abbrev Inv-loop : tie.InvT-loop
-Inv-loop n visits parents counts heads out₀ from at₀ v₀ out at v = (v ≤ n) × (at ≤ 36 + 30 * v) × (length out ≡ 122944)
+Inv-loop n visits parents counts heads out₀ from at₀ v₀ out at v =
+    (v ≤ n) × (at ≤ 36 + 30 * v) × (length out ≡ 122944)
 
 abbrev μ-loop : tie.MeasureT-loop
 μ-loop n visits parents counts heads out₀ from at₀ v₀ out at v = n - v
 
 loop-holds : tie.Need-loop-holds Inv-loop μ-loop
-loop-holds c = let f = c .before .before .before .before .before .pre .6 in (omega arith, omega arith, c .before .before .before .before .before .pre .5)
+loop-holds c = search needs
 
 add-line : tie.Need-add-line Inv-loop μ-loop
-add-line c = let t = c .before .loop-test .taken in let f = c .before .before .before .before .before .before .before .before .pre .0 in omega arith
+add-line c = search needs
 
 get-requires : tie.Need-get-requires Inv-loop μ-loop
-get-requires c κs = let t = c .before .loop-test .taken in let f = c .before .before .before .before .before .before .before .before .pre .1 in omega arith
+get-requires c κs = search needs
 
 get-requires-2 : tie.Need-get-requires-2 Inv-loop μ-loop
-get-requires-2 c κs = let t = c .before .before .loop-test .taken in let f = c .before .before .before .before .before .before .before .before .before .pre .2 in omega arith
+get-requires-2 c κs = search needs
 
 get-requires-3 : tie.Need-get-requires-3 Inv-loop μ-loop
-get-requires-3 c κs = let t = c .before .before .before .loop-test .taken in let f = c .before .before .before .before .before .before .before .before .before .before .pre .3 in omega arith
+get-requires-3 c κs = search needs
 
 get-requires-4 : tie.Need-get-requires-4 Inv-loop μ-loop
-get-requires-4 c κs = let t = c .before .before .before .before .loop-test .taken in let f = c .before .before .before .before .before .before .before .before .before .before .before .pre .4 in omega arith
+get-requires-4 c κs = search needs
 
 line-requires : tie.Need-line-requires Inv-loop μ-loop
-line-requires c κs =
-    let t = c .before .before .before .before .before .loop-test .taken in
-    let f = c .before .before .before .before .before .before .before .before .before .before .before .before .pre .0 in
-    let (i, j, l) = c .before .before .before .before .before .before .loop .inv in
-    (omega arith, omega arith, omega arith, c .before .before .before .get .ensures .1, c .before .before .get2 .ensures .1, c .before .get3 .ensures .1, c .get4 .ensures .1)
+line-requires c κs = search needs
 
 add-v : tie.Need-add-v Inv-loop μ-loop
-add-v c = let t = c .before .before .before .before .before .before .before .before .loop-test .taken in let f = c .before .before .before .before .before .before .before .before .before .before .before .before .before .before .before .pre .0 in omega arith
+add-v c = search needs
 
 loop-less : tie.Need-loop-less Inv-loop μ-loop
-loop-less c = let t = c .before .before .before .before .before .before .before .before .loop-test .taken in omega arith
+loop-less c = search needs
 
 loop-again : tie.Need-loop-again Inv-loop μ-loop
-loop-again c =
-    let t = c .before .before .before .before .before .before .before .before .loop-test .taken in
-    let f = c .before .before .before .before .before .before .before .before .before .before .before .before .before .before .before .pre .0 in
-    let (i, j, l) = c .before .before .before .before .before .before .before .before .before .loop .inv in
-    let e = c .before .before .line .ensures in
-    (omega arith, omega arith, c .before .out .given ∙ l)
+loop-again c = search needs
 
 same-length : tie.Need-same-length Inv-loop μ-loop
-same-length c = c .before .loop .inv .2 ∙ sym (c .before .before .before .before .before .before .before .pre .5)
+same-length c = search needs
 
 returns : tie.Need-returns Inv-loop μ-loop
-returns c = let (i, j, l) = c .before .loop .inv in let f = c .before .before .before .before .before .before .before .pre .0 in omega arith
+returns c = search needs
 
 pub lines-spec : {M : Type 1} → statement M
 lines-spec =

@@ -22,11 +22,14 @@ slice-aggregate-put : tie.Need-slice-aggregate-put
 slice-aggregate-put c = search needs
 
 -- the digits
-digits : (c : tie.After-decimal) → (c .decimal .result ≤ 20) × (c .before .before .before .args .x < 65536 → c .decimal .result ≤ 5)
+abbrev start : tie.After-decimal → tie.Start
+start c = c .before .before .before
+
+digits : (c : tie.After-decimal) → (c .decimal .result ≤ 20) × (start c .args .x < 65536 → c .decimal .result ≤ 5)
 digits c =
-    let x = c .before .before .before .args .x in
+    let x = start c .args .x in
     let fewest : Fewest 10 1 x (c .decimal .result) = c .decimal .ensures .1 .0 in
-    let f = c .before .before .before .fits .x in
+    let f = start c .fits .x in
     (few-digits 20 (omega arith) (omega arith) fewest, λ h. few-digits 5 (omega arith) (omega arith) fewest)
 
 put-requires : tie.Need-put-requires
@@ -37,9 +40,12 @@ put-requires c κs =
     (omega arith, omega arith, omega arith)
 
 -- where they end
-end : (c : tie.After-put) → c .put .result ≡ c .before .before .before .before .before .before .args .at + c .before .before .before .decimal .result
+abbrev spelled : tie.After-put → tie.After-decimal
+spelled c = c .before .before .before
+
+end : (c : tie.After-put) → c .put .result ≡ start (spelled c) .args .at + spelled c .decimal .result
 end c =
-    let (long, is) = c .before .before .before .decimal .ensures .0 in
+    let (long, is) = spelled c .decimal .ensures .0 in
     let e = c .put .ensures in
     omega arith
 

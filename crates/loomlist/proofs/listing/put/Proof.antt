@@ -1,9 +1,8 @@
 -- `listing::put` meets its contract.
 use Prim.Native.Nat.{_-_, _≤_}
-use mathlib.Core.Path.{_≡_, refl, _∙_}
-use native.Mathlib.Omega.{arith}
+use mathlib.Core.Path.{_≡_}
 use borrow.Author.Needs.{needs}
-use lib.ListN.{length, length-set}
+use lib.ListN.{length}
 use Rattle.loomlist.proofs.listing.put.Statement.{statement}
 use Rattle.loomlist.proofs.listing.put.Tie as tie
 
@@ -14,7 +13,7 @@ abbrev μ-loop : tie.MeasureT-loop
 μ-loop out₀ at text i₀ out i = length text - i
 
 loop-holds : tie.Need-loop-holds Inv-loop μ-loop
-loop-holds c = (omega arith, refl)
+loop-holds c = search needs
 
 shared-slice-read-out : tie.Need-shared-slice-read-out Inv-loop μ-loop
 shared-slice-read-out c = search needs
@@ -32,11 +31,7 @@ loop-less : tie.Need-loop-less Inv-loop μ-loop
 loop-less c = search needs
 
 loop-again : tie.Need-loop-again Inv-loop μ-loop
-loop-again c =
-    let (i, l) = c .before .before .loop .inv in
-    let t = c .before .loop-test .taken in
-    let out = c .before .before .loop .out in
-    (omega arith, length-set out _ _ ∙ l)
+loop-again c = search needs
 
 add-result : tie.Need-add-result Inv-loop μ-loop
 add-result c = search needs

@@ -6,7 +6,9 @@ use Rattle.queries.proofs.columns.fill.Statement.{statement}
 use Rattle.queries.proofs.columns.fill.Tie as tie
 
 fill-starts-requires : tie.Need-fill-starts-requires
-fill-starts-requires c κs = let s = c .before .before .before .before .before .before .before .before .before in (ready-beside (s .pre .0) .sound, s .pre .1)
+fill-starts-requires c κs =
+    let s = c .before .before .before .before .before .before .before .before .before in
+    (ready-beside (s .pre .0) .sound, s .pre .1)
 
 -- the calls, from the last back
 abbrev start : tie.After-fill-starts → tie.Start

@@ -27,7 +27,9 @@ array-borrow-prefix-order : tie.Need-array-borrow-prefix-order
 array-borrow-prefix-order c = few (c .before .before .before .before .before .before .before)
 
 slice-aggregate-fill-2 : tie.Need-slice-aggregate-fill-2
-slice-aggregate-fill-2 c = let s = c .before .before .before .before .before .before .before .before in sym (part-zeros 4096 (s .args .n) (few s))
+slice-aggregate-fill-2 c =
+    let s = c .before .before .before .before .before .before .before .before in
+    sym (part-zeros 4096 (s .args .n) (few s))
 
 fill-requires : tie.Need-fill-requires
 fill-requires c κs =

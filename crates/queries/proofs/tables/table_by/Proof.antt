@@ -1,4 +1,4 @@
--- `tables::table_by` meets its contract: Build's rules first, then the lengths of the lists, and the lists only after all.
+-- `tables::table_by` meets its contract: Build's rules first, then the lengths of the lists, then the lists.
 use Rattle.record.specs.Answers.{verdict}
 use Rattle.forest.specs.Operations.{build}
 use Rattle.record.specs.Answers.{Answer, answered}
@@ -36,7 +36,7 @@ abbrev told : tie.After-some-misfit → tie.After-enum-told
 told c = c .before .before .before .before .before
 
 written : (c : tie.After-enum-told)
-    → answered tt ≡ build (start (called c) .args .bytes .now) (start (called c) .args .work .now) (start (called c) .args .index .now)
+    → let s = start (called c) .args in answered tt ≡ build (s .bytes .now) (s .work .now) (s .index .now)
 written c = sym (ap verdict (c .enum-told .given .1)) ∙ called c .build .ensures .0
 
 same-length : tie.Need-same-length
@@ -61,8 +61,8 @@ returns : tie.Need-returns
 returns c =
     let t = told (c .before) in
     let s = start (called t) in
-    table-misfit (s .args .bytes .now) (s .args .work .now) (lent s) (s .pre .0) (s .args .index .now) (s .pre .1) (written t)
-    (sym (c .before .some-misfit .ensures) ∙ c .if1 .taken)
+    table-misfit (s .args .bytes .now) (s .args .work .now) (lent s) (s .pre .0) (s .args .index .now) (s .pre .1)
+    (written t) (sym (c .before .some-misfit .ensures) ∙ c .if1 .taken)
 
 fill-lists-requires : tie.Need-fill-lists-requires
 fill-lists-requires c κs =
@@ -111,11 +111,12 @@ same-length-14 c = search needs
 
 returns-3 : tie.Need-returns-3
 returns-3 c =
-    let e = c .before .before .before .before .before .before .before .before .before .before .before .before .before .before in
+    let f = c .before .before .before .before .before .before .before .before in
+    let e = f .before .before .before .before .before .before in
     let t = told (e .before) in
     let s = start (called t) in
-    table-done (s .args .bytes .now) (s .args .work .now) (lent s) (s .pre .0) (s .args .index .now) (s .pre .1) (written t)
-    (sym (e .before .some-misfit .ensures) ∙ e .if1 .left) (c .before .before .before .before .before .before .before .before .fill-lists .ensures)
+    table-done (s .args .bytes .now) (s .args .work .now) (lent s) (s .pre .0) (s .args .index .now) (s .pre .1)
+    (written t) (sym (e .before .some-misfit .ensures) ∙ e .if1 .left) (f .fill-lists .ensures)
 
 pub table-by-spec : {M : Type 1} → statement M
 table-by-spec =

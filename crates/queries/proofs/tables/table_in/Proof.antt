@@ -12,11 +12,13 @@ index-length-requires : tie.Need-index-length-requires
 index-length-requires c κs = search needs
 
 -- the index has room
+abbrev start : tie.After-index-length → tie.Start
+start c = c .before .before .before .before .before .before .before
+
 short : (c : tie.After-index-length) → c .index-length .result ≤ 19968
 short c =
-    let s = c .before .before .before .before .before .before .before in
     let e = c .index-length .ensures in
-    let l = index-short (s .pre .n-fits) (s .pre .m-fits) in
+    let l = index-short (start c .pre .n-fits) (start c .pre .m-fits) in
     omega arith
 
 array-borrow-prefix-index : tie.Need-array-borrow-prefix-index
@@ -28,7 +30,7 @@ slice-aggregate-table-by c = sym (part-zeros 19968 _ (short (c .before .before))
 table-by-requires : tie.Need-table-by-requires
 table-by-requires c κs =
     let i = c .before .before .before .before .before .before in
-    (i .before .before .before .before .before .before .before .pre, part-zeros 19968 _ (short i) ∙ i .index-length .ensures)
+    (start i .pre, part-zeros 19968 _ (short i) ∙ i .index-length .ensures)
 
 same-length : tie.Need-same-length
 same-length c = search needs
