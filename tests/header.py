@@ -162,8 +162,10 @@ class Compared:
         lengths = "with " + " and ".join(str(len(data)) for data in held) + " bytes"
         self.settle(found == expected, name, lengths, "gives", hex(found), "for", hex(expected))
         buffers = [taken for taken in FUNCTIONS[name][1][1:] if taken != "work"]
-        for taken, left in zip(buffers, held[-len(buffers) :] if refusal else written, strict=True):
-            self.settle(lent[taken].holds(left), name, lengths, f"leaves other bytes in the {taken}")
+        left = held[-len(buffers) :] if refusal else written
+        assert len(left) == len(buffers)
+        for taken, data in zip(buffers, left):
+            self.settle(lent[taken].holds(data), name, lengths, f"leaves other bytes in the {taken}")
         self.settle(all(memory.guarded() for memory in memories), name, lengths, "writes outside a slice")
 
     def rank_and_select(self, start, places, numbers):

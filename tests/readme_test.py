@@ -30,7 +30,7 @@ LOOKED_FOR = {"tests/run", ".ci/run", "bench/run"}
 SILENT = {"rt", "cc", "c++", "cd", "cp", "mkdir", "export", "./install"}
 COMMANDS = SILENT | {"./sections", "target/bin/loomlist", "cargo", "pkg-config", "printf", "cat"}
 # What `rt` is called with, a crate behind it or not
-RT = {"check", "ci", "dev", "fmt", "must-fail", "prove", "staticlib", "try"}
+RT = {"check", "ci", "dev", "fmt", "must-fail", "prove", "staticlib", "try", "version"}
 
 
 # The page
