@@ -1,22 +1,18 @@
 """The functions of the C header, called by ctypes and each compared with plain.py.
 
-The archive is target/staticlib/libcelduga.a, or the one that CELDUGA_ARCHIVE names. Every slice is lent from memory of its own, which ends at
-a page that can't be touched and has guard bytes in front.
+Every slice is lent from memory of its own, which ends at a page that can't be touched and has guard bytes in front.
 """
 import ctypes
 import faulthandler
 import mmap
-import os
 import re
 import subprocess
 from pathlib import Path
 
 import plain
 from families import shown
+from programs import HEADER
 
-ROOT = Path(__file__).parent.parent
-ARCHIVE = Path(os.environ.get("CELDUGA_ARCHIVE") or ROOT / "target/staticlib/libcelduga.a")
-HEADER = ROOT / "include/celduga.h"
 GUARD = bytes(range(0xC0, 0x100))
 
 # The four lists of the table, and of every slice the bytes of one number
