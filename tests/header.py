@@ -1,22 +1,18 @@
 """The functions of the C header, called by ctypes and each compared with plain.py.
 
-The archive is target/staticlib/libcelduga.a, or the one that CELDUGA_ARCHIVE names. Every slice is lent from memory of its own, which ends at
-a page that can't be touched and has guard bytes in front.
+Every slice is lent from memory of its own, which ends at a page that can't be touched and has guard bytes in front.
 """
 import ctypes
 import faulthandler
 import mmap
-import os
 import re
 import subprocess
 from pathlib import Path
 
 import plain
 from families import shown
+from programs import HEADER
 
-ROOT = Path(__file__).parent.parent
-ARCHIVE = Path(os.environ.get("CELDUGA_ARCHIVE") or ROOT / "target/staticlib/libcelduga.a")
-HEADER = ROOT / "include/celduga.h"
 GUARD = bytes(range(0xC0, 0x100))
 
 # The four lists of the table, and of every slice the bytes of one number
@@ -162,8 +158,10 @@ class Compared:
         lengths = "with " + " and ".join(str(len(data)) for data in held) + " bytes"
         self.settle(found == expected, name, lengths, "gives", hex(found), "for", hex(expected))
         buffers = [taken for taken in FUNCTIONS[name][1][1:] if taken != "work"]
-        for taken, left in zip(buffers, held[-len(buffers) :] if refusal else written, strict=True):
-            self.settle(lent[taken].holds(left), name, lengths, f"leaves other bytes in the {taken}")
+        left = held[-len(buffers) :] if refusal else written
+        assert len(left) == len(buffers)
+        for taken, data in zip(buffers, left):
+            self.settle(lent[taken].holds(data), name, lengths, f"leaves other bytes in the {taken}")
         self.settle(all(memory.guarded() for memory in memories), name, lengths, "writes outside a slice")
 
     def rank_and_select(self, start, places, numbers):

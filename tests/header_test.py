@@ -12,10 +12,11 @@ from random import Random
 
 import shapes
 from families import fail, tally
-from header import ARCHIVE, FUNCTIONS, LISTS, Compared, exported, header_version, load, shared
+from header import FUNCTIONS, LISTS, Compared, exported, header_version, load, shared
 from packing import WIRE, bits_of, index_layout, index_length, layout, packed, record
 from plain import MOST_TERMINALS, MOST_WIRES, answer, blocks_of, build, built, check, children, columns, head, joined, order_r, sizes, table
 from plain import unpack, wires, without
+from programs import ARCHIVE
 
 LARGE = [65536, 65537, 2**32 + 1, 2**63, 2**64 - 1]
 

@@ -1,6 +1,5 @@
-"""Runs the script `install` in a scratch copy of the tree, whose folder has a space in its name, and builds the C example from what it installs.
-
-A stand-in for `rt` copies the archive that the gate has built.
+"""Runs the script `install` in a scratch copy of the tree, whose folder has a space in its name, and builds the C
+example from what it installs. A stand-in for `rt` copies the archive that the gate has built.
 """
 import os
 import shlex
@@ -52,13 +51,15 @@ class Site:
         return len(lines)
 
     def same_files(self, below, prefix):
-        """Just these files are there, with the tree's bytes, open to all readers; the one for pkg-config names the prefix and the version."""
+        """Just these files are there, with the tree's bytes, open to all readers; the one for pkg-config names the
+        prefix and the version."""
         found = {str(file.relative_to(below)) for file in below.rglob("*") if not file.is_dir()}
         demand(found == {*FILES, PC}, f"installed: {sorted(found)}")
         for name, source in FILES.items():
             demand((below / name).read_bytes() == (self.root / source).read_bytes(), f"{name} is not {source}")
         for name in found:
-            demand((below / name).stat().st_mode & 0o777 == 0o644, f"{name} has the mode {(below / name).stat().st_mode:o}")
+            mode = (below / name).stat().st_mode & 0o777
+            demand(mode == 0o644, f"{name} has the mode {mode:o}")
         lines = (below / PC).read_text().splitlines()
         demand(f"prefix={prefix}" in lines and f"Version: {VERSION}" in lines, f"{PC} has {lines}")
 
@@ -104,8 +105,8 @@ def with_destdir(site, room):
 # What it is good for
 
 def example_by_folders(prefix, room):
-    flags = [f"-I{prefix / 'include'}", prefix / "share/celduga/examples/sections.c", f"-L{prefix / 'lib'}", "-lcelduga"]
-    example_runs(room / "by folders", flags)
+    flags = [f"-I{prefix / 'include'}", f"-L{prefix / 'lib'}", "-lcelduga"]
+    example_runs(prefix, room / "by folders", flags)
 
 
 def example_by_pkg_config(prefix, room):
@@ -115,12 +116,12 @@ def example_by_pkg_config(prefix, room):
     if shutil.which("pkg-config"):
         demand(asked("--modversion") == VERSION, f"pkg-config has the version {asked('--modversion')}")
         demand(asked("--variable=prefix") == str(prefix), f"pkg-config has the prefix {asked('--variable=prefix')}")
-        source = prefix / "share/celduga/examples/sections.c"
-        example_runs(room / "by pkg-config", [source, *shlex.split(asked("--cflags", "--libs"))])
+        example_runs(prefix, room / "by pkg-config", shlex.split(asked("--cflags", "--libs")))
 
 
-def example_runs(program, flags):
-    run([os.environ.get("CC", "cc"), "-std=c99", "-O2", *flags, "-o", program])
+def example_runs(prefix, program, flags):
+    source = prefix / "share/celduga/examples/sections.c"
+    run([os.environ.get("CC", "cc"), "-std=c99", "-O2", source, *flags, "-o", program])
     example_accepts(program)
     example_refuses(program)
 

@@ -1,7 +1,6 @@
 """Compares what the program loomlist prints with the listing of plain.py, byte for byte, on records of every shape, accepted and damaged.
 
-What it can't read or write, and a call with an argument, it says in one line on standard error. It must always end with status 0. The program
-is target/bin/loomlist, or the one that CELDUGA_LOOMLIST names.
+What it can't read or write, and a call with an argument, it says in one line on standard error. It must always end with status 0.
 """
 import os
 import resource
@@ -12,15 +11,13 @@ import sys
 import tempfile
 import time
 from itertools import zip_longest
-from pathlib import Path
 from random import Random
 
 import shapes
 from families import fail, shown, tally
 from packing import SAMPLE, record
 from plain import answer, check, listing
-
-PROGRAM = Path(os.environ.get("CELDUGA_LOOMLIST") or Path(__file__).parent.parent / "target/bin/loomlist")
+from programs import LOOMLIST as PROGRAM
 
 SAMPLE_LISTING = """\
 terminal visit parent children head

@@ -1,7 +1,8 @@
-"""What the tests that compile and run programs share: the compilers, what the gate has built, scratch copies of the tree, a tally of tests.
+"""What the tests that compile and run programs share: the compilers, what the gate has built, scratch copies of the
+tree, and a tally.
 
-The archive is target/staticlib/libcelduga.a, or the file that CELDUGA_ARCHIVE names; the listing program is target/bin/loomlist, or the one
-that CELDUGA_LOOMLIST names.
+The archive is target/staticlib/libcelduga.a, or the file that CELDUGA_ARCHIVE names; the listing program is
+target/bin/loomlist, or the one that CELDUGA_LOOMLIST names.
 """
 import os
 import shlex
@@ -31,11 +32,15 @@ def demand(holds, words):
 
 
 def tally(tests):
-    """Runs the tests, each a name, a function and what it is given, in a scratch folder that they share; prints the tally as the last line and
-    gives the exit status."""
+    """Runs the tests, each a name, a function and what it is given; they share a scratch folder. Prints the tally as
+    the last line and gives the exit status."""
     passed = failed = 0
     with tempfile.TemporaryDirectory() as folder:
-        for name, test, *given in tests(Path(folder)):
+        try:
+            planned = list(tests(Path(folder)))
+        except (Wrong, OSError) as wrong:
+            planned = [("the tests can't be made ready", demand, False, wrong)]
+        for name, test, *given in planned:
             try:
                 test(*given)
                 passed += 1
@@ -55,14 +60,17 @@ def run(command, **given):
     return done.stdout
 
 
+def built(file, command, variable):
+    demand(file.is_file(), f"there is no {file}: `{command}` makes it, or {variable} names another")
+    return file
+
+
 def archive():
-    demand(ARCHIVE.is_file(), f"there is no archive {ARCHIVE}: `rt staticlib celduga` makes it, or CELDUGA_ARCHIVE names another")
-    return ARCHIVE
+    return built(ARCHIVE, "rt staticlib celduga", "CELDUGA_ARCHIVE")
 
 
 def loomlist():
-    demand(LOOMLIST.is_file(), f"there is no program {LOOMLIST}: `rt check loomlist` makes it, or CELDUGA_LOOMLIST names another")
-    return LOOMLIST
+    return built(LOOMLIST, "rt check loomlist", "CELDUGA_LOOMLIST")
 
 
 def linked(compiler, source, program):
@@ -72,8 +80,8 @@ def linked(compiler, source, program):
 
 def cargo(room, folder, *words):
     """What cargo prints in this folder; it builds below the room."""
-    env = dict(os.environ, CELDUGA_ARCHIVE=str(archive()), CARGO_TARGET_DIR=str(room / "rust"), CARGO_TERM_COLOR="never")
-    return run(["cargo", *words, "--offline"], cwd=folder, env=env)
+    given = {"CELDUGA_ARCHIVE": str(archive()), "CARGO_TARGET_DIR": str(room / "rust"), "CARGO_TERM_COLOR": "never"}
+    return run(["cargo", *words, "--offline"], cwd=folder, env={**os.environ, **given})
 
 
 def rust_program(room, name, source):
@@ -95,19 +103,20 @@ def tree(folder):
 
 
 def stand_in(folder):
-    """Puts an `rt` into this folder that stands in for the toolchain: called in the root of a tree, it copies what the gate has built into
-    place, writes its words to the file calls, and fails for all other words."""
+    """Puts an `rt` into this folder that stands in for the toolchain. Called in the root of a tree, it copies what the
+    gate has built into place and adds its words to the file `calls`; it fails for all other words."""
     folder.mkdir(parents=True)
     program = folder / "rt"
-    copies = {"staticlib celduga": (ARCHIVE, "target/staticlib/libcelduga.a"), "check loomlist": (LOOMLIST, "target/bin/loomlist")}
-    cases = "".join(
-        f"    {shlex.quote(words)}) mkdir -p {os.path.dirname(to)} && cp {shlex.quote(str(built))} {to} ;;\n"
-        for words, (built, to) in copies.items()
-    )
-    program.write_text(
-        "#!/bin/sh\nset -eu\n[ -f crates.txt ]\n"
-        f'echo "$*" >>{shlex.quote(str(folder / "calls"))}\n'
-        f'case "$*" in\n{cases}    *) echo "rt $*: it is not known here" >&2; exit 2 ;;\nesac\n'
-    )
+    archive, loomlist, calls = (shlex.quote(str(file)) for file in (ARCHIVE, LOOMLIST, folder / "calls"))
+    program.write_text(f"""#!/bin/sh
+set -eu
+[ -f crates.txt ]
+echo "$*" >>{calls}
+case "$*" in
+    'staticlib celduga') mkdir -p target/staticlib && cp {archive} target/staticlib/libcelduga.a ;;
+    'check loomlist') mkdir -p target/bin && cp {loomlist} target/bin/loomlist ;;
+    *) echo "rt $*: it is not known here" >&2 && exit 2 ;;
+esac
+""")
     program.chmod(0o755)
     return folder
