@@ -1,5 +1,5 @@
--- The numbers that functions of the C interface return. One of 32 bits has the refusal's number, or 0, in its high half,
--- and the value, or 0 where there is none, in its low half.
+-- The numbers that functions of the C interface return. One of 32 bits has the refusal's number, or 0, in its high
+-- half, and the value, or 0 where there is none, in its low half.
 use mathlib.Core.Path.{_≡_}
 use mathlib.Core.List.{List}
 use Prim.Native.Nat.{ℕ, _+_, _-_, _*_}

@@ -4,7 +4,8 @@ ghost use mathlib.Core.Path.{_≡_};
 ghost use Rattle.record.specs.Rules.{checkRules};
 ghost use Rattle.record.specs.Answers.{number, verdict, counted, figure, shape, tried, sizesOf};
 ghost use Rattle.record.specs.Operations.{check as checkOf, degree as degreeOf, unpack as unpackOf, unpacked};
-ghost use Rattle.record.specs.Operations.{neighbours as neighboursOf, neighboursBefore, PartOf, further, loopFigure};
+ghost use Rattle.record.specs.Operations.{neighbours as neighboursOf, neighboursBefore, PartOf, further};
+ghost use Rattle.record.specs.Operations.{loopFigure};
 
 pub mod cells; // cells.rt: cells of 16 bits
 pub mod header; // header.rt: the header, and order R
@@ -177,8 +178,8 @@ pub fn part_of(bytes: &[u8], len: usize, v: Vertex) -> Part
     }
 }
 
-// Neighbours: the part of the caller's unpacked list that is terminal v's block; the empty part at the front where Degree
-// refuses or the list is not 2·m long.
+// Neighbours: the part of the caller's unpacked list that is terminal v's block; the empty part at the front where
+// Degree refuses or the list is not 2·m long.
 pub fn neighbours<'a, 'b>(bytes: &'a [u8], list: &'b [u16], v: Vertex) -> &'b [u16]
     ensures { λ r. ⌜
         (now r ≡ neighboursOf (now (bytes .entry)) (now (list .entry)) (v .0))
