@@ -1,10 +1,10 @@
 """Compares the stored output of the program queries_vectors with a plain reading of document 01's sentences.
 
-The stored output is what `rt ci` holds the proved program to. Here the answers are plain.py's, and a refusal is shown as its number in
-brackets. With an argument it prints the lines instead.
+The stored output is what `rt ci` holds the proved program to. Here the answers are plain.py's, and a query's refusal is shown as its number
+in brackets. With an argument it prints the lines instead.
 """
 from packing import SAMPLE, WIRE, flipped, index_layout, layout, ones_at, record, whole
-from plain import ancestor, answer, bridges, child, children, head, index_of, parent, visit, visited
+from plain import ancestor, answer, blocks_of, bridges, check, child, children, head, index_of, parent, refuse, sizes, visit, visited
 from shapes import FIXED, filled, places, with_ones
 from stored import main
 
@@ -59,8 +59,12 @@ def made(blocks, e, p, b, numbers):
 
 # The pairs: name, record, index and last terminal asked for
 
+# accepted records
+BUILT = ("sample", "wire", "single", "empty", "path", "apart", "joined", "chord")
+
+
 def as_built():
-    for name in ("sample", "wire", "single", "empty", "path", "apart", "joined", "chord"):
+    for name in BUILT:
         blocks = FIXED[name]
         yield name, record(blocks), built(blocks), len(blocks) + 1
 
@@ -153,10 +157,49 @@ def pairs():
     yield from refusals()
 
 
+# Table
+
+def table(data, work, *rooms):
+    """The four lists, for the lengths of the work slice and of the lists."""
+    check(data)
+    n, _ = sizes(data)
+    refuse(9, work < 8 * n)
+    refuse(10, any(room != n for room in rooms))
+    index = built(blocks_of(data))
+    return [[query(data, index, v) for v in range(1, n + 1)] for query in (visit, parent, children, head)]
+
+
+def tabled(name, data, work, *rooms):
+    """The verdict, and then each list; a refused call leaves the marks that it held: from 901 on, from 911 on, and so on."""
+    refusal, lists = answer(table, data, work, *rooms)
+    marks = [range(first, first + room) for first, room in zip((901, 911, 921, 931), rooms)]
+    yield f"{name} table {work} " + " ".join(map(str, rooms)) + ": " + (f"refused {refusal}" if refusal else "accepted")
+    for title, numbers in zip(("visits", "parents", "counts", "heads"), marks if refusal else lists):
+        yield " ".join([f"{name} {title}:", *map(str, numbers)])
+
+
+def tables():
+    """Accepted records and one for each of 1 to 8, with what they ask for. The sample with one number of work more; with 9, before 10; with
+    10, for each list in turn, too short and too long; and 5 before both."""
+    data = {name: given for name, given, _, _ in pairs()}
+    accepted = [(name, len(FIXED[name])) for name in BUILT]
+    bad = [("three_bytes", 2), ("wide", 2), ("short", 6), ("few_ones", 6), ("spare", 6), ("stray", 6), ("doubled", 2), ("one_sided", 3)]
+    for name, n in accepted + bad:
+        yield name, data[name], 8 * n, n, n, n, n
+    for work, first in (49, 6), (47, 6), (47, 5):
+        yield "sample", data["sample"], work, first, 6, 6, 6
+    for other in range(4):
+        for room in 5, 7:
+            yield "sample", data["sample"], 48, *(room if i == other else 6 for i in range(4))
+    yield "spare", data["spare"], 47, 6, 6, 6, 7
+
+
 def lines():
     for name, data, index, last in pairs():
         yield from answers(name, data, index, last)
     yield largest("sample", record(SAMPLE), built(SAMPLE))
+    for given in tables():
+        yield from tabled(*given)
 
 
 if __name__ == "__main__":

@@ -1,5 +1,5 @@
-// Asks `queries` about fixed records and indexes and prints the answers: a line for each query, of Child and Ancestor one for each terminal.
-// The file stdout has what they must be.
+// Asks `queries` about fixed records and indexes and prints the answers: a line for each query, of Child and Ancestor one for each terminal;
+// and then Table. The file stdout has what they must be.
 ghost use Prim.Native.Nat.{_≤_};
 use answers::above;
 use answers::counted;
@@ -13,6 +13,7 @@ use record::Counted;
 use record::Vertex;
 
 mod answers; // answers.rt: how the answers are printed
+mod tables; // tables.rt: Table
 
 // What a line asks for each number: a query of one number, Child of a terminal, or whether a terminal is an ancestor.
 enum Asked {
@@ -426,4 +427,7 @@ fn main() {
         b"\x00\x30\x00\x59\x22\xA0\x02\x00\x10\x00\x00\x20\x01\x00\x30\x00\x00\x20\x05\x00\x40",
         b"\x41\x84\x04\x51\x00\x95\x00\x00\x02\x00\x10\x03\x00\x40\x05",
     );
+    tables::accepted();
+    tables::bad_records();
+    tables::bad_lengths();
 }
