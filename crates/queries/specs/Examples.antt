@@ -1,4 +1,5 @@
--- Document 01's lines that are marked P, all of them, as one list of cases under one theorem, computed by the checker.
+-- Document 01's lines that are marked P, all of them, and the columns of its listing, as one list of cases under one
+-- theorem, computed by the checker.
 use mathlib.Core.Path.{_≡_, refl}
 use mathlib.Core.List.{List, [], _∷_, _++_, map, flatten}
 use Prim.Native.Nat.{ℕ}
@@ -11,21 +12,23 @@ use Rattle.graph.specs.Forest.{number, childMark, parentMark}
 use Rattle.graph.specs.Walk.{walk}
 use Rattle.record.specs.Record.{terminals, wires, usedBits, recordLength, unary, fieldsFrom, fields, zeros, parts, blocks, layOut, unaryOf, fieldBits, recordBits, recordOf}
 use Rattle.record.specs.Rules.{firstBroken, beginsWithZero, orderR, anyIn, anyFrom, spareSet, stray, doubled, oneSided, checkRules}
-use Rattle.record.specs.Answers.{Answer, refused, answered, outcome, otherwise}
+use Rattle.record.specs.Answers.{Answer, refused, answered, outcome, otherwise, said}
 use Rattle.record.specs.Operations.{check, otherLength, outOfRange}
 use Rattle.forest.specs.Index.{marksFrom, section, sectionE, sectionP, sectionB, numbers, indexBy, indexOf, markBytes, numberBytes, indexLength}
 use Rattle.queries.specs.View.{blockMarks, sectionOf, numberOf}
-use Rattle.queries.specs.Queries.{stepBy, stepUp, headOf}
-use Rattle.queries.specs.Operations.{orderQ, head}
+use Rattle.queries.specs.Queries.{stepBy, stepUp, headOf, parentOf, childCount, visitOf}
+use Rattle.queries.specs.Operations.{orderQ, head, parent, children, visit}
+use Rattle.queries.specs.Table.{Columns, columns, answersOf, tableOf}
 
--- a line: blocks and their record, a record and its blocks, a record and what Check says, a record and its index, or a record with its index
--- and the heads of its terminals
+-- a line: blocks and their record, a record and its blocks, a record and what Check says, a record and its index, a
+-- record with its index and the heads of its terminals, or a record and its table
 pub data Line : Type 0 where
   files : Blocks → List ℕ → Line
   reads : List ℕ → Blocks → Line
   checks : List ℕ → Answer (Unit {0}) → Line
   indexed : List ℕ → List ℕ → Line
   headed : List ℕ → List ℕ → List (Answer ℕ) → Line
+  listed : List ℕ → Columns → Line
 
 abbrev pub computed : Line → Line
 computed (files g bytes) = files g (recordOf g)
@@ -33,6 +36,7 @@ computed (reads bytes g) = reads bytes (blocks bytes)
 computed (checks bytes a) = checks bytes (check bytes)
 computed (indexed bytes index) = indexed bytes (indexOf (blocks bytes))
 computed (headed bytes index heads) = headed bytes index (map (head bytes index) (countUp 1 (length heads)))
+computed (listed bytes t) = listed bytes (tableOf bytes)
 
 -- the sample loom, terminals less 1
 abbrev pub loom : Blocks
@@ -54,6 +58,15 @@ wire = 0x00 ∷ 0x10 ∷ 0x00 ∷ 0x1A ∷ 0x00 ∷ 0x10 ∷ 0x00 ∷ []
 abbrev pub sampleIndex : List ℕ
 sampleIndex = 0x41 ∷ 0x84 ∷ 0x04 ∷ 0x51 ∷ 0x00 ∷ 0x95 ∷ 0x00 ∷ 0x00 ∷ 0x02 ∷ 0x00 ∷ 0x10 ∷ 0x03 ∷ 0x00 ∷ 0x40 ∷ 0x05 ∷ []
 
+-- the columns of the sample's listing
+abbrev pub sampleTable : Columns
+sampleTable =
+    columns
+    (1 ∷ 3 ∷ 2 ∷ 4 ∷ 5 ∷ 6 ∷ [])
+    (0 ∷ 3 ∷ 1 ∷ 3 ∷ 0 ∷ 5 ∷ [])
+    (1 ∷ 0 ∷ 2 ∷ 0 ∷ 1 ∷ 0 ∷ [])
+    (1 ∷ 1 ∷ 1 ∷ 4 ∷ 5 ∷ 6 ∷ [])
+
 -- for any three bytes a, b and c
 abbrev pub lines : ℕ → ℕ → ℕ → List Line
 lines a b c =
@@ -62,6 +75,7 @@ lines a b c =
     ∷ checks sample (answered tt)
     ∷ indexed sample sampleIndex
     ∷ headed sample sampleIndex (map answered (1 ∷ 1 ∷ 1 ∷ 4 ∷ 5 ∷ 6 ∷ []))
+    ∷ listed sample sampleTable
     ∷ files [] empty
     ∷ reads empty []
     ∷ checks empty (answered tt)
@@ -82,5 +96,5 @@ lines a b c =
     ∷ []
 
 pub as-stated : (a b c : ℕ) → map computed (lines a b c) ≡ lines a b c
-unfolding toBits bits string count onesAt select value field packed pack mentions position pair entered arcs run search countUp without joined bridge number childMark parentMark walk terminals wires usedBits recordLength unary fieldsFrom fields zeros parts blocks layOut unaryOf fieldBits recordBits recordOf firstBroken beginsWithZero orderR anyIn anyFrom spareSet stray doubled oneSided checkRules outcome otherwise check otherLength outOfRange marksFrom section sectionE sectionP sectionB numbers indexBy markBytes numberBytes indexLength blockMarks sectionOf numberOf stepBy stepUp headOf orderQ head flatten
+unfolding toBits bits string count onesAt select value field packed pack mentions position pair entered arcs run search countUp without joined bridge number childMark parentMark walk terminals wires usedBits recordLength unary fieldsFrom fields zeros parts blocks layOut unaryOf fieldBits recordBits recordOf firstBroken beginsWithZero orderR anyIn anyFrom spareSet stray doubled oneSided checkRules outcome otherwise check otherLength outOfRange marksFrom section sectionE sectionP sectionB numbers indexBy markBytes numberBytes indexLength blockMarks sectionOf numberOf stepBy stepUp headOf orderQ head flatten visit visitOf parent parentOf children childCount said answersOf tableOf
 as-stated a b c = refl

@@ -7,10 +7,6 @@ use borrow.Author.Needs.{needs}
 use Rattle.loomlist.proofs.Digits.{few-digits}
 use Rattle.loomlist.proofs.listing.number.Statement.{statement}
 use Rattle.loomlist.proofs.listing.number.Tie as tie
-use Rattle.loomlist.proofs.listing.number.Reads as reads
-use Rattle.loomlist.proofs.listing.number.Lts as lts
-use Rattle.io.proofs.decimal.Reads as decimal-reads
-use Rattle.loomlist.proofs.listing.put.Reads as put-reads
 
 decimal-requires : tie.Need-decimal-requires
 decimal-requires c κs = search needs
