@@ -1,5 +1,7 @@
 // What programs print: words, numbers, lists, bytes and digests. It rests on none of the crates that they ask.
+ghost use mathlib.Core.Path.{_≡_};
 ghost use Prim.Native.Nat.{_<_};
+ghost use lib.IntN.{natAbs};
 use libc::STDOUT_FILENO;
 
 pub fn text(s: &[u8]) {
@@ -11,7 +13,9 @@ pub fn number(n: usize) {
 }
 
 // A number without its sign. The negation may be too large for 32 bits.
-pub fn magnitude(z: i32) -> usize {
+pub fn magnitude(z: i32) -> usize
+    ensures { λ r. ⌜ r ≡ natAbs z ⌝ }
+{
     if z < 0 {
         return (0 - z as i64) as usize;
     }
