@@ -24,11 +24,11 @@ from shapes import FIXED, limits, listed, ring
 README = ROOT / "README.md"
 PAGES = [README, *(ROOT / name for name in ("CONTRIBUTING.md", "CHANGELOG.md")), *sorted((ROOT / "docs").glob("*.md"))]
 FENCES = {"c", "rust", "toml", "sh", "text"}
-# They take minutes: they are looked for, and not run
-LOOKED_FOR = {"tests/run", ".ci/run", "bench/run"}
+# They are what runs this test, and are looked for
+LOOKED_FOR = {"tests/run", ".ci/run"}
 # What a line may call. These print nothing; what the others print is either computed here or not compared.
 SILENT = {"rt", "cc", "c++", "cd", "cp", "mkdir", "export", "./install"}
-COMMANDS = SILENT | {"./sections", "target/bin/loomlist", "cargo", "pkg-config", "printf", "cat"}
+COMMANDS = SILENT | {"./sections", "target/bin/loomlist", "bench/run", "cargo", "pkg-config", "printf", "cat"}
 # What `rt` is called with, a crate behind it or not
 RT = {"check", "ci", "dev", "fmt", "must-fail", "prove", "staticlib", "try", "version"}
 
@@ -327,12 +327,23 @@ def all_known(found):
     demand(not missing, f"the page has no block of the kinds {missing}")
 
 
+def told(page, found):
+    """A command inside a sentence is one of the lines that are run; a word in capitals stands for any."""
+    lines = [line for block in found if block.kind == "sh" for line in block.text.splitlines()]
+    for span in spans(page):
+        words = span.split()
+        if len(words) > 1 and words[0] in COMMANDS:
+            pattern = " ".join(".+" if word.isupper() else re.escape(word) for word in words)
+            demand(any(re.fullmatch(pattern, line) for line in lines), f"`{span}` is run nowhere")
+
+
 def tests(room):
     page = README.read_text()
     found, reader = blocks(page), Reader(room)
     packages = "\n".join(spans(page) + [block.text for block in found if block.kind == "toml"])
     dependencies = re.findall(r"^celduga = .*$", packages, re.MULTILINE)
     yield "the kinds of blocks", all_known, found
+    yield "the commands inside sentences", told, page, found
     for block in found:
         if block.kind == "sh":
             yield f"the commands of line {block.line}", reader.runs, block
