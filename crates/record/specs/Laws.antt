@@ -4,6 +4,7 @@ pub mod Told
 pub mod Settled
 pub mod Range
 pub mod Parts
+pub mod Rows
 pub mod Fields
 pub mod Layout
 pub mod Anywhere

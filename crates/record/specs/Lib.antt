@@ -1,7 +1,7 @@
 -- Records: the definitions that the contracts cite, and the laws about them.
 pub mod Record
 pub mod Starts
-pub mod Flat
+pub mod Arrays
 pub mod Tally
 pub mod Rules
 pub mod Reverse

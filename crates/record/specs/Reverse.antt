@@ -5,9 +5,8 @@ use mathlib.Core.Bool.{false}
 use mathlib.Core.List.{List}
 use lib.ListN.{length, getD}
 use Rattle.graph.specs.Graph.{block, mentions}
-use Rattle.record.specs.Starts.{cut}
+use Rattle.record.specs.Arrays.{cut, Divided, upTo}
 use Rattle.record.specs.Rules.{anyPlace, stray, doubled, oneSided}
-use Rattle.record.specs.Flat.{Divided, upTo}
 
 -- `next` has for each terminal the place of its part that comes next: part v up to there has w as often as w's block up to place p has v
 pub record Turned (starts nbrs reverse next : List ℕ) (p : ℕ) : Type 0 where

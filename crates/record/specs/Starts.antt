@@ -1,9 +1,7 @@
 -- Where the blocks start in the list of fields: what the code keeps of D.
 use mathlib.Core.Bool.{Bool, true, false}
 use mathlib.Core.List.{List, [], _∷_}
-use Prim.Native.Nat.{ℕ, suc, _-_}
-use lib.ListN.{take, drop}
-use Rattle.graph.specs.Graph.{Blocks}
+use Prim.Native.Nat.{ℕ, suc}
 
 -- the zeros before each one of D, and all of them at the end, after z zeros
 unfoldable pub startsFrom : ℕ → List Bool → List ℕ
@@ -13,9 +11,3 @@ startsFrom z (false ∷ d) = startsFrom (suc z) d
 
 abbrev pub startsOf : List Bool → List ℕ
 startsOf d = startsFrom 0 d
-
--- the parts of a list between one start and the next
-unfoldable pub cut : List ℕ → List ℕ → Blocks
-cut [] l = []
-cut (a ∷ []) l = []
-cut (a ∷ b ∷ starts) l = take (b - a) (drop a l) ∷ cut (b ∷ starts) l

@@ -5,8 +5,7 @@ use mathlib.Core.Bool.{Bool, true, false}
 use mathlib.Core.List.{List}
 use lib.ListN.{length, getD}
 use Rattle.graph.specs.Graph.{block, mentions}
-use Rattle.record.specs.Starts.{cut}
-use Rattle.record.specs.Flat.{Holds, latest}
+use Rattle.record.specs.Arrays.{cut, Holds, latest}
 
 -- ---- rule 7: for each terminal a mark, 1 + the last block that has it
 

@@ -1,9 +1,8 @@
 // Rule 7 in one pass over the places: each terminal is marked with the last block that has it, and a mark of this block is a repeat.
 ghost use mathlib.Core.Path.{_≡_};
 ghost use Prim.Native.Nat.{_+_};
-ghost use Rattle.record.specs.Starts.{cut};
+ghost use Rattle.record.specs.Arrays.{cut, Arrays, At};
 ghost use Rattle.record.specs.Rules.{anyPlace, doubled as doubledOf};
-ghost use Rattle.record.specs.Flat.{Input, At};
 ghost use Rattle.record.specs.Tally.{Fresh, Repeats};
 use super::cells::get;
 use super::cells::put;
@@ -29,7 +28,7 @@ fn repeats(starts: &[u16], nbrs: &[u16], u: usize, last: &mut [u16]) -> bool
 
 // Rule 7: a neighbour stands twice in one block.
 pub fn some_doubled(starts: &[u16], nbrs: &[u16]) -> bool
-    requires { ⌜ Input (now starts) (now nbrs) ⌝ }
+    requires { ⌜ Arrays (now starts) (now nbrs) ⌝ }
     ensures { λ r. ⌜ r ≡ anyPlace (doubledOf (cut (now (starts .entry)) (now (nbrs .entry)))) (cut (now (starts .entry)) (now (nbrs .entry))) ⌝ }
 {
     let n = starts.len() - 1;

@@ -6,7 +6,7 @@ ghost use mathlib.Core.Path.{_≡_};
 ghost use mathlib.Core.Bool.{true};
 ghost use Prim.Native.Nat.{_+_, _-_, _<_};
 ghost use lib.ListN.{length, getD};
-ghost use Rattle.record.specs.Flat.{Divided, Holds};
+ghost use Rattle.record.specs.Arrays.{Divided, Holds};
 ghost use Rattle.record.specs.Reverse.{Turned, Turning, Matching, AtStarts, AtEnds, Kept};
 use super::cells::get;
 use super::cells::put;

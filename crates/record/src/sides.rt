@@ -6,9 +6,8 @@ ghost use mathlib.Core.Path.{_≡_};
 ghost use Prim.Native.Nat.{_+_, _<_};
 ghost use lib.ListN.{length, getD, set};
 ghost use Rattle.graph.specs.Graph.{block};
-ghost use Rattle.record.specs.Starts.{cut};
+ghost use Rattle.record.specs.Arrays.{cut, Arrays, At};
 ghost use Rattle.record.specs.Rules.{anyPlace, oneSided as oneSidedOf};
-ghost use Rattle.record.specs.Flat.{Input, At};
 ghost use Rattle.record.specs.Tally.{Listed, Clear, CountsOf, Within, CountedOff, Settled};
 use super::cells::get;
 use super::cells::put;
@@ -46,7 +45,7 @@ fn enter_block(
 
 // All places go to their lists.
 fn enter_all(starts: &[u16], nbrs: &[u16], head: &mut [u16], link: &mut [u16], from: &mut [u16])
-    requires { ⌜ (Input (now starts) (now nbrs)) × (Listed (now starts) (now nbrs) 0 (now head) (now link) (now from)) ⌝ }
+    requires { ⌜ (Arrays (now starts) (now nbrs)) × (Listed (now starts) (now nbrs) 0 (now head) (now link) (now from)) ⌝ }
     ensures { λ _. ⌜ Listed (now (starts .entry)) (now (nbrs .entry)) (length (now (nbrs .entry))) (now (head .exit)) (now (link .exit)) (now (from .exit)) ⌝ }
 {
     let n = starts.len() - 1;
@@ -136,7 +135,7 @@ fn exceeded(
 
 // Rule 8: the two ends of a wire mention each other a different number of times.
 pub fn some_one_sided(starts: &[u16], nbrs: &[u16]) -> bool
-    requires { ⌜ Input (now starts) (now nbrs) ⌝ }
+    requires { ⌜ Arrays (now starts) (now nbrs) ⌝ }
     ensures { λ r. ⌜ r ≡ anyPlace (oneSidedOf (cut (now (starts .entry)) (now (nbrs .entry)))) (cut (now (starts .entry)) (now (nbrs .entry))) ⌝ }
 {
     let n = starts.len() - 1;

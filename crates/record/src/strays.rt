@@ -4,8 +4,7 @@ ghost use Prim.Native.Nat.{_+_, _<_};
 ghost use lib.ListN.{length};
 ghost use Rattle.graph.specs.Graph.{block};
 ghost use Rattle.record.specs.Rules.{anyIn, anyPlace, stray};
-ghost use Rattle.record.specs.Starts.{cut};
-ghost use Rattle.record.specs.Flat.{Divided};
+ghost use Rattle.record.specs.Arrays.{cut, Divided};
 use super::cells::get;
 
 // Whether such a neighbour stands in block u.

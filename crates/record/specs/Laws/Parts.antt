@@ -13,7 +13,8 @@ use Rattle.graph.specs.Graph.{Blocks, block}
 use Rattle.graph.specs.Laws.Places.Basics.{clash}
 use Rattle.record.specs.Record.{zeros, parts}
 use Rattle.record.specs.Rules.{beginsWithZero}
-use Rattle.record.specs.Starts.{startsFrom, startsOf, cut}
+use Rattle.record.specs.Starts.{startsFrom, startsOf}
+use Rattle.record.specs.Arrays.{cut}
 
 -- ---- how many
 

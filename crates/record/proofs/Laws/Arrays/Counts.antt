@@ -5,8 +5,7 @@ use mathlib.Core.List.{List, [], _∷_}
 use native.Mathlib.Omega.{arith}
 use lib.ListN.{length, getD, take, drop, length-take, take-append-drop}
 use Rattle.graph.specs.Graph.{block, mentions}
-use Rattle.record.specs.Starts.{cut}
-use Rattle.record.specs.Flat.{Divided, Holds, upTo}
+use Rattle.record.specs.Arrays.{cut, Divided, Holds, upTo}
 use Rattle.record.proofs.Laws.Arrays.Mentions.{mentions-append, mentions-le, one-hit, one-miss}
 use Rattle.record.proofs.Laws.Arrays.Parts.{Step, inside, outside, step, upto-start, upto-next}
 

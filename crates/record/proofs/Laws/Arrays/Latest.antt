@@ -8,7 +8,7 @@ use native.Mathlib.Numerals.{add-one}
 use lib.ListN.{getD}
 use borrow.Author.Tests.{eq-eqb, ne-eqb}
 use Rattle.graph.specs.Graph.{mentions}
-use Rattle.record.specs.Flat.{Divided, upTo, latest}
+use Rattle.record.specs.Arrays.{Divided, upTo, latest}
 use Rattle.record.proofs.Laws.Arrays.Counts.{count-miss}
 
 module _ (v : ℕ) (nbrs : List ℕ) where

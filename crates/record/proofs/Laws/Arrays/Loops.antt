@@ -5,9 +5,9 @@ use mathlib.Core.List.{List}
 use native.Mathlib.Omega.{arith}
 use lib.ListN.{length, getD}
 use Rattle.graph.specs.Graph.{block, mentions}
-use Rattle.record.specs.Starts.{cut}
-use Rattle.record.specs.Flat.{Divided, Input, At, Holds, upTo}
-use Rattle.record.proofs.Laws.Arrays.Parts.{starts-fit, upto-past}
+use Rattle.record.specs.Arrays.{cut, Divided, Arrays, At, Holds, upTo}
+use Rattle.record.specs.Laws.Rows.{starts-fit}
+use Rattle.record.proofs.Laws.Arrays.Parts.{upto-past}
 use Rattle.record.proofs.Laws.Arrays.Counts.{count-hit, count-miss}
 
 -- ---- all terminals
@@ -36,16 +36,16 @@ module _ {starts : List ℕ} {n u : ℕ} where
 
 -- there are n terminals
 pub record Sized (starts nbrs : List ℕ) (n : ℕ) : Type 0 where
-  pub input : Input starts nbrs
+  pub arrays : Arrays starts nbrs
   pub number : n + 1 ≡ length starts
   pub small : n ≤ 4096
 
 module _ {starts nbrs : List ℕ} {n : ℕ} where
-  pub sized-start : Input starts nbrs → n ≡ length starts - 1 → Sized starts nbrs n
-  sized-start i e = let a = i .divided .some in let b = i .divided .few-blocks in record { input = i; number = omega arith; small = omega arith }
+  pub sized-start : Arrays starts nbrs → n ≡ length starts - 1 → Sized starts nbrs n
+  sized-start i e = let a = i .divided .some in let b = i .divided .few-blocks in record { arrays = i; number = omega arith; small = omega arith }
 
   pub sized-at : Sized starts nbrs n → {u : ℕ} → u < n → At starts nbrs u
-  sized-at t h = record { input = t .input; inside = let e = t .number in omega arith }
+  sized-at t h = record { arrays = t .arrays; inside = let e = t .number in omega arith }
 
 -- ---- one block
 
@@ -79,17 +79,17 @@ pub record Span (starts nbrs : List ℕ) (u end p : ℕ) : Type 0 where
 module _ {starts nbrs : List ℕ} {u end p : ℕ} where
   pub span-start : At starts nbrs u → end ≡ getD starts (u + 1) 0 → p ≡ getD starts u 0 → Span starts nbrs u end p
   span-start at e f =
-      let l = starts-fit (at .input .divided) (u + 1) (at .inside) in
-      record { at = at; along = along-start (at .input .divided) (at .inside) e f; fits = omega arith }
+      let l = starts-fit (at .arrays .divided) (u + 1) (at .inside) in
+      record { at = at; along = along-start (at .arrays .divided) (at .inside) e f; fits = omega arith }
 
   module _ (s : Span starts nbrs u end p) where
     -- the block is passed
     pub span-whole : end ≤ p → (v : ℕ) → mentions v (upTo starts nbrs u p) ≡ mentions v (block (cut starts nbrs) u)
-    span-whole l v = let e = along-end (s .along) l in ap (mentions v) (upto-past (s .at .input .divided) u p (s .at .inside) (omega arith))
+    span-whole l v = let e = along-end (s .along) l in ap (mentions v) (upto-past (s .at .arrays .divided) u p (s .at .inside) (omega arith))
 
     module _ (l : p < end) where
       pub span-place : (p < length nbrs) × (length nbrs ≤ 32768)
-      span-place = let f = s .fits in (omega arith, s .at .input .divided .few-places)
+      span-place = let f = s .fits in (omega arith, s .at .arrays .divided .few-places)
 
       pub span-more : Span starts nbrs u end (p + 1)
       span-more = record { at = s .at; along = along-more (s .along) l; fits = s .fits }
@@ -97,10 +97,10 @@ module _ {starts nbrs : List ℕ} {u end p : ℕ} where
       -- v stands there
       module _ {v : ℕ} (e : v ≡ getD nbrs p 0) where
         pub span-known : v < 4096
-        span-known = let k = s .at .input .known p (span-place .0) in omega arith
+        span-known = let k = s .at .arrays .known p (span-place .0) in omega arith
 
         pub span-hit : {w : ℕ} → w ≡ v → mentions w (upTo starts nbrs u (p + 1)) ≡ mentions w (upTo starts nbrs u p) + 1
-        span-hit {w} q = count-hit (s .at .input .divided) u p w (along-holds (s .along) l) (q ∙ e)
+        span-hit {w} q = count-hit (s .at .arrays .divided) u p w (along-holds (s .along) l) (q ∙ e)
 
         pub span-miss : {w : ℕ} → (w ≡ v → ⊥) → mentions w (upTo starts nbrs u (p + 1)) ≡ mentions w (upTo starts nbrs u p)
-        span-miss {w} n = count-miss (s .at .input .divided) u p w (λ q. n (q ∙ sym e))
+        span-miss {w} n = count-miss (s .at .arrays .divided) u p w (λ q. n (q ∙ sym e))

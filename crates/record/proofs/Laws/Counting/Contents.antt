@@ -10,8 +10,8 @@ use lib.ListN.{length, getD}
 use Rattle.bits.specs.Bits.{bits}
 use Rattle.graph.specs.Graph.{Blocks}
 use Rattle.record.specs.Record.{terminals, unary, fieldsFrom, fields, blocks}
-use Rattle.record.specs.Starts.{startsOf, cut}
-use Rattle.record.specs.Flat.{Divided, Input}
+use Rattle.record.specs.Starts.{startsOf}
+use Rattle.record.specs.Arrays.{cut, Divided, Arrays}
 use Rattle.record.specs.Reverse.{Kept}
 use Rattle.record.specs.Rules.{firstBroken, anyPlace, spareSet, stray, doubled, oneSided, checkRules}
 use Rattle.record.specs.Answers.{Answer, answered, sizesOf}
@@ -50,17 +50,17 @@ module _ {bytes : List ℕ} {n m : ℕ} (s : Sound bytes n m) where
 
 -- ---- rules 6 to 8: the starts and the fields are read, and no spare bit is set
 
-pub record Arrays (bytes starts nbrs : List ℕ) (n m : ℕ) : Type 0 where
+pub record ArraysOf (bytes starts nbrs : List ℕ) (n m : ℕ) : Type 0 where
   pub sound : Sound bytes n m
   pub clear : spareSet bytes ≡ false
   pub are-starts : starts ≡ startsOf (unary bytes)
   pub are-fields : nbrs ≡ fields bytes
 
 pub arrays-read : {bytes starts nbrs : List ℕ} {n m k : ℕ} → Sound bytes n m → spareSet bytes ≡ false → k ≡ 2 * m
-    → starts ≡ startsOf (unary bytes) → nbrs ≡ raised 0 (fieldsFrom (bits bytes) (28 + (n + 2 * m)) k) → Arrays bytes starts nbrs n m
+    → starts ≡ startsOf (unary bytes) → nbrs ≡ raised 0 (fieldsFrom (bits bytes) (28 + (n + 2 * m)) k) → ArraysOf bytes starts nbrs n m
 arrays-read {bytes} s clear h e f = record { sound = s; clear = clear; are-starts = e; are-fields = f ∙ fields-read s 0 h ∙ raised-none (fields bytes) }
 
-module _ {bytes starts nbrs : List ℕ} {n m : ℕ} (r : Arrays bytes starts nbrs n m) where
+module _ {bytes starts nbrs : List ℕ} {n m : ℕ} (r : ArraysOf bytes starts nbrs n m) where
   same-blocks : cut starts nbrs ≡ blocks bytes
   same-blocks = ap₂ cut (r .are-starts) (r .are-fields) ∙ sym (blocks-cut (sound-shaped (r .sound)))
 
@@ -96,7 +96,7 @@ module _ {bytes starts nbrs : List ℕ} {n m : ℕ} (r : Arrays bytes starts nbr
     rule-6 e = rule-6-next ∙ first-broken 6 _ e
 
     module _ (no-stray : a ≡ false) where
-      pub arrays-input : Input starts nbrs
+      pub arrays-input : Arrays starts nbrs
       arrays-input = record {
         divided = arrays-divided;
         known = λ p h. (

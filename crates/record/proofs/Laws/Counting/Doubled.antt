@@ -9,9 +9,8 @@ use borrow.Author.Count.{below-more}
 use borrow.Author.Tests.{lt-ltb, le-ltb}
 use Rattle.graph.specs.Graph.{block, mentions}
 use Rattle.graph.specs.Laws.Places.Pairing.{source}
-use Rattle.record.specs.Starts.{cut}
+use Rattle.record.specs.Arrays.{cut, Arrays}
 use Rattle.record.specs.Rules.{anyPlace, doubled}
-use Rattle.record.specs.Flat.{Input}
 use Rattle.record.specs.Tally.{Fresh, Repeats}
 use Rattle.record.specs.Laws.Anywhere.{somewhere, nowhere}
 use Rattle.record.proofs.Laws.Arrays.Mentions.{mention-place}
@@ -26,7 +25,7 @@ pub record Single (starts nbrs : List ℕ) (n u : ℕ) (last : List ℕ) : Type 
   pub single : (w : ℕ) → w < u → (v : ℕ) → mentions v (block (cut starts nbrs) w) ≤ 1
 
 module _ {starts nbrs : List ℕ} {n : ℕ} where
-  pub single-start : Input starts nbrs → n ≡ length starts - 1 → Single starts nbrs n 0 (replicate 4096 0)
+  pub single-start : Arrays starts nbrs → n ≡ length starts - 1 → Single starts nbrs n 0 (replicate 4096 0)
   single-start i e = record {
     sized = sized-start i e;
     fresh = record { size = length-replicate {A = ℕ} 4096 0; below = λ v. (let z = cell-zero 4096 v in omega arith) };

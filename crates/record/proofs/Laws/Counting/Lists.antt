@@ -5,7 +5,7 @@ use mathlib.Core.List.{List}
 use native.Mathlib.Omega.{arith}
 use native.Mathlib.Decide.{ℕ-discrete}
 use lib.ListN.{length, getD, set, length-set, replicate, length-replicate}
-use Rattle.record.specs.Flat.{Input, At, Holds, latest}
+use Rattle.record.specs.Arrays.{Arrays, At, Holds, latest}
 use Rattle.record.specs.Tally.{Listed}
 use Rattle.record.specs.Laws.Stores.{cell-zero, cell-same, cell-other}
 use Rattle.record.proofs.Laws.Arrays.Latest.{latest-zero, latest-hit, latest-miss}
@@ -82,7 +82,7 @@ pub record Filled (starts nbrs : List ℕ) (n u : ℕ) (head link from : List �
   pub listed : Listed starts nbrs (getD starts u 0) head link from
 
 module _ {starts nbrs : List ℕ} {n : ℕ} {head link from : List ℕ} where
-  pub filled-start : Input starts nbrs → n ≡ length starts - 1 → Listed starts nbrs 0 head link from → Filled starts nbrs n 0 head link from
+  pub filled-start : Arrays starts nbrs → n ≡ length starts - 1 → Listed starts nbrs 0 head link from → Filled starts nbrs n 0 head link from
   filled-start i e l = record { sized = sized-start i e; round = round-start (i .divided .some) e refl; listed = rw (i .divided .first) l }
 
   module _ {u : ℕ} (f : Filled starts nbrs n u head link from) where
@@ -91,4 +91,4 @@ module _ {starts nbrs : List ℕ} {n : ℕ} {head link from : List ℕ} where
     filled-more h l = record { sized = f .sized; round = round-more (f .round) h; listed = l }
 
     pub filled-end : n ≤ u → Listed starts nbrs (length nbrs) head link from
-    filled-end h = rw (round-last (f .round) (f .sized .input .divided) h) at (f .listed)
+    filled-end h = rw (round-last (f .round) (f .sized .arrays .divided) h) at (f .listed)

@@ -7,8 +7,7 @@ use native.Mathlib.Decide.{ℕ-discrete}
 use lib.ListN.{length, getD}
 use borrow.Author.Count.{below-more}
 use Rattle.graph.specs.Graph.{block, mentions}
-use Rattle.record.specs.Starts.{cut}
-use Rattle.record.specs.Flat.{Divided, Holds, upTo}
+use Rattle.record.specs.Arrays.{cut, Divided, Holds, upTo}
 use Rattle.record.specs.Reverse.{Turned, AtStarts, Matching}
 use Rattle.record.proofs.Laws.Arrays.Parts.{upto-past}
 use Rattle.record.proofs.Laws.Arrays.Counts.{count-start, count-hit, count-miss}

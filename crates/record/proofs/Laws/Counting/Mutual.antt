@@ -10,9 +10,8 @@ use borrow.Author.Tests.{lt-leb, le-ltb, eq-eqb, ne-eqb}
 use Rattle.graph.specs.Graph.{block, mentions, Place}
 use Rattle.graph.specs.Laws.Places.Mentions.{mention-found}
 use Rattle.graph.specs.Laws.Places.Pairing.{source}
-use Rattle.record.specs.Starts.{cut}
+use Rattle.record.specs.Arrays.{cut, upTo}
 use Rattle.record.specs.Rules.{stray, doubled, oneSided}
-use Rattle.record.specs.Flat.{upTo}
 use Rattle.record.specs.Reverse.{Turning, AtEnds, Matching, Kept}
 use Rattle.record.specs.Laws.Anywhere.{nowhere}
 use Rattle.record.specs.Laws.Parts.{length-cut}

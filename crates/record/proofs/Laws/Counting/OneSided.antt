@@ -10,14 +10,13 @@ use borrow.Author.Count.{below-more}
 use borrow.Author.Tests.{eq-eqb, ne-eqb}
 use Rattle.graph.specs.Graph.{block, mentions, Place}
 use Rattle.graph.specs.Laws.Places.Pairing.{source}
-use Rattle.record.specs.Starts.{cut}
+use Rattle.record.specs.Arrays.{cut, Arrays}
 use Rattle.record.specs.Rules.{anyPlace, oneSided}
-use Rattle.record.specs.Flat.{Input}
 use Rattle.record.specs.Tally.{Listed, Clear, Settled}
 use Rattle.record.specs.Laws.Anywhere.{somewhere, nowhere}
 use Rattle.record.proofs.Laws.Arrays.Mentions.{mention-place}
 use Rattle.record.specs.Laws.Parts.{length-cut}
-use Rattle.record.proofs.Laws.Arrays.Parts.{place-known}
+use Rattle.record.specs.Laws.Rows.{place-known}
 use Rattle.record.proofs.Laws.Arrays.Loops.{Sized, sized-start, sized-at}
 
 -- the places are listed, the counts are clear, and the terminals before u are settled
@@ -28,7 +27,7 @@ pub record Even (starts nbrs head link from : List ℕ) (n u : ℕ) (counts : Li
   pub under : (w : ℕ) → w < u → (s : ℕ) → mentions w (block (cut starts nbrs) s) ≤ mentions s (block (cut starts nbrs) w)
 
 module _ {starts nbrs head link from : List ℕ} {n : ℕ} {counts : List ℕ} where
-  pub even-start : Input starts nbrs → n ≡ length starts - 1 → Listed starts nbrs (length nbrs) head link from → Clear counts
+  pub even-start : Arrays starts nbrs → n ≡ length starts - 1 → Listed starts nbrs (length nbrs) head link from → Clear counts
       → Even starts nbrs head link from n 0 counts
   even-start i e l c = record { sized = sized-start i e; listed = l; clear = c; under = λ w h. absurd (omega arith) }
 

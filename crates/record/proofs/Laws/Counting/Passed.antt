@@ -11,10 +11,9 @@ use lib.ListN.{length, take, drop, getD, length-drop}
 use lib.Seq.{take-add, take-suc, take-all, split-at, getD-drop, length-take-le}
 use Rattle.graph.specs.Graph.{Blocks, block}
 use Rattle.record.specs.Rules.{anyIn, anyFrom, anyPlace, stray}
-use Rattle.record.specs.Starts.{cut}
-use Rattle.record.specs.Flat.{Divided}
+use Rattle.record.specs.Arrays.{cut, Divided}
 use Rattle.record.specs.Laws.Parts.{length-cut, cut-block}
-use Rattle.record.proofs.Laws.Arrays.Parts.{starts-fit}
+use Rattle.record.specs.Laws.Rows.{starts-fit}
 
 or-false : {a b : Bool} → a ≡ false → b ≡ false → (a || b) ≡ false
 or-false p q = rw (p, q)

@@ -7,8 +7,7 @@ use native.Mathlib.Omega.{arith}
 use native.Mathlib.Decide.{ℕ-discrete}
 use lib.ListN.{length, getD, set, length-set, replicate, length-replicate}
 use Rattle.graph.specs.Graph.{block, mentions}
-use Rattle.record.specs.Starts.{cut}
-use Rattle.record.specs.Flat.{At, upTo}
+use Rattle.record.specs.Arrays.{cut, At, upTo}
 use Rattle.record.specs.Tally.{Clear, CountsOf, Within, CountedOff, Settled}
 use Rattle.record.specs.Laws.Stores.{cell-zero, cell-same, cell-other}
 use Rattle.record.proofs.Laws.Arrays.Counts.{count-start, count-le, count-part}

@@ -6,10 +6,11 @@ use native.Mathlib.Omega.{arith}
 use native.Mathlib.Decide.{ℕ-discrete}
 use lib.ListN.{length, getD, set, length-set}
 use Rattle.graph.specs.Graph.{mentions}
-use Rattle.record.specs.Flat.{Divided, Holds, upTo}
+use Rattle.record.specs.Arrays.{Divided, Holds, upTo}
 use Rattle.record.specs.Reverse.{Turned, Turning, AtStarts}
 use Rattle.record.specs.Laws.Stores.{cell-same, cell-other}
-use Rattle.record.proofs.Laws.Arrays.Parts.{starts-fit, one-block, divided-too, upto-other}
+use Rattle.record.specs.Laws.Rows.{starts-fit, one-block, divided-too}
+use Rattle.record.proofs.Laws.Arrays.Parts.{upto-other}
 use Rattle.record.proofs.Laws.Arrays.Counts.{count-start, count-hit, count-miss, count-agree}
 
 -- ---- nothing is turned round yet

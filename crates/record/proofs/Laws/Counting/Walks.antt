@@ -7,8 +7,7 @@ use native.Mathlib.Omega.{arith}
 use native.Mathlib.Decide.{ℕ-discrete}
 use lib.ListN.{length, getD, set, length-set}
 use Rattle.graph.specs.Graph.{block, mentions}
-use Rattle.record.specs.Starts.{cut}
-use Rattle.record.specs.Flat.{At, Holds, upTo, latest}
+use Rattle.record.specs.Arrays.{cut, At, Holds, upTo, latest}
 use Rattle.record.specs.Tally.{Listed, CountsOf, CountedOff}
 use Rattle.record.specs.Laws.Stores.{cell-same, cell-other}
 use Rattle.record.proofs.Laws.Arrays.Parts.{upto-end, upto-other}
@@ -33,8 +32,8 @@ module _ {starts nbrs head link from : List ℕ} {u x : ℕ} {counts : List ℕ}
     here = latest-link u nbrs (length nbrs);
     same = λ s. (
         let a = k .same s in
-        let b = count-latest (at .input .divided) s u (length nbrs) in
-        let c = ap (mentions u) (upto-end (at .input .divided) s) in
+        let b = count-latest (at .arrays .divided) s u (length nbrs) in
+        let c = ap (mentions u) (upto-end (at .arrays .divided) s) in
         omega arith
         );
   })
@@ -53,7 +52,7 @@ module _ {starts nbrs head link from : List ℕ} {u x : ℕ} {counts : List ℕ}
       x-is = omega arith
 
       pub walk-place : (q < length nbrs) × (length nbrs ≤ 32768)
-      walk-place = let h = w .here .below in (omega arith, w .at .input .divided .few-places)
+      walk-place = let h = w .here .below in (omega arith, w .at .arrays .divided .few-places)
 
       leads : u ≡ getD nbrs q 0
       leads = latest-leads u nbrs q (rw x-is at (w .here .own))
@@ -70,7 +69,7 @@ module _ {starts nbrs head link from : List ℕ} {u x : ℕ} {counts : List ℕ}
         holds = rw es (w .listed .owned q (walk-place .0))
 
         pub walk-source : s < 4096
-        walk-source = let a = holds .inside in let b = w .at .input .divided .few-blocks in omega arith
+        walk-source = let a = holds .inside in let b = w .at .arrays .divided .few-blocks in omega arith
 
         module _ {c : ℕ} (ec : c ≡ getD counts s 0) where
           pub walk-found : c ≡ 0 → CountedOff starts nbrs u counts true
@@ -78,7 +77,7 @@ module _ {starts nbrs head link from : List ℕ} {u x : ℕ} {counts : List ℕ}
             size = w .size;
             found = λ t. record {
               who = s;
-              over = let a = rw x-is at (w .same s) in let b = count-hit (w .at .input .divided) s q u holds leads in omega arith;
+              over = let a = rw x-is at (w .same s) in let b = count-hit (w .at .arrays .divided) s q u holds leads in omega arith;
             };
             left = λ t. absurd (true≢false t);
           }
@@ -93,7 +92,7 @@ module _ {starts nbrs head link from : List ℕ} {u x : ℕ} {counts : List ℕ}
                 listed = w .listed;
                 size = length-set counts s (c - 1) ∙ w .size;
                 here = record { below = omega arith; own = k .own };
-                same = λ t. rw (count-latest (w .at .input .divided) t u q) (go t (ℕ-discrete t s) (rw x-is at (w .same t)));
+                same = λ t. rw (count-latest (w .at .arrays .divided) t u q) (go t (ℕ-discrete t s) (rw x-is at (w .same t)));
               })
             where
               go : (t : ℕ) → Dec (t ≡ s)
@@ -101,10 +100,10 @@ module _ {starts nbrs head link from : List ℕ} {u x : ℕ} {counts : List ℕ}
                   → getD (set counts s (c - 1)) t 0 + mentions u (block (cut starts nbrs) t) ≡ mentions t (block (cut starts nbrs) u) + mentions u (upTo starts nbrs t q)
               go t (yes e) r =
                   let a = cell-same counts (c - 1) e (let z = w .size in let k = walk-source in omega arith) in
-                  let b = count-hit (w .at .input .divided) t q u (rw e holds) leads in
+                  let b = count-hit (w .at .arrays .divided) t q u (rw e holds) leads in
                   let d : getD counts t 0 ≡ c = ap (λ j. getD counts j 0) e ∙ sym ec in
                   omega arith
               go t (no e) r =
                   let a = cell-other counts {i = s} {j = t} (c - 1) e in
-                  let b = ap (mentions u) (upto-other (w .at .input .divided) holds e) in
+                  let b = ap (mentions u) (upto-other (w .at .arrays .divided) holds e) in
                   omega arith

@@ -1,7 +1,7 @@
 -- `strays::stray_in` meets its contract: no neighbour passed is a stray one.
 use Prim.Native.Nat.{_+_, _-_}
 use native.Mathlib.Omega.{arith}
-use Rattle.record.proofs.Laws.Arrays.Parts.{starts-fit}
+use Rattle.record.specs.Laws.Rows.{starts-fit}
 use Rattle.record.proofs.Laws.Counting.Passed.{Unstrayed, unstrayed-start, unstrayed-more, unstrayed-end, no-terminal, own-neighbour}
 use Rattle.record.proofs.strays.stray_in.Statement.{statement}
 use Rattle.record.proofs.strays.stray_in.Tie as tie

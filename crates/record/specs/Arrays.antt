@@ -1,12 +1,23 @@
--- The blocks as two arrays: where each block starts, and the neighbours of all blocks in a row. A place is a position in that row.
+-- A graph in two arrays: where the block of each vertex starts, and the neighbours of all blocks in a row. A place is a position in that row.
+--   cut starts nbrs      the graph that the two arrays hold: the parts of the row between one start and the next
+--   Divided starts nbrs  the starts rise from 0 to the end of the row
+--   Arrays starts nbrs   and each neighbour is a vertex
+--   At starts nbrs u     and u is a vertex
+--   Holds starts u p     place p is in u's block
+--   upTo, latest         what a loop over the places has passed: the part of a block, and the last place of a vertex
 use Prim.Native.Nat.{ℕ, zero, suc, _+_, _-_, _≤_, _<_}
 use mathlib.Core.Path.{_≡_}
 use mathlib.Core.Bool.{true, false}
-use mathlib.Core.List.{List}
+use mathlib.Core.List.{List, [], _∷_}
 use lib.Dec.{eqb}
-use lib.ListN.{length, getD, take}
-use Rattle.graph.specs.Graph.{block}
-use Rattle.record.specs.Starts.{cut}
+use lib.ListN.{length, getD, take, drop}
+use Rattle.graph.specs.Graph.{Blocks, block}
+
+-- the graph: the parts of a list between one start and the next
+unfoldable pub cut : List ℕ → List ℕ → Blocks
+cut [] l = []
+cut (a ∷ []) l = []
+cut (a ∷ b ∷ starts) l = take (b - a) (drop a l) ∷ cut (b ∷ starts) l
 
 -- the starts rise from 0 to the end of the row, with at most 4,096 blocks and 32,768 neighbours
 pub record Divided (starts nbrs : List ℕ) : Type 0 where
@@ -17,14 +28,14 @@ pub record Divided (starts nbrs : List ℕ) : Type 0 where
   pub few-blocks : length starts ≤ 4097
   pub few-places : length nbrs ≤ 32768
 
--- and each neighbour is a terminal: what rule 6 leaves
-pub record Input (starts nbrs : List ℕ) : Type 0 where
+-- and each neighbour is a vertex: what rule 6 leaves
+pub record Arrays (starts nbrs : List ℕ) : Type 0 where
   pub divided : Divided starts nbrs
   pub known : (p : ℕ) → p < length nbrs → getD nbrs p 0 + 1 < length starts
 
--- u is a terminal of such arrays
+-- u is a vertex of such arrays
 pub record At (starts nbrs : List ℕ) (u : ℕ) : Type 0 where
-  pub input : Input starts nbrs
+  pub arrays : Arrays starts nbrs
   pub inside : u + 1 < length starts
 
 -- place p is in u's block

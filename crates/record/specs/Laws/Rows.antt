@@ -1,0 +1,83 @@
+-- The blocks of a graph in two arrays: where each lies in the row, and what stands in it.
+--   starts-fit     no start is past the row
+--   one-block      a place is in one block
+--   divided-too    a row of the same length is divided by the same starts
+--   row-size       a block reaches from its start to the next
+--   row-neighbour  the neighbour at a position of a block
+--   place-known    what a block mentions is a vertex
+use Prim.Native.Nat.{ℕ, zero, suc, _+_, _-_, _≤_, _<_}
+use mathlib.Core.Path.{_≡_, sym, _∙_, ap}
+use mathlib.Core.List.{List}
+use native.Mathlib.Omega.{arith}
+use native.Mathlib.Decide.{decLt}
+use lib.ListN.{length, getD, take, drop, length-drop}
+use lib.Seq.{length-take-le, getD-take, getD-drop}
+use Rattle.graph.specs.Graph.{block, target, Place}
+use Rattle.record.specs.Arrays.{cut, Divided, At, Holds}
+use Rattle.record.specs.Laws.Parts.{length-cut, cut-block}
+
+-- ---- the starts rise
+
+module _ {starts nbrs : List ℕ} (i : Divided starts nbrs) where
+  starts-add : (u d : ℕ) → u + d < length starts → getD starts u 0 ≤ getD starts (u + d) 0
+  starts-add u zero h = let z : u + 0 ≡ u = omega arith in rw z (omega arith)
+  starts-add u (suc d) h =
+      let z : u + suc d ≡ u + d + 1 = omega arith in
+      let a = starts-add u d (omega arith) in
+      let b = i .rising (u + d) (omega arith) in
+      rw z (omega arith)
+
+  starts-mono : (u w : ℕ) → u ≤ w → w < length starts → getD starts u 0 ≤ getD starts w 0
+  starts-mono u w l h = let z : u + (w - u) ≡ w = omega arith in rw z at (starts-add u (w - u) (omega arith))
+
+  pub starts-fit : (u : ℕ) → u < length starts → getD starts u 0 ≤ length nbrs
+  starts-fit u h = rw (← i .last) (starts-mono u (length starts - 1) (omega arith) (let s = i .some in omega arith))
+
+  -- a place is in one block
+  pub one-block : {u w p : ℕ} → Holds starts u p → Holds starts w p → u ≡ w
+  one-block {u} {w} a b = go (decLt u w) (decLt w u)
+    where
+      go : Dec (u < w) → Dec (w < u) → u ≡ w
+      go (yes l) d = absurd (omega (arith, starts-mono (u + 1) w (omega arith) (omega arith)))
+      go (no l) (yes d) = absurd (omega (arith, starts-mono (w + 1) u (omega arith) (omega arith)))
+      go (no l) (no d) = omega arith
+
+-- a row of the same length is divided by the same starts
+pub divided-too : {starts nbrs other : List ℕ} → Divided starts nbrs → length other ≡ length nbrs → Divided starts other
+divided-too i e = record {
+  some = i .some;
+  first = i .first;
+  rising = i .rising;
+  last = i .last ∙ sym e;
+  few-blocks = i .few-blocks;
+  few-places = let f = i .few-places in omega arith;
+}
+
+-- ---- blocks
+
+module _ {starts nbrs : List ℕ} (i : Divided starts nbrs) (u : ℕ) (k : u + 1 < length starts) where
+  block-is : block (cut starts nbrs) u ≡ take (getD starts (u + 1) 0 - getD starts u 0) (drop (getD starts u 0) nbrs)
+  block-is = cut-block starts nbrs u k
+
+  pub row-size : length (block (cut starts nbrs) u) ≡ getD starts (u + 1) 0 - getD starts u 0
+  row-size =
+      let f = starts-fit i (u + 1) k in
+      ap length block-is ∙ length-take-le (getD starts (u + 1) 0 - getD starts u 0) (drop (getD starts u 0) nbrs) (simp length-drop (omega arith))
+
+  pub row-neighbour : (j : ℕ) → j < length (block (cut starts nbrs) u) → target (cut starts nbrs) u j ≡ getD nbrs (getD starts u 0 + j) 0
+  row-neighbour j h =
+      let l = row-size in
+      ap (λ b. getD b j 0) block-is
+      ∙ getD-take (getD starts (u + 1) 0 - getD starts u 0) (drop (getD starts u 0) nbrs) j 0 (omega arith)
+      ∙ getD-drop (getD starts u 0) nbrs j 0
+
+-- what a block mentions is a terminal
+pub place-known : {starts nbrs : List ℕ} {u j v : ℕ} → At starts nbrs u → Place (cut starts nbrs) u j v → v + 1 < length starts
+place-known {starts} {nbrs} {u} {j} at p =
+    let f = starts-fit (at .arrays .divided) (u + 1) (at .inside) in
+    let a = p .fits in
+    let b = row-size (at .arrays .divided) u (at .inside) in
+    let e = sym (p .leads) ∙ row-neighbour (at .arrays .divided) u (at .inside) j a in
+    let k = at .arrays .known (getD starts u 0 + j) (omega arith) in
+    omega arith
+
