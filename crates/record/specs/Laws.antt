@@ -13,7 +13,10 @@ pub mod Unary
 pub mod RoundTrip
 pub mod Sounded
 pub mod Spans
+pub mod Unpacked
 pub mod OneBlock
 pub mod Raised
 pub mod InOrder
 pub mod Stores
+pub mod Zeros
+pub mod Lending

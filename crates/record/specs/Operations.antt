@@ -6,10 +6,10 @@ use lib.Dec.{eqb, ltb}
 use lib.IntN.{ℤ, subℕ}
 use lib.ListN.{length, getD}
 use mathlib.Core.Path.{_≡_}
-use Rattle.graph.specs.Graph.{block}
+use Rattle.graph.specs.Graph.{Blocks, block}
 use Rattle.record.specs.Record.{terminals, wires, unary, fields, parts, blocks}
 use Rattle.record.specs.Starts.{startsOf}
-use Rattle.record.specs.Rules.{Rule, firstBroken, orderR, checkRules}
+use Rattle.record.specs.Rules.{Rule, firstBroken, orderR, placeRules, checkRules}
 use Rattle.record.specs.Answers.{Answer, tried, bufferAfter}
 
 -- a list has another length than this
@@ -19,6 +19,10 @@ otherLength l k = not (eqb (length l) k)
 -- a number that counts from 1, a terminal's or a visit's, is 0 or above n
 unfoldable pub outOfRange : ℕ → ℕ → Bool
 outOfRange n k = eqb k 0 || ltb n k
+
+-- what rules 6 to 8 say of a graph
+unfoldable pub checkGraph : Blocks → Answer (Unit {0})
+checkGraph g = tried (placeRules g) tt
 
 -- Check
 unfoldable pub check : List ℕ → Answer (Unit {0})

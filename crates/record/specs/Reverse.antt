@@ -4,7 +4,7 @@ use mathlib.Core.Path.{_≡_}
 use mathlib.Core.Bool.{false}
 use mathlib.Core.List.{List}
 use lib.ListN.{length, getD}
-use Rattle.graph.specs.Graph.{block, mentions}
+use Rattle.graph.specs.Graph.{Blocks, block, mentions}
 use Rattle.record.specs.Arrays.{cut, Divided, upTo}
 use Rattle.record.specs.Rules.{anyPlace, stray, doubled, oneSided}
 
@@ -12,7 +12,7 @@ use Rattle.record.specs.Rules.{anyPlace, stray, doubled, oneSided}
 pub record Turned (starts nbrs reverse next : List ℕ) (p : ℕ) : Type 0 where
   pub divided : Divided starts nbrs
   pub size : length reverse ≡ length nbrs
-  pub cells : length next ≡ 4096
+  pub cells : length next + 1 ≡ length starts
   pub near : (v : ℕ) → v + 1 < length starts → (getD starts v 0 ≤ getD next v 0) × (getD next v 0 ≤ getD starts (v + 1) 0)
   pub same : (v w : ℕ) → v + 1 < length starts → mentions w (upTo starts reverse v (getD next v 0)) ≡ mentions v (upTo starts nbrs w p)
 
@@ -23,7 +23,7 @@ pub record Turning (starts nbrs reverse next : List ℕ) (p : ℕ) : Type 0 wher
 
 -- `next` is at the start of each part
 pub record AtStarts (starts next : List ℕ) : Type 0 where
-  pub cells : length next ≡ 4096
+  pub cells : length next + 1 ≡ length starts
   pub begins : (v : ℕ) → v + 1 < length starts → getD next v 0 ≡ getD starts v 0
 
 -- `next` is at the end of each part
@@ -36,7 +36,7 @@ pub record Matching (starts reverse next : List ℕ) (u : ℕ) : Type 0 where
   pub single : (w : ℕ) → w < u → (v : ℕ) → mentions v (block (cut starts reverse) w) ≤ 1
 
 -- rules 6 to 8 are kept
-pub record Kept (starts nbrs : List ℕ) : Type 0 where
-  pub no-stray : anyPlace (stray (cut starts nbrs)) (cut starts nbrs) ≡ false
-  pub no-double : anyPlace (doubled (cut starts nbrs)) (cut starts nbrs) ≡ false
-  pub no-one-sided : anyPlace (oneSided (cut starts nbrs)) (cut starts nbrs) ≡ false
+pub record Kept (g : Blocks) : Type 0 where
+  pub no-stray : anyPlace (stray g) g ≡ false
+  pub no-double : anyPlace (doubled g) g ≡ false
+  pub no-one-sided : anyPlace (oneSided g) g ≡ false

@@ -60,12 +60,14 @@ doubled g u v = ltb 1 (mentions v (block g u))
 unfoldable pub oneSided : Blocks → ℕ → ℕ → Bool
 oneSided g u v = not (eqb (mentions v (block g u)) (mentions u (block g v)))
 
+-- rules 6 to 8, each over the whole graph
+unfoldable pub placeRules : Blocks → List Rule
+placeRules g = (6, anyPlace (stray g) g) ∷ (7, anyPlace (doubled g) g) ∷ (8, anyPlace (oneSided g) g) ∷ []
+
+-- order R and rule 5, which ask for the layout alone
+unfoldable pub layoutRules : List ℕ → List Rule
+layoutRules bytes = orderR bytes ++ ((5, spareSet bytes) ∷ [])
+
 -- Check: order R, and then rules 5 to 8, each over the whole record
 unfoldable pub checkRules : List ℕ → List Rule
-checkRules bytes =
-    orderR bytes
-    ++ ((5, spareSet bytes)
-    ∷ (6, anyPlace (stray (blocks bytes)) (blocks bytes))
-    ∷ (7, anyPlace (doubled (blocks bytes)) (blocks bytes))
-    ∷ (8, anyPlace (oneSided (blocks bytes)) (blocks bytes))
-    ∷ [])
+checkRules bytes = layoutRules bytes ++ placeRules (blocks bytes)

@@ -1,14 +1,20 @@
--- What contracts inside this crate, and in the crates above, say of a record that has passed some rules, and of the two arrays while they are
--- filled.
+-- What contracts inside this crate, and in the crates above, say of a record that has passed some rules, and of the two arrays.
+--   Headed, Sound, Laid          rules 1 to 3, order R, and rule 5 too let the record pass, and n and m are the header's
+--   ArraysOf                     the graph of a record stands in two arrays
+--   Lent                         room for them, and for the rules over them
+--   Short, Handed                a list that each number of it can be raised by one; Check, with the neighbours for a list
+--   Filling, Entering, Reading   the arrays while they are filled
 use mathlib.Core.Path.{_≡_}
-use mathlib.Core.Bool.{Bool}
-use mathlib.Core.List.{List, _++_, map}
-use Prim.Native.Nat.{ℕ, _+_, _-_, _*_, _≤_}
-use lib.ListN.{length, take, drop}
+use mathlib.Core.Bool.{Bool, false}
+use mathlib.Core.List.{List, _++_}
+use Prim.Native.Nat.{ℕ, _+_, _-_, _*_, _≤_, _<_}
+use lib.ListN.{length, take, drop, getD}
 use Rattle.bits.specs.Bits.{count, field}
-use Rattle.record.specs.Record.{terminals, wires, recordLength, fieldsFrom}
+use Rattle.record.specs.Record.{terminals, wires, recordLength, unary, fieldsFrom, fields}
 use Rattle.record.specs.Starts.{startsFrom, startsOf}
-use Rattle.record.specs.Rules.{firstBroken, orderR}
+use Rattle.record.specs.Rules.{firstBroken, orderR, spareSet}
+use Rattle.record.specs.Answers.{Answer}
+use Rattle.record.specs.Operations.{check, unpacked}
 
 -- rules 1 to 3 are kept, and n and m are the header's
 pub record Headed (bytes : List ℕ) (n m : ℕ) : Type 0 where
@@ -28,6 +34,35 @@ pub record Sound (bytes : List ℕ) (n m : ℕ) : Type 0 where
   pub held : 28 + (n + 2 * m) + 12 * (2 * m) ≤ 8 * length bytes
   pub short : length bytes ≤ 53764
 
+-- rule 5 lets it pass too
+pub record Laid (bytes : List ℕ) (n m : ℕ) : Type 0 where
+  pub sound : Sound bytes n m
+  pub clear : spareSet bytes ≡ false
+
+-- the graph of such a record stands in two arrays
+pub record ArraysOf (bytes starts nbrs : List ℕ) (n m : ℕ) : Type 0 where
+  pub sound : Sound bytes n m
+  pub are-starts : starts ≡ startsOf (unary bytes)
+  pub are-fields : nbrs ≡ fields bytes
+
+-- room for the two arrays and for what rules 6 to 8 keep: a cell for each terminal or for each place
+pub record Lent (n m : ℕ) (starts nbrs reverse next from counts : List ℕ) : Type 0 where
+  pub all-starts : length starts ≡ n + 1
+  pub all-nbrs : length nbrs ≡ 2 * m
+  pub all-reverse : length reverse ≡ 2 * m
+  pub all-next : length next ≡ n
+  pub all-from : length from ≡ 2 * m
+  pub all-counts : length counts ≡ n
+
+-- each number can be one more
+abbrev pub Short : List ℕ → Type 0
+Short list = (i : ℕ) → i < length list → getD list i 0 < 65535
+
+-- what Check answers, and what Unpack leaves in a list: the neighbours of an accepted record, from 1, where it is 2·m long
+pub record Handed (bytes list after : List ℕ) (answer : Answer (Unit {0})) : Type 0 where
+  pub told : answer ≡ check bytes
+  pub left : after ≡ unpacked bytes list
+
 -- the first i bits of D are read, k of them are ones, and their starts are entered
 pub record Filling (d : List Bool) (starts : List ℕ) (i k : ℕ) : Type 0 where
   pub upto : i ≤ length d
@@ -43,8 +78,8 @@ pub record Entering (d : List Bool) (starts : List ℕ) (w end k : ℕ) : Type 0
   pub filling : Filling d starts place k
   pub left : w ≡ field (end - place) d place
 
--- the first i of k fields are read into a list, each with `more` added
-pub record Reading (s : List Bool) (start more k : ℕ) (list : List ℕ) (i : ℕ) : Type 0 where
+-- the first i of k fields are read into a list
+pub record Reading (s : List Bool) (start k : ℕ) (list : List ℕ) (i : ℕ) : Type 0 where
   pub upto : i ≤ k
   pub size : length list ≡ k
-  pub same : take i list ≡ take i (map (λ x. x + more) (fieldsFrom s start k))
+  pub same : take i list ≡ take i (fieldsFrom s start k)

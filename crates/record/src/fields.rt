@@ -1,6 +1,5 @@
 // The neighbour fields.
 ghost use mathlib.Core.Path.{_≡_};
-ghost use mathlib.Core.List.{map};
 ghost use Prim.Native.Nat.{_+_, _*_, _≤_, _<_};
 ghost use lib.ListN.{length, getD};
 ghost use Rattle.bits.specs.Bits.{bits as bitsOf};
@@ -17,38 +16,39 @@ pub fn field(bytes: &[u8], n: usize, m: usize, p: usize) -> usize
 }
 
 // Four more fields, from field i on.
-fn read_four(bytes: &[u8], start: usize, more: usize, list: &mut [u16], i: usize)
-    requires { ⌜ (start + 12 * (i + 4) ≤ 8 * length (now bytes)) × (i + 4 ≤ length (now list)) × (more ≤ 1) × (i ≤ 32768) × (start ≤ 65536) × (Reading (bitsOf (now bytes)) start more (length (now list)) (now list) i) ⌝ }
-    ensures { λ _. ⌜ Reading (bitsOf (now (bytes .entry))) start more (length (now (list .entry))) (now (list .exit)) (i + 4) ⌝ }
+fn read_four(bytes: &[u8], start: usize, list: &mut [u16], i: usize)
+    requires { ⌜ (start + 12 * (i + 4) ≤ 8 * length (now bytes)) × (i + 4 ≤ length (now list)) × (i ≤ 32768) × (start ≤ 65536) ⌝ }
+    requires { ⌜ Reading (bitsOf (now bytes)) start (length (now list)) (now list) i ⌝ }
+    ensures { λ _. ⌜ Reading (bitsOf (now (bytes .entry))) start (length (now (list .entry))) (now (list .exit)) (i + 4) ⌝ }
 {
     let x = bits::fields::read_four(bytes, start + 12 * i);
-    put(list, i, x.a + more);
-    put(list, i + 1, x.b + more);
-    put(list, i + 2, x.c + more);
-    put(list, i + 3, x.d + more);
+    put(list, i, x.a);
+    put(list, i + 1, x.b);
+    put(list, i + 2, x.c);
+    put(list, i + 3, x.d);
 }
 
 // As many fields as come in fours. Returns how many are read.
-fn read_fours(bytes: &[u8], start: usize, more: usize, list: &mut [u16]) -> usize
-    requires { ⌜ (start + 12 * length (now list) ≤ 8 * length (now bytes)) × (more ≤ 1) × (length (now list) ≤ 32768) × (start ≤ 65536) ⌝ }
-    ensures { λ r. ⌜ Reading (bitsOf (now (bytes .entry))) start more (length (now (list .entry))) (now (list .exit)) r ⌝ }
+fn read_fours(bytes: &[u8], start: usize, list: &mut [u16]) -> usize
+    requires { ⌜ (start + 12 * length (now list) ≤ 8 * length (now bytes)) × (length (now list) ≤ 32768) × (start ≤ 65536) ⌝ }
+    ensures { λ r. ⌜ Reading (bitsOf (now (bytes .entry))) start (length (now (list .entry))) (now (list .exit)) r ⌝ }
 {
     let mut i = 0;
     while i + 4 <= list.len() {
-        read_four(bytes, start, more, list, i);
+        read_four(bytes, start, list, i);
         i += 4;
     }
     i
 }
 
-// The fields from bit `start` on, each with `more` added, as many as the list has room for: in fours, and then one by one.
-pub fn read_fields(bytes: &[u8], start: usize, more: usize, list: &mut [u16])
-    requires { ⌜ (start + 12 * length (now list) ≤ 8 * length (now bytes)) × (more ≤ 1) × (length (now list) ≤ 32768) × (start ≤ 65536) ⌝ }
-    ensures { λ _. ⌜ now (list .exit) ≡ map (λ x. x + more) (fieldsFrom (bitsOf (now (bytes .entry))) start (length (now (list .entry)))) ⌝ }
+// The fields from bit `start` on, as many as the list has room for: in fours, and then one by one.
+pub fn read_fields(bytes: &[u8], start: usize, list: &mut [u16])
+    requires { ⌜ (start + 12 * length (now list) ≤ 8 * length (now bytes)) × (length (now list) ≤ 32768) × (start ≤ 65536) ⌝ }
+    ensures { λ _. ⌜ now (list .exit) ≡ fieldsFrom (bitsOf (now (bytes .entry))) start (length (now (list .entry))) ⌝ }
 {
-    let mut i = read_fours(bytes, start, more, list);
+    let mut i = read_fours(bytes, start, list);
     while i < list.len() {
-        put(list, i, bits::fields::read12(bytes, start + 12 * i) + more);
+        put(list, i, bits::fields::read12(bytes, start + 12 * i));
         i += 1;
     }
 }

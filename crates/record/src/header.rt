@@ -5,9 +5,9 @@ ghost use Prim.Native.Nat.{_≤_};
 ghost use lib.Dec.{eqb};
 ghost use Rattle.bits.specs.Bits.{count};
 ghost use Rattle.record.specs.Record.{terminals, recordLength, unary};
-ghost use Rattle.record.specs.Rules.{orderR, beginsWithZero};
+ghost use Rattle.record.specs.Rules.{orderR, beginsWithZero, spareSet, layoutRules};
 ghost use Rattle.record.specs.Answers.{tried, shape, sizesOf};
-ghost use Rattle.record.specs.Steps.{Headed};
+ghost use Rattle.record.specs.Steps.{Headed, Sound};
 use super::Refusal;
 use super::Shape;
 use super::Sizes;
@@ -60,4 +60,31 @@ pub fn order_r(bytes: &[u8]) -> Shape
         return Shape::Refused(Refusal::BadUnary);
     }
     Shape::Passed(Sizes { n, m })
+}
+
+// Rule 5: a spare bit is set.
+fn spare_set(bytes: &[u8], n: usize, m: usize) -> bool
+    requires { ⌜ Sound (now bytes) n m ⌝ }
+    ensures { λ r. ⌜ r ≡ spareSet (now (bytes .entry)) ⌝ }
+{
+    let used = 28 + (n + 2 * m) + 12 * (2 * m);
+    let spare = 8 * bytes.len() - used;
+    bits::rank(bytes, used, spare, spare) != 0
+}
+
+// Order R and rule 5, with n and m handed on.
+pub fn laid_out(bytes: &[u8]) -> Shape
+    ensures { λ r. ⌜ shape r ≡ tried (layoutRules (now (bytes .entry))) (sizesOf (now (bytes .entry))) ⌝ }
+{
+    match order_r(bytes) {
+        Shape::Refused(r) => Shape::Refused(r),
+        Shape::Passed(s) => {
+            let n = s.n;
+            let m = s.m;
+            if spare_set(bytes, n, m) {
+                return Shape::Refused(Refusal::SpareSet);
+            }
+            Shape::Passed(Sizes { n, m })
+        }
+    }
 }

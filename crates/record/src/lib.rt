@@ -17,7 +17,9 @@ mod doubles; // doubles.rt: rule 7
 mod sides; // sides.rt: rule 8
 mod reverse; // reverse.rt: rules 6 to 8 at once
 mod blocks; // blocks.rt: one block
-mod content; // content.rt: rules 5 to 8
+mod rules; // rules.rt: rules 6 to 8
+pub mod arrays; // arrays.rt: the graph of a record in two arrays
+mod rooms; // rooms.rt: Check in room for the record's size
 
 // A terminal number, from 1: document 01's vertex label.
 pub struct Vertex(pub usize);
@@ -94,16 +96,22 @@ pub fn number_of(r: Refusal) -> usize
     }
 }
 
-// Check, with the sizes of an accepted record handed on.
-pub fn accept(bytes: &[u8]) -> Shape
-    ensures { λ r. ⌜ shape r ≡ tried (checkRules (now (bytes .entry))) (sizesOf (now (bytes .entry))) ⌝ }
+// Check, with the sizes of an accepted record handed on. A list of 2·m numbers gets its neighbours, from 1.
+pub fn accept(bytes: &[u8], list: &mut [u16]) -> Shape
+    ensures { λ r. ⌜
+        (shape r ≡ tried (checkRules (now (bytes .entry))) (sizesOf (now (bytes .entry))))
+        × (now (list .exit) ≡ unpacked (now (bytes .entry)) (now (list .entry)))
+        ⌝ }
 {
-    match header::order_r(bytes) {
+    match header::laid_out(bytes) {
         Shape::Refused(r) => Shape::Refused(r),
         Shape::Passed(s) => {
             let n = s.n;
             let m = s.m;
-            content::content(bytes, n, m)
+            match rooms::in_room(bytes, n, m, list, 0) {
+                Verdict::Refused(r) => Shape::Refused(r),
+                Verdict::Accepted => Shape::Passed(Sizes { n, m }),
+            }
         }
     }
 }
@@ -112,7 +120,8 @@ pub fn accept(bytes: &[u8]) -> Shape
 pub fn check(bytes: &[u8]) -> Verdict
     ensures { λ r. ⌜ verdict r ≡ checkOf (now (bytes .entry)) ⌝ }
 {
-    match accept(bytes) {
+    let mut none = [0u16; 0];
+    match accept(bytes, &mut none) {
         Shape::Refused(r) => Verdict::Refused(r),
         Shape::Passed(_) => Verdict::Accepted,
     }
@@ -122,7 +131,8 @@ pub fn check(bytes: &[u8]) -> Verdict
 pub fn loop_figure(bytes: &[u8]) -> Figure
     ensures { λ r. ⌜ figure r ≡ loopFigure (now (bytes .entry)) ⌝ }
 {
-    match accept(bytes) {
+    let mut none = [0u16; 0];
+    match accept(bytes, &mut none) {
         Shape::Refused(r) => Figure::Refused(r),
         Shape::Passed(s) => {
             let n = s.n;
@@ -136,15 +146,12 @@ pub fn loop_figure(bytes: &[u8]) -> Figure
 pub fn unpack(bytes: &[u8], list: &mut [u16]) -> Verdict
     ensures { λ r. ⌜ (verdict r ≡ unpackOf (now (bytes .entry)) (now (list .entry))) × (now (list .exit) ≡ unpacked (now (bytes .entry)) (now (list .entry))) ⌝ }
 {
-    match accept(bytes) {
+    match accept(bytes, list) {
         Shape::Refused(r) => Verdict::Refused(r),
         Shape::Passed(s) => {
-            let n = s.n;
-            let m = s.m;
-            if list.len() != 2 * m {
+            if list.len() != 2 * s.m {
                 return Verdict::Refused(Refusal::WrongBuffer);
             }
-            fields::read_fields(bytes, 28 + (n + 2 * m), 1, list);
             Verdict::Accepted
         }
     }

@@ -6,14 +6,15 @@ ghost use mathlib.Core.Path.{_≡_};
 ghost use mathlib.Core.Bool.{true};
 ghost use Prim.Native.Nat.{_+_, _-_, _<_};
 ghost use lib.ListN.{length, getD};
-ghost use Rattle.record.specs.Arrays.{Divided, Holds};
+ghost use Rattle.graph.specs.Graph.{Blocks};
+ghost use Rattle.record.specs.Arrays.{cut, Divided, Holds};
 ghost use Rattle.record.specs.Reverse.{Turned, Turning, Matching, AtStarts, AtEnds, Kept};
 use super::cells::get;
 use super::cells::put;
 
 // In each part the start comes next.
 fn rewind(starts: &[u16], next: &mut [u16])
-    requires { ⌜ (0 < length (now starts)) × (length (now starts) < 4098) × (length (now next) ≡ 4096) ⌝ }
+    requires { ⌜ (length (now starts) < 4098) × (length (now next) + 1 ≡ length (now starts)) ⌝ }
     ensures { λ _. ⌜ AtStarts (now (starts .entry)) (now (next .exit)) ⌝ }
 {
     let n = starts.len() - 1;
@@ -27,7 +28,7 @@ fn rewind(starts: &[u16], next: &mut [u16])
 
 // Whether each part is filled up to its end.
 fn all_full(starts: &[u16], next: &[u16]) -> bool
-    requires { ⌜ (0 < length (now starts)) × (length (now starts) < 4098) × (length (now next) ≡ 4096) ⌝ }
+    requires { ⌜ (length (now starts) < 4098) × (length (now next) + 1 ≡ length (now starts)) ⌝ }
     ensures { λ r. ⌜ (r ≡ true → AtEnds (now (starts .entry)) (now (next .entry))) ⌝ }
 {
     let n = starts.len() - 1;
@@ -51,7 +52,9 @@ fn turn_place(
     next: &mut [u16],
 ) -> bool
     requires { ⌜ (Turning (now starts) (now nbrs) (now reverse) (now next) p) × (Holds (now starts) u p) ⌝ }
-    ensures { λ r. ⌜ (r ≡ true → Turning (now (starts .entry)) (now (nbrs .entry)) (now (reverse .exit)) (now (next .exit)) (p + 1)) ⌝ }
+    ensures { λ r. ⌜
+        (r ≡ true → Turning (now (starts .entry)) (now (nbrs .entry)) (now (reverse .exit)) (now (next .exit)) (p + 1))
+        ⌝ }
 {
     let v = get(nbrs, p);
     if starts.len() - 1 <= v {
@@ -159,10 +162,13 @@ fn match_all(starts: &[u16], reverse: &[u16], next: &mut [u16]) -> bool
     true
 }
 
-// Both passes.
-fn mutual_by(starts: &[u16], nbrs: &[u16], reverse: &mut [u16], next: &mut [u16]) -> bool
-    requires { ⌜ (Divided (now starts) (now nbrs)) × (length (now reverse) ≡ length (now nbrs)) × (length (now next) ≡ 4096) ⌝ }
-    ensures { λ r. ⌜ (r ≡ true → Kept (now (starts .entry)) (now (nbrs .entry))) ⌝ }
+// Both passes, with room for the second row and for the places that come next.
+pub fn all_mutual(starts: &[u16], nbrs: &[u16], reverse: &mut [u16], next: &mut [u16]) -> bool
+    ghost { Blocks }
+    requires { λ g. ⌜ cut (now starts) (now nbrs) ≡ g ⌝ }
+    requires { λ g. ⌜ Divided (now starts) (now nbrs) ⌝ }
+    requires { λ g. ⌜ (length (now reverse) ≡ length (now nbrs)) × (length (now next) + 1 ≡ length (now starts)) ⌝ }
+    ensures { λ g r. ⌜ (r ≡ true → Kept g) ⌝ }
 {
     rewind(starts, next);
     if !turn_all(starts, nbrs, reverse, next) {
@@ -173,15 +179,4 @@ fn mutual_by(starts: &[u16], nbrs: &[u16], reverse: &mut [u16], next: &mut [u16]
     }
     rewind(starts, next);
     match_all(starts, reverse, next)
-}
-
-// The same, with the second row and the places that come next on the stack.
-pub fn all_mutual(starts: &[u16], nbrs: &[u16]) -> bool
-    requires { ⌜ Divided (now starts) (now nbrs) ⌝ }
-    ensures { λ r. ⌜ (r ≡ true → Kept (now (starts .entry)) (now (nbrs .entry))) ⌝ }
-{
-    let mut reverse = [0u16; 32768];
-    let mut next = [0u16; 4096];
-    let places = nbrs.len();
-    mutual_by(starts, nbrs, &mut reverse[..places], &mut next)
 }

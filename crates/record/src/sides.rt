@@ -5,17 +5,22 @@
 ghost use mathlib.Core.Path.{_≡_};
 ghost use Prim.Native.Nat.{_+_, _<_};
 ghost use lib.ListN.{length, getD, set};
-ghost use Rattle.graph.specs.Graph.{block};
+ghost use Rattle.graph.specs.Graph.{Blocks, block};
 ghost use Rattle.record.specs.Arrays.{cut, Arrays, At};
 ghost use Rattle.record.specs.Rules.{anyPlace, oneSided as oneSidedOf};
 ghost use Rattle.record.specs.Tally.{Listed, Clear, CountsOf, Within, CountedOff, Settled};
+use super::cells::clear;
 use super::cells::get;
 use super::cells::put;
 
 // Place p, of block u, goes to the front of the list of v.
 fn enter(head: &mut [u16], link: &mut [u16], from: &mut [u16], v: usize, p: usize, u: usize)
     requires { ⌜ (v < length (now head)) × (p < length (now link)) × (p < length (now from)) × (p + 1 < 65536) × (u < 65536) ⌝ }
-    ensures { λ _. ⌜ (now (head .exit) ≡ set (now (head .entry)) v (p + 1)) × (now (link .exit) ≡ set (now (link .entry)) p (getD (now (head .entry)) v 0)) × (now (from .exit) ≡ set (now (from .entry)) p u) ⌝ }
+    ensures { λ _. ⌜
+        (now (head .exit) ≡ set (now (head .entry)) v (p + 1))
+        × (now (link .exit) ≡ set (now (link .entry)) p (getD (now (head .entry)) v 0))
+        × (now (from .exit) ≡ set (now (from .entry)) p u)
+        ⌝ }
 {
     link[p] = head[v];
     head[v] = (p + 1) as u16;
@@ -31,8 +36,14 @@ fn enter_block(
     link: &mut [u16],
     from: &mut [u16],
 )
-    requires { ⌜ (At (now starts) (now nbrs) u) × (Listed (now starts) (now nbrs) (getD (now starts) u 0) (now head) (now link) (now from)) ⌝ }
-    ensures { λ _. ⌜ Listed (now (starts .entry)) (now (nbrs .entry)) (getD (now (starts .entry)) (u + 1) 0) (now (head .exit)) (now (link .exit)) (now (from .exit)) ⌝ }
+    requires { ⌜
+        (At (now starts) (now nbrs) u)
+        × (Listed (now starts) (now nbrs) (getD (now starts) u 0) (now head) (now link) (now from))
+        ⌝ }
+    ensures { λ _. ⌜
+        Listed (now (starts .entry)) (now (nbrs .entry)) (getD (now (starts .entry)) (u + 1) 0)
+        (now (head .exit)) (now (link .exit)) (now (from .exit))
+        ⌝ }
 {
     let end = get(starts, u + 1);
     let mut p = get(starts, u);
@@ -46,7 +57,10 @@ fn enter_block(
 // All places go to their lists.
 fn enter_all(starts: &[u16], nbrs: &[u16], head: &mut [u16], link: &mut [u16], from: &mut [u16])
     requires { ⌜ (Arrays (now starts) (now nbrs)) × (Listed (now starts) (now nbrs) 0 (now head) (now link) (now from)) ⌝ }
-    ensures { λ _. ⌜ Listed (now (starts .entry)) (now (nbrs .entry)) (length (now (nbrs .entry))) (now (head .exit)) (now (link .exit)) (now (from .exit)) ⌝ }
+    ensures { λ _. ⌜
+        Listed (now (starts .entry)) (now (nbrs .entry)) (length (now (nbrs .entry)))
+        (now (head .exit)) (now (link .exit)) (now (from .exit))
+        ⌝ }
 {
     let n = starts.len() - 1;
     let mut u = 0;
@@ -58,8 +72,10 @@ fn enter_all(starts: &[u16], nbrs: &[u16], head: &mut [u16], link: &mut [u16], f
 
 // Block u is counted up from zeros.
 fn count_up(starts: &[u16], nbrs: &[u16], u: usize, counts: &mut [u16])
-    requires { ⌜ (At (now starts) (now nbrs) u) × (Clear (now counts)) ⌝ }
-    ensures { λ _. ⌜ CountsOf (block (cut (now (starts .entry)) (now (nbrs .entry))) u) (now (counts .exit)) ⌝ }
+    ghost { Blocks }
+    requires { λ g. ⌜ cut (now starts) (now nbrs) ≡ g ⌝ }
+    requires { λ g. ⌜ (At (now starts) (now nbrs) u) × (Clear (now starts) (now counts)) ⌝ }
+    ensures { λ g _. ⌜ CountsOf (now (starts .entry)) (block g u) (now (counts .exit)) ⌝ }
 {
     let end = get(starts, u + 1);
     let mut p = get(starts, u);
@@ -81,8 +97,11 @@ fn count_off(
     from: &[u16],
     counts: &mut [u16],
 ) -> bool
-    requires { ⌜ (At (now starts) (now nbrs) u) × (Listed (now starts) (now nbrs) (length (now nbrs)) (now head) (now link) (now from)) × (CountsOf (block (cut (now starts) (now nbrs)) u) (now counts)) ⌝ }
-    ensures { λ r. ⌜ CountedOff (now (starts .entry)) (now (nbrs .entry)) u (now (counts .exit)) r ⌝ }
+    ghost { Blocks }
+    requires { λ g. ⌜ cut (now starts) (now nbrs) ≡ g ⌝ }
+    requires { λ g. ⌜ (At (now starts) (now nbrs) u) × (CountsOf (now starts) (block g u) (now counts)) ⌝ }
+    requires { λ g. ⌜ Listed (now starts) (now nbrs) (length (now nbrs)) (now head) (now link) (now from) ⌝ }
+    ensures { λ g r. ⌜ CountedOff (now (starts .entry)) (now (nbrs .entry)) u (now (counts .exit)) r ⌝ }
 {
     let mut x = get(head, u);
     while x != 0 {
@@ -100,8 +119,10 @@ fn count_off(
 
 // The counts of block u become zeros.
 fn wipe(starts: &[u16], nbrs: &[u16], u: usize, counts: &mut [u16])
-    requires { ⌜ (At (now starts) (now nbrs) u) × (Within (block (cut (now starts) (now nbrs)) u) (now counts)) ⌝ }
-    ensures { λ _. ⌜ Clear (now (counts .exit)) ⌝ }
+    ghost { Blocks }
+    requires { λ g. ⌜ cut (now starts) (now nbrs) ≡ g ⌝ }
+    requires { λ g. ⌜ (At (now starts) (now nbrs) u) × (Within (now starts) (block g u) (now counts)) ⌝ }
+    ensures { λ g _. ⌜ Clear (now (starts .entry)) (now (counts .exit)) ⌝ }
 {
     let end = get(starts, u + 1);
     let mut p = get(starts, u);
@@ -122,7 +143,8 @@ fn exceeded(
     from: &[u16],
     counts: &mut [u16],
 ) -> bool
-    requires { ⌜ (At (now starts) (now nbrs) u) × (Listed (now starts) (now nbrs) (length (now nbrs)) (now head) (now link) (now from)) × (Clear (now counts)) ⌝ }
+    requires { ⌜ (At (now starts) (now nbrs) u) × (Clear (now starts) (now counts)) ⌝ }
+    requires { ⌜ Listed (now starts) (now nbrs) (length (now nbrs)) (now head) (now link) (now from) ⌝ }
     ensures { λ r. ⌜ Settled (now (starts .entry)) (now (nbrs .entry)) u (now (counts .exit)) r ⌝ }
 {
     count_up(starts, nbrs, u, counts);
@@ -133,23 +155,51 @@ fn exceeded(
     false
 }
 
-// Rule 8: the two ends of a wire mention each other a different number of times.
-pub fn some_one_sided(starts: &[u16], nbrs: &[u16]) -> bool
-    requires { ⌜ Arrays (now starts) (now nbrs) ⌝ }
-    ensures { λ r. ⌜ r ≡ anyPlace (oneSidedOf (cut (now (starts .entry)) (now (nbrs .entry)))) (cut (now (starts .entry)) (now (nbrs .entry))) ⌝ }
+// Whether that is so for any u.
+fn some_exceeded(
+    starts: &[u16],
+    nbrs: &[u16],
+    head: &[u16],
+    link: &[u16],
+    from: &[u16],
+    counts: &mut [u16],
+) -> bool
+    ghost { Blocks }
+    requires { λ g. ⌜ cut (now starts) (now nbrs) ≡ g ⌝ }
+    requires { λ g. ⌜ (Arrays (now starts) (now nbrs)) × (Clear (now starts) (now counts)) ⌝ }
+    requires { λ g. ⌜ Listed (now starts) (now nbrs) (length (now nbrs)) (now head) (now link) (now from) ⌝ }
+    ensures { λ g r. ⌜ r ≡ anyPlace (oneSidedOf g) g ⌝ }
 {
     let n = starts.len() - 1;
-    let mut head = [0u16; 4096];
-    let mut link = [0u16; 32768];
-    let mut from = [0u16; 32768];
-    let mut counts = [0u16; 4096];
-    enter_all(starts, nbrs, &mut head, &mut link, &mut from);
     let mut u = 0;
     while u < n {
-        if exceeded(starts, nbrs, u, &head, &link, &from, &mut counts) {
+        if exceeded(starts, nbrs, u, head, link, from, counts) {
             return true;
         }
         u += 1;
     }
     false
+}
+
+// Rule 8: the two ends of a wire mention each other a different number of times. The heads and the counts have room for a number for each
+// terminal, the links and the sources for each place.
+pub fn some_one_sided(
+    starts: &[u16],
+    nbrs: &[u16],
+    head: &mut [u16],
+    link: &mut [u16],
+    from: &mut [u16],
+    counts: &mut [u16],
+) -> bool
+    ghost { Blocks }
+    requires { λ g. ⌜ cut (now starts) (now nbrs) ≡ g ⌝ }
+    requires { λ g. ⌜ Arrays (now starts) (now nbrs) ⌝ }
+    requires { λ g. ⌜ (length (now head) + 1 ≡ length (now starts)) × (length (now counts) + 1 ≡ length (now starts)) ⌝ }
+    requires { λ g. ⌜ (length (now link) ≡ length (now nbrs)) × (length (now from) ≡ length (now nbrs)) ⌝ }
+    ensures { λ g r. ⌜ r ≡ anyPlace (oneSidedOf g) g ⌝ }
+{
+    clear(head);
+    clear(counts);
+    enter_all(starts, nbrs, head, link, from);
+    some_exceeded(starts, nbrs, head, link, from, counts)
 }

@@ -2,15 +2,17 @@
 ghost use mathlib.Core.Path.{_≡_};
 ghost use Prim.Native.Nat.{_+_, _<_};
 ghost use lib.ListN.{length};
-ghost use Rattle.graph.specs.Graph.{block};
+ghost use Rattle.graph.specs.Graph.{Blocks, block};
 ghost use Rattle.record.specs.Rules.{anyIn, anyPlace, stray};
 ghost use Rattle.record.specs.Arrays.{cut, Divided};
 use super::cells::get;
 
 // Whether such a neighbour stands in block u.
 fn stray_in(starts: &[u16], nbrs: &[u16], u: usize) -> bool
-    requires { ⌜ (Divided (now starts) (now nbrs)) × (u + 1 < length (now starts)) ⌝ }
-    ensures { λ r. ⌜ r ≡ anyIn (stray (cut (now (starts .entry)) (now (nbrs .entry))) u) (block (cut (now (starts .entry)) (now (nbrs .entry))) u) ⌝ }
+    ghost { Blocks }
+    requires { λ g. ⌜ cut (now starts) (now nbrs) ≡ g ⌝ }
+    requires { λ g. ⌜ (Divided (now starts) (now nbrs)) × (u + 1 < length (now starts)) ⌝ }
+    ensures { λ g r. ⌜ r ≡ anyIn (stray g u) (block g u) ⌝ }
 {
     let n = starts.len() - 1;
     let end = get(starts, u + 1);
@@ -30,8 +32,10 @@ fn stray_in(starts: &[u16], nbrs: &[u16], u: usize) -> bool
 
 // Whether one stands anywhere.
 pub fn some_stray(starts: &[u16], nbrs: &[u16]) -> bool
-    requires { ⌜ Divided (now starts) (now nbrs) ⌝ }
-    ensures { λ r. ⌜ r ≡ anyPlace (stray (cut (now (starts .entry)) (now (nbrs .entry)))) (cut (now (starts .entry)) (now (nbrs .entry))) ⌝ }
+    ghost { Blocks }
+    requires { λ g. ⌜ cut (now starts) (now nbrs) ≡ g ⌝ }
+    requires { λ g. ⌜ Divided (now starts) (now nbrs) ⌝ }
+    ensures { λ g r. ⌜ r ≡ anyPlace (stray g) g ⌝ }
 {
     let n = starts.len() - 1;
     let mut u = 0;

@@ -10,4 +10,4 @@ pub mod Nexts
 pub mod Turned
 pub mod Matched
 pub mod Mutual
-pub mod Contents
+pub mod InTurn

@@ -1,15 +1,14 @@
--- `accept` meets its contract: order R first, and then the content.
-use mathlib.Core.Path.{_∙_, sym, ap}
+-- `accept` meets its contract: order R and rule 5 first, and then the rest in a room.
 use borrow.Author.Needs.{needs}
-use Rattle.record.specs.Answers.{shape, sizesOf}
-use Rattle.record.specs.Rules.{orderR, checkRules}
-use Rattle.record.specs.Laws.Sounded.{told-sound}
-use Rattle.record.specs.Laws.Told.{told-append}
+use mathlib.Core.Path.{sym, ap, _∙_}
+use Rattle.record.specs.Answers.{shape, verdict}
+use Rattle.record.specs.Laws.Sounded.{told-laid}
+use Rattle.record.proofs.Laws.Telling.Unpacking.{accept-unread, accept-refused, accept-passed}
 use Rattle.record.proofs.accept.Statement.{statement}
 use Rattle.record.proofs.accept.Tie as tie
 
-order-r-requires : tie.Need-order-r-requires
-order-r-requires c κs = search needs
+laid-out-requires : tie.Need-laid-out-requires
+laid-out-requires c κs = search needs
 
 enum-known-r : tie.Need-enum-known-r
 enum-known-r c = search needs
@@ -17,19 +16,42 @@ enum-known-r c = search needs
 enum-known-s : tie.Need-enum-known-s
 enum-known-s c = search needs
 
-content-requires : tie.Need-content-requires
-content-requires c κs = told-sound (c .before .before .before .before .before .args .bytes .now) (sym (ap shape (c .before .s .given .1)) ∙ c .before .before .before .order-r .ensures)
+in-room-requires : tie.Need-in-room-requires
+in-room-requires c κs = told-laid (c .before .before .before .before .before .before .before .args .bytes .now) (sym (ap shape (c .before .before .s .given .1)) ∙ c .before .before .before .before .laid-out .ensures)
+
+enum-known-r-2 : tie.Need-enum-known-r-2
+enum-known-r-2 c = search needs
+
+enum-told : tie.Need-enum-told
+enum-told c = search needs
 
 returns : tie.Need-returns
-unfolding checkRules
-returns c =
-    let bytes = c .before .before .before .before .before .args .bytes .now in
-    told-append (orderR bytes) _ (sizesOf bytes) (sizesOf bytes) (sym (ap shape (c .before .r .given .1)) ∙ c .before .before .before .order-r .ensures)
+returns c = accept-unread (c .before .before .before .before .before .before .args .bytes .now) (c .before .before .before .before .before .before .args .list .now) (sym (ap shape (c .before .r .given .1)) ∙ c .before .before .before .laid-out .ensures)
+
+same-length : tie.Need-same-length
+same-length c = search needs
 
 returns-2 : tie.Need-returns-2
-returns-2 c = search needs
+returns-2 c = accept-refused (c .before .before .before .before .before .in-room .ensures) (ap verdict (c .before .r2 .given .1))
+
+same-length-2 : tie.Need-same-length-2
+same-length-2 c = search needs
+
+returns-3 : tie.Need-returns-3
+returns-3 c = accept-passed (c .before .before .before .before .in-room .ensures) (told-laid (c .before .before .before .before .before .before .before .before .before .before .before .before .args .bytes .now) (sym (ap shape (c .before .before .before .before .before .before .before .s .given .1)) ∙ c .before .before .before .before .before .before .before .before .before .laid-out .ensures)) (ap verdict (c .enum-told .given .1))
 
 pub accept-spec : {M : Type 1} → statement M
 accept-spec =
     tie.close
-    (tie.spec order-r-requires enum-known-r enum-known-s content-requires returns returns-2)
+    (tie.spec
+    laid-out-requires
+    enum-known-r
+    enum-known-s
+    in-room-requires
+    enum-known-r-2
+    enum-told
+    returns
+    same-length
+    returns-2
+    same-length-2
+    returns-3)

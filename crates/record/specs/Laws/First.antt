@@ -10,7 +10,8 @@ use lib.ListN.{length}
 use Rattle.bits.specs.Bits.{count}
 use Rattle.graph.specs.Laws.Places.Basics.{clash}
 use Rattle.record.specs.Record.{terminals, wires, recordLength, unary, blocks}
-use Rattle.record.specs.Rules.{Rule, firstBroken, beginsWithZero, orderR, anyPlace, spareSet, stray, doubled, oneSided, checkRules}
+use Rattle.record.specs.Rules.{Rule, firstBroken, beginsWithZero, orderR, anyPlace, spareSet, stray, doubled, oneSided}
+use Rattle.record.specs.Rules.{placeRules, layoutRules, checkRules}
 use Rattle.record.specs.Operations.{Accepted}
 
 -- ---- one rule and the rest
@@ -114,8 +115,12 @@ module _ (bytes : List ℕ) where
 
 -- ---- Check
 
+pub layout-numbered : (bytes : List ℕ) → Numbered (layoutRules bytes)
+unfolding orderR layoutRules
+layout-numbered bytes = rule (rule (rule (rule (rule none))))
+
 pub check-numbered : (bytes : List ℕ) → Numbered (checkRules bytes)
-unfolding orderR checkRules
+unfolding orderR layoutRules placeRules checkRules
 check-numbered bytes = rule (rule (rule (rule (rule (rule (rule (rule none)))))))
 
 -- what Check asks of a record
@@ -127,11 +132,12 @@ pub record Checked (bytes : List ℕ) : Type 0 where
   pub two-sided : anyPlace (oneSided (blocks bytes)) (blocks bytes) ≡ false
 
 pub checked : {bytes : List ℕ} → Accepted bytes → Checked bytes
-unfolding checkRules
+unfolding checkRules layoutRules placeRules
 checked {bytes} accepted =
-    let (e, r) = both-kept (order-numbered bytes) _ (accepted .unbroken) in
-    let (e₅, r₅) = rule-kept 4 _ _ r in
-    let (e₆, r₆) = rule-kept 5 _ _ r₅ in
+    let (l, r) = both-kept (layout-numbered bytes) _ (accepted .unbroken) in
+    let (e, s) = both-kept (order-numbered bytes) _ l in
+    let (e₅, _) = rule-kept 4 _ _ s in
+    let (e₆, r₆) = rule-kept 5 _ _ r in
     let (e₇, r₇) = rule-kept 6 _ _ r₆ in
     let (e₈, r₈) = rule-kept 7 _ _ r₇ in
     record { shape = shaped bytes e; spare = e₅; no-stray = e₆; no-double = e₇; two-sided = e₈ }

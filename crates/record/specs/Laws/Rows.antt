@@ -5,13 +5,14 @@
 --   row-size       a block reaches from its start to the next
 --   row-neighbour  the neighbour at a position of a block
 --   place-known    what a block mentions is a vertex
+--   flatten-cut    the blocks in a row are the row
 use Prim.Native.Nat.{ℕ, zero, suc, _+_, _-_, _≤_, _<_}
-use mathlib.Core.Path.{_≡_, sym, _∙_, ap}
-use mathlib.Core.List.{List}
+use mathlib.Core.Path.{_≡_, sym, _∙_, ap, ap₂}
+use mathlib.Core.List.{List, [], _∷_, _++_, flatten}
 use native.Mathlib.Omega.{arith}
 use native.Mathlib.Decide.{decLt}
 use lib.ListN.{length, getD, take, drop, length-drop}
-use lib.Seq.{length-take-le, getD-take, getD-drop}
+use lib.Seq.{length-take-le, getD-take, getD-drop, drop-drop, take-add, take-all}
 use Rattle.graph.specs.Graph.{block, target, Place}
 use Rattle.record.specs.Arrays.{cut, Divided, At, Holds}
 use Rattle.record.specs.Laws.Parts.{length-cut, cut-block}
@@ -81,3 +82,41 @@ place-known {starts} {nbrs} {u} {j} at p =
     let k = at .arrays .known (getD starts u 0 + j) (omega arith) in
     omega arith
 
+-- ---- the blocks in a row
+
+abbrev Rise : List ℕ → Type 0
+Rise s = (u : ℕ) → u + 1 < length s → getD s u 0 ≤ getD s (u + 1) 0
+
+rise-tail : (a : ℕ) (s : List ℕ) → Rise (a ∷ s) → Rise s
+rise-tail a s r u h =
+    let e : suc u + 1 ≡ suc (u + 1) = omega arith in
+    rw e at (r (suc u) (omega arith))
+
+rise-last : (a : ℕ) (s : List ℕ) → Rise (a ∷ s) → a ≤ getD (a ∷ s) (length s) 0
+rise-last a [] r = omega arith
+rise-last a (b ∷ s) r = let i = rise-last b s (rise-tail a (b ∷ s) r) in let h = r 0 (omega arith) in omega arith
+
+flatten-from : (a : ℕ) (s l : List ℕ) → Rise (a ∷ s) → flatten (cut (a ∷ s) l) ≡ take (getD (a ∷ s) (length s) 0 - a) (drop a l)
+unfolding cut flatten
+flatten-from a [] l r = let e : a - a ≡ 0 = omega arith in rw e
+flatten-from a (b ∷ s) l r =
+    let z : ℕ = getD (b ∷ s) (length s) 0 in
+    let h = r 0 (omega arith) in
+    let k = rise-last b s (rise-tail a (b ∷ s) r) in
+    let e : a + (b - a) ≡ b = omega arith in
+    let f : z - a ≡ (b - a) + (z - b) = omega arith in
+    let d : drop b l ≡ drop (b - a) (drop a l) = sym (drop-drop (b - a) a l ∙ ap (λ (x : ℕ). drop x l) e) in
+    ap (λ (x : List ℕ). take (b - a) (drop a l) ++ x) (flatten-from b s l (rise-tail a (b ∷ s) r) ∙ ap (take (z - b)) d)
+    ∙ sym (ap (λ (x : ℕ). take x (drop a l)) f ∙ take-add (b - a) (z - b) (drop a l))
+
+pub flatten-cut : {starts nbrs : List ℕ} → Divided starts nbrs → flatten (cut starts nbrs) ≡ nbrs
+flatten-cut {starts} {nbrs} i = go starts (i .some) (i .first) (i .rising) (i .last)
+  where
+    go : (s : List ℕ) → 0 < length s → getD s 0 0 ≡ 0 → Rise s → getD s (length s - 1) 0 ≡ length nbrs → flatten (cut s nbrs) ≡ nbrs
+    go [] h f r e = absurd (omega arith)
+    go (a ∷ s) h f r e =
+        let l : length (a ∷ s) - 1 ≡ length s = omega arith in
+        let z : getD (a ∷ s) (length s) 0 ≡ length nbrs = ap (λ (k : ℕ). getD (a ∷ s) k 0) (sym l) ∙ e in
+        flatten-from a s nbrs r
+        ∙ ap₂ (λ (x y : ℕ). take (x - y) (drop y nbrs)) z f
+        ∙ take-all (length nbrs - 0) nbrs (omega arith)

@@ -14,12 +14,12 @@ use Rattle.bits.specs.Laws.Bytes.{length-bits}
 use Rattle.bits.specs.Laws.Fields.{field-part}
 use Rattle.record.specs.Record.{terminals, wires, usedBits, recordLength, unary, fields, blocks}
 use Rattle.record.specs.Starts.{startsOf}
-use Rattle.record.specs.Rules.{firstBroken, orderR, spareSet, checkRules}
+use Rattle.record.specs.Rules.{firstBroken, orderR, spareSet, layoutRules, checkRules}
 use Rattle.record.specs.Answers.{answered, tried, sizesOf}
 use Rattle.record.specs.Operations.{Accepted}
-use Rattle.record.specs.Steps.{Sound}
+use Rattle.record.specs.Steps.{Sound, Laid}
 use Rattle.record.specs.declared.Sizes.{Sizes}
-use Rattle.record.specs.Laws.First.{Shaped, shaped, both-kept, order-numbered}
+use Rattle.record.specs.Laws.First.{Shaped, shaped, both-kept, rule-kept, order-numbered, layout-numbered}
 use Rattle.record.specs.Laws.Parts.{start-select}
 use Rattle.record.specs.Laws.Told.{untold-back}
 use Rattle.record.specs.Laws.Layout.{length-fields, fields-at, used-held, length-unary, length-blocks, starts-end}
@@ -41,10 +41,21 @@ told-sound bytes e =
     let (f, g) = untold-back (firstBroken (orderR bytes)) (sizesOf bytes) e in
     sound-of bytes f (ap (λ (x : Sizes). x .n) g) (ap (λ (x : Sizes). x .m) g)
 
+-- the sizes that order R and rule 5 hand on
+pub told-laid : (bytes : List ℕ) {s : Sizes} → answered s ≡ tried (layoutRules bytes) (sizesOf bytes) → Laid bytes (s .n) (s .m)
+unfolding layoutRules
+told-laid bytes e =
+    let (f, g) = untold-back (firstBroken (layoutRules bytes)) (sizesOf bytes) e in
+    let (o, r) = both-kept (order-numbered bytes) _ f in
+    let (c, _) = rule-kept 4 _ _ r in
+    record { sound = sound-of bytes o (ap (λ (x : Sizes). x .n) g) (ap (λ (x : Sizes). x .m) g); clear = c }
+
 -- an accepted record
 pub accepted-sound : {bytes : List ℕ} → Accepted bytes → Sound bytes (terminals bytes) (wires bytes)
-unfolding checkRules
-accepted-sound {bytes} a = sound-of bytes (both-kept (order-numbered bytes) _ (a .unbroken) .0) refl refl
+unfolding checkRules layoutRules
+accepted-sound {bytes} a =
+    let (l, _) = both-kept (layout-numbered bytes) _ (a .unbroken) in
+    sound-of bytes (both-kept (order-numbered bytes) _ l .0) refl refl
 
 -- the sizes that Check hands on
 module _ (bytes : List ℕ) {s : Sizes} (e : answered s ≡ tried (checkRules bytes) (sizesOf bytes)) where
@@ -52,10 +63,11 @@ module _ (bytes : List ℕ) {s : Sizes} (e : answered s ≡ tried (checkRules by
   check-kept = untold-back (firstBroken (checkRules bytes)) (sizesOf bytes) e .0
 
   pub check-sound : Sound bytes (s .n) (s .m)
-  unfolding checkRules
+  unfolding checkRules layoutRules
   check-sound =
       let g = untold-back (firstBroken (checkRules bytes)) (sizesOf bytes) e .1 in
-      let k = both-kept (order-numbered bytes) _ check-kept .0 in
+      let (l, _) = both-kept (layout-numbered bytes) _ check-kept in
+      let k = both-kept (order-numbered bytes) _ l .0 in
       sound-of bytes k (ap (λ (x : Sizes). x .n) g) (ap (λ (x : Sizes). x .m) g)
 
 module _ {bytes : List ℕ} {n m : ℕ} (s : Sound bytes n m) where

@@ -96,8 +96,8 @@ module _ {starts nbrs : List ℕ} {u end p : ℕ} where
 
       -- v stands there
       module _ {v : ℕ} (e : v ≡ getD nbrs p 0) where
-        pub span-known : v < 4096
-        span-known = let k = s .at .arrays .known p (span-place .0) in omega arith
+        pub span-known : v + 1 < length starts
+        span-known = rw e (s .at .arrays .known p (span-place .0))
 
         pub span-hit : {w : ℕ} → w ≡ v → mentions w (upTo starts nbrs u (p + 1)) ≡ mentions w (upTo starts nbrs u p) + 1
         span-hit {w} q = count-hit (s .at .arrays .divided) u p w (along-holds (s .along) l) (q ∙ e)

@@ -21,16 +21,20 @@ use Rattle.record.proofs.Laws.Arrays.Loops.{Sized, sized-start}
 -- the marks are of blocks before u, in which no terminal stands twice
 pub record Single (starts nbrs : List ℕ) (n u : ℕ) (last : List ℕ) : Type 0 where
   pub sized : Sized starts nbrs n
-  pub fresh : Fresh (u + 1) last
+  pub fresh : Fresh starts (u + 1) last
   pub single : (w : ℕ) → w < u → (v : ℕ) → mentions v (block (cut starts nbrs) w) ≤ 1
 
 module _ {starts nbrs : List ℕ} {n : ℕ} where
-  pub single-start : Arrays starts nbrs → n ≡ length starts - 1 → Single starts nbrs n 0 (replicate 4096 0)
-  single-start i e = record {
+  pub single-start : Arrays starts nbrs → n ≡ length starts - 1 → {last : List ℕ} (k : ℕ) → last ≡ replicate k 0 → k ≡ n
+      → Single starts nbrs n 0 last
+  single-start i e k z q = rw z (record {
     sized = sized-start i e;
-    fresh = record { size = length-replicate {A = ℕ} 4096 0; below = λ v. (let z = cell-zero 4096 v in omega arith) };
+    fresh = record {
+      size = let l = length-replicate {A = ℕ} k 0 in let s = i .divided .some in omega arith;
+      below = λ v. (let c = cell-zero k v in omega arith);
+    };
     single = λ w h. absurd (omega arith);
-  }
+  })
 
   module _ {u : ℕ} {last : List ℕ} (o : Single starts nbrs n u last) where
     module _ {out : List ℕ} {r : Bool} (p : Repeats starts nbrs u out r) where

@@ -11,15 +11,17 @@ use Rattle.record.specs.Laws.Stores.{cell-zero, cell-same, cell-other}
 use Rattle.record.proofs.Laws.Arrays.Latest.{latest-zero, latest-hit, latest-miss}
 use Rattle.record.proofs.Laws.Arrays.Loops.{Sized, sized-start, Round, round-start, round-more, round-last, along-holds, along-end, Span, span-start, span-place, span-known, span-more}
 
-pub listed-none : (starts nbrs : List ℕ) → Listed starts nbrs 0 (replicate 4096 0) (replicate 32768 0) (replicate 32768 0)
-listed-none starts nbrs = record {
-  head-size = length-replicate {A = ℕ} 4096 0;
-  link-size = length-replicate {A = ℕ} 32768 0;
-  from-size = length-replicate {A = ℕ} 32768 0;
-  heads = λ v. cell-zero 4096 v ∙ sym (latest-zero v nbrs);
+-- the heads are cleared, and what the links and the sources hold does not matter
+pub listed-none : {starts nbrs head link from : List ℕ} (n : ℕ) → n + 1 ≡ length starts → head ≡ replicate n 0
+    → length link ≡ length nbrs → length from ≡ length nbrs → Listed starts nbrs 0 head link from
+listed-none {nbrs = nbrs} n e h l f = rw h (record {
+  head-size = let z = length-replicate {A = ℕ} n 0 in omega arith;
+  link-size = l;
+  from-size = f;
+  heads = λ v. cell-zero n v ∙ sym (latest-zero v nbrs);
   links = λ q h. absurd (omega arith);
   owned = λ q h. absurd (omega arith);
-}
+})
 
 -- ---- one block
 
@@ -43,7 +45,7 @@ module _ {starts nbrs : List ℕ} {u end p : ℕ} {head link from : List ℕ} wh
     entered-more {v} l e e₁ e₂ e₃ = rw (e₁, e₂, e₃) (record {
       span = span-more (k .span) l;
       listed = record {
-        head-size = length-set head v (p + 1) ∙ k .listed .head-size;
+        head-size = let l = length-set head v (p + 1) in let z = k .listed .head-size in omega arith;
         link-size = length-set link p (getD head v 0) ∙ k .listed .link-size;
         from-size = length-set from p u ∙ k .listed .from-size;
         heads = λ w. at-head w (ℕ-discrete w v);

@@ -21,11 +21,11 @@ pub data Seen (times mark x : ℕ) : Type 0 where
 -- the terminals at the places of u's block before p are marked, and none stood there twice
 pub record Marked (starts nbrs : List ℕ) (u end p : ℕ) (last : List ℕ) : Type 0 where
   pub span : Span starts nbrs u end p
-  pub size : length last ≡ 4096
+  pub size : length last + 1 ≡ length starts
   pub seen : (v : ℕ) → Seen (mentions v (upTo starts nbrs u p)) (u + 1) (getD last v 0)
 
 module _ {starts nbrs : List ℕ} {u end p : ℕ} {last : List ℕ} where
-  pub marked-start : At starts nbrs u → Fresh (u + 1) last → end ≡ getD starts (u + 1) 0 → p ≡ getD starts u 0 → Marked starts nbrs u end p last
+  pub marked-start : At starts nbrs u → Fresh starts (u + 1) last → end ≡ getD starts (u + 1) 0 → p ≡ getD starts u 0 → Marked starts nbrs u end p last
   marked-start at f e s = record { span = span-start at e s; size = f .size; seen = λ v. never (count-start starts nbrs u p v (omega arith)) (f .below v) }
 
   module _ (m : Marked starts nbrs u end p last) where
@@ -59,7 +59,7 @@ module _ {starts nbrs : List ℕ} {u end p : ℕ} {last : List ℕ} where
       pub marked-more : (getD last v 0 ≡ u + 1 → ⊥) → {out : List ℕ} → out ≡ set last v (u + 1) → Marked starts nbrs u end (p + 1) out
       marked-more n o = rw o (record {
         span = span-more (m .span) l;
-        size = length-set last v (u + 1) ∙ m .size;
+        size = let l = length-set last v (u + 1) in let z = m .size in omega arith;
         seen = λ w. go w (ℕ-discrete w v) (m .seen w);
       })
         where

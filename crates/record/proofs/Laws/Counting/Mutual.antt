@@ -63,7 +63,7 @@ module _ {starts nbrs reverse next next′ : List ℕ} (t : Turning starts nbrs 
         let d = matched-le u h v in
         omega arith
 
-  pub mutual-kept : Kept starts nbrs
+  pub mutual-kept : Kept (cut starts nbrs)
   unfolding stray doubled oneSided
   mutual-kept =
       let g = cut starts nbrs in

@@ -13,12 +13,12 @@ use Rattle.record.specs.Laws.Stores.{cell-same, cell-other}
 pub record Nexts (starts next : List ℕ) (n v : ℕ) (of : ℕ → ℕ) : Type 0 where
   pub number : n + 1 ≡ length starts
   pub few : n ≤ 4096
-  pub cells : length next ≡ 4096
+  pub cells : length next ≡ n
   pub done : (w : ℕ) → w < v → getD next w 0 ≡ getD starts (of w) 0
 
 module _ {starts next : List ℕ} {n v : ℕ} (of : ℕ → ℕ) where
-  pub nexts-start : (0 < length starts) × (length starts < 4098) × (length next ≡ 4096) → n ≡ length starts - 1 → v ≡ 0 → Nexts starts next n v of
-  nexts-start s e z = record { number = omega arith; few = omega arith; cells = s .2; done = λ w h. absurd (omega arith) }
+  pub nexts-start : (length starts < 4098) × (length next + 1 ≡ length starts) → n ≡ length starts - 1 → v ≡ 0 → Nexts starts next n v of
+  nexts-start s e z = record { number = omega arith; few = omega arith; cells = omega arith; done = λ w h. absurd (omega arith) }
 
 module _ {starts next : List ℕ} {n v : ℕ} {of : ℕ → ℕ} (k : Nexts starts next n v of) where
   pub nexts-found : getD next v 0 ≡ getD starts (of v) 0 → Nexts starts next n (v + 1) of
@@ -43,7 +43,7 @@ module _ {starts next : List ℕ} {n v : ℕ} {of : ℕ → ℕ} (k : Nexts star
 
 module _ {starts next : List ℕ} {n v : ℕ} where
   pub at-starts : Nexts starts next n v (λ w. w) → n ≤ v → AtStarts starts next
-  at-starts k h = record { cells = k .cells; begins = λ w l. k .done w (let e = k .number in omega arith) }
+  at-starts k h = record { cells = let e = k .number in let c = k .cells in omega arith; begins = λ w l. k .done w (let e = k .number in omega arith) }
 
   pub at-ends : Nexts starts next n v (λ w. w + 1) → n ≤ v → AtEnds starts next
   at-ends k h = record { ends = λ w l. k .done w (let e = k .number in omega arith) }

@@ -23,11 +23,11 @@ use Rattle.record.proofs.Laws.Arrays.Loops.{Sized, sized-start, sized-a
 pub record Even (starts nbrs head link from : List ℕ) (n u : ℕ) (counts : List ℕ) : Type 0 where
   pub sized : Sized starts nbrs n
   pub listed : Listed starts nbrs (length nbrs) head link from
-  pub clear : Clear counts
+  pub clear : Clear starts counts
   pub under : (w : ℕ) → w < u → (s : ℕ) → mentions w (block (cut starts nbrs) s) ≤ mentions s (block (cut starts nbrs) w)
 
 module _ {starts nbrs head link from : List ℕ} {n : ℕ} {counts : List ℕ} where
-  pub even-start : Arrays starts nbrs → n ≡ length starts - 1 → Listed starts nbrs (length nbrs) head link from → Clear counts
+  pub even-start : Arrays starts nbrs → n ≡ length starts - 1 → Listed starts nbrs (length nbrs) head link from → Clear starts counts
       → Even starts nbrs head link from n 0 counts
   even-start i e l c = record { sized = sized-start i e; listed = l; clear = c; under = λ w h. absurd (omega arith) }
 

@@ -13,23 +13,23 @@ use Rattle.record.specs.Laws.Stores.{cell-zero, cell-same, cell-other}
 use Rattle.record.proofs.Laws.Arrays.Counts.{count-start, count-le, count-part}
 use Rattle.record.proofs.Laws.Arrays.Loops.{Span, span-start, span-whole, span-place, span-known, span-hit, span-miss, span-more}
 
-pub clear-none : Clear (replicate 4096 0)
-clear-none = record { size = length-replicate {A = ℕ} 4096 0; zeros = cell-zero 4096 }
+pub clear-none : {starts counts : List ℕ} (n : ℕ) → n + 1 ≡ length starts → counts ≡ replicate n 0 → Clear starts counts
+clear-none n e c = rw c (record { size = let z = length-replicate {A = ℕ} n 0 in omega arith; zeros = cell-zero n })
 
 -- ---- counting up
 
 -- the places of u's block before p are counted
 pub record Counting (starts nbrs : List ℕ) (u end p : ℕ) (counts : List ℕ) : Type 0 where
   pub span : Span starts nbrs u end p
-  pub size : length counts ≡ 4096
+  pub size : length counts + 1 ≡ length starts
   pub same : (v : ℕ) → getD counts v 0 ≡ mentions v (upTo starts nbrs u p)
 
 module _ {starts nbrs : List ℕ} {u end p : ℕ} {counts : List ℕ} where
-  pub counting-start : At starts nbrs u → Clear counts → end ≡ getD starts (u + 1) 0 → p ≡ getD starts u 0 → Counting starts nbrs u end p counts
+  pub counting-start : At starts nbrs u → Clear starts counts → end ≡ getD starts (u + 1) 0 → p ≡ getD starts u 0 → Counting starts nbrs u end p counts
   counting-start at c e s = record { span = span-start at e s; size = c .size; same = λ v. c .zeros v ∙ sym (count-start starts nbrs u p v (omega arith)) }
 
   module _ (k : Counting starts nbrs u end p counts) where
-    pub counting-end : end ≤ p → CountsOf (block (cut starts nbrs) u) counts
+    pub counting-end : end ≤ p → CountsOf starts (block (cut starts nbrs) u) counts
     counting-end h = record { size = k .size; same = λ v. k .same v ∙ span-whole (k .span) h v }
 
     pub counting-small : p < end → (v : ℕ) → getD counts v 0 < 32768
@@ -39,7 +39,7 @@ module _ {starts nbrs : List ℕ} {u end p : ℕ} {counts : List ℕ} where
         → Counting starts nbrs u end (p + 1) out
     counting-more {v} {c} l e ec o = rw o (record {
       span = span-more (k .span) l;
-      size = length-set counts v (c + 1) ∙ k .size;
+      size = let l = length-set counts v (c + 1) in let z = k .size in omega arith;
       same = λ w. go w (ℕ-discrete w v) (k .same w);
     })
       where
@@ -59,11 +59,11 @@ module _ {starts nbrs : List ℕ} {u end p : ℕ} {counts : List ℕ} where
 -- the counts reach no further than the places of u's block from p on
 pub record Wiping (starts nbrs : List ℕ) (u end p : ℕ) (counts : List ℕ) : Type 0 where
   pub span : Span starts nbrs u end p
-  pub size : length counts ≡ 4096
+  pub size : length counts + 1 ≡ length starts
   pub reach : (v : ℕ) → getD counts v 0 + mentions v (upTo starts nbrs u p) ≤ mentions v (block (cut starts nbrs) u)
 
 module _ {starts nbrs : List ℕ} {u end p : ℕ} {counts : List ℕ} where
-  pub wiping-start : At starts nbrs u → Within (block (cut starts nbrs) u) counts → end ≡ getD starts (u + 1) 0 → p ≡ getD starts u 0
+  pub wiping-start : At starts nbrs u → Within starts (block (cut starts nbrs) u) counts → end ≡ getD starts (u + 1) 0 → p ≡ getD starts u 0
       → Wiping starts nbrs u end p counts
   wiping-start at w e s = record {
     span = span-start at e s;
@@ -72,13 +72,13 @@ module _ {starts nbrs : List ℕ} {u end p : ℕ} {counts : List ℕ} where
   }
 
   module _ (k : Wiping starts nbrs u end p counts) where
-    pub wiping-end : end ≤ p → Clear counts
+    pub wiping-end : end ≤ p → Clear starts counts
     wiping-end h = record { size = k .size; zeros = λ v. (let a = k .reach v in let b = span-whole (k .span) h v in omega arith) }
 
     pub wiping-more : {v : ℕ} → p < end → v ≡ getD nbrs p 0 → {out : List ℕ} → out ≡ set counts v 0 → Wiping starts nbrs u end (p + 1) out
     wiping-more {v} l e o = rw o (record {
       span = span-more (k .span) l;
-      size = length-set counts v 0 ∙ k .size;
+      size = let l = length-set counts v 0 in let z = k .size in omega arith;
       reach = λ w. go w (ℕ-discrete w v) (k .reach w);
     })
       where
@@ -101,10 +101,10 @@ module _ {starts nbrs : List ℕ} {u : ℕ} {counts : List ℕ} {r : Bool} (k : 
   pub settled-found : r ≡ true → Settled starts nbrs u counts true
   settled-found e = record { found = λ t. k .found e; none = λ t. absurd (true≢false t); clear = λ t. absurd (true≢false t) }
 
-  pub left-within : r ≡ false → Within (block (cut starts nbrs) u) counts
+  pub left-within : r ≡ false → Within starts (block (cut starts nbrs) u) counts
   left-within e = record { size = k .size; reach = λ v. (let a = k .left e v in omega arith) }
 
-  pub settled-none : r ≡ false → {out : List ℕ} → Clear out → Settled starts nbrs u out false
+  pub settled-none : r ≡ false → {out : List ℕ} → Clear starts out → Settled starts nbrs u out false
   settled-none e c = record {
     found = λ t. absurd (true≢false (sym t));
     none = λ t s. (let a = k .left e s in omega arith);

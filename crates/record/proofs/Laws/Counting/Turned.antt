@@ -46,11 +46,11 @@ module _ {starts nbrs reverse next : List ℕ} {p : ℕ} (t : Turned starts nbrs
     next-holds : Holds starts v q
     next-holds = let n = t .near v k in record { inside = k; low = omega arith; high = omega arith }
 
-    pub next-place : (v < 4096) × (q < length reverse) × (length reverse ≤ 32768)
+    pub next-place : (v < length next) × (q < length reverse) × (length reverse ≤ 32768)
     next-place =
         let h = next-holds in
         let f = starts-fit turned-divided (v + 1) k in
-        let b = t .divided .few-blocks in
+        let b = t .cells in
         let c = turned-divided .few-places in
         (omega arith, omega arith, c)
 
@@ -80,7 +80,7 @@ module _ {starts nbrs reverse next : List ℕ} {p : ℕ} (t : Turned starts nbrs
       turned-more there o = rw o (record {
         divided = t .divided;
         size = t .size;
-        cells = length-set next v (q + 1) ∙ t .cells;
+        cells = let l = length-set next v (q + 1) in let z = t .cells in omega arith;
         near = λ x l. near x l (ℕ-discrete x v);
         same = λ x w l. same x w l (ℕ-discrete x v) (ℕ-discrete w u);
       })

@@ -18,12 +18,12 @@ use Rattle.record.proofs.Laws.Arrays.Latest.{Link, latest-link, latest-
 pub record Walk (starts nbrs head link from : List ℕ) (u x : ℕ) (counts : List ℕ) : Type 0 where
   pub at : At starts nbrs u
   pub listed : Listed starts nbrs (length nbrs) head link from
-  pub size : length counts ≡ 4096
+  pub size : length counts + 1 ≡ length starts
   pub here : Link u nbrs (length nbrs) x
   pub same : (s : ℕ) → getD counts s 0 + mentions u (block (cut starts nbrs) s) ≡ mentions s (block (cut starts nbrs) u) + mentions u (upTo starts nbrs s x)
 
 module _ {starts nbrs head link from : List ℕ} {u x : ℕ} {counts : List ℕ} where
-  pub walk-start : At starts nbrs u → Listed starts nbrs (length nbrs) head link from → CountsOf (block (cut starts nbrs) u) counts
+  pub walk-start : At starts nbrs u → Listed starts nbrs (length nbrs) head link from → CountsOf starts (block (cut starts nbrs) u) counts
       → x ≡ getD head u 0 → Walk starts nbrs head link from u x counts
   walk-start at l k e = rw (e ∙ l .heads u) (record {
     at = at;
@@ -68,8 +68,8 @@ module _ {starts nbrs head link from : List ℕ} {u x : ℕ} {counts : List ℕ}
         holds : Holds starts s q
         holds = rw es (w .listed .owned q (walk-place .0))
 
-        pub walk-source : s < 4096
-        walk-source = let a = holds .inside in let b = w .at .arrays .divided .few-blocks in omega arith
+        pub walk-source : s + 1 < length starts
+        walk-source = holds .inside
 
         module _ {c : ℕ} (ec : c ≡ getD counts s 0) where
           pub walk-found : c ≡ 0 → CountedOff starts nbrs u counts true
@@ -90,7 +90,7 @@ module _ {starts nbrs head link from : List ℕ} {u x : ℕ} {counts : List ℕ}
               rw (o, ey ∙ next) (record {
                 at = w .at;
                 listed = w .listed;
-                size = length-set counts s (c - 1) ∙ w .size;
+                size = let l = length-set counts s (c - 1) in let z = w .size in omega arith;
                 here = record { below = omega arith; own = k .own };
                 same = λ t. rw (count-latest (w .at .arrays .divided) t u q) (go t (ℕ-discrete t s) (rw x-is at (w .same t)));
               })

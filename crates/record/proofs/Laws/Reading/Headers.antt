@@ -12,9 +12,12 @@ use Rattle.bits.specs.Bits.{bits, string, count, rank}
 use Rattle.bits.specs.Laws.Bytes.{length-bits}
 use Rattle.bits.specs.Laws.Rank.{held, length-string, rank-past}
 use Rattle.record.specs.Record.{terminals, wires, usedBits, recordLength, unary}
-use Rattle.record.specs.Rules.{firstBroken, orderR, beginsWithZero}
+use Rattle.record.specs.Rules.{firstBroken, orderR, beginsWithZero, spareSet, layoutRules}
+use Rattle.record.specs.Answers.{refused, answered, tried, sizesOf}
+use Rattle.record.specs.declared.Sizes.{Sizes}
 use Rattle.record.specs.Steps.{Headed}
-use Rattle.record.specs.Laws.First.{first-broken, first-kept}
+use Rattle.record.specs.Laws.First.{first-broken, first-kept, append-kept, order-numbered}
+use Rattle.record.specs.Laws.Told.{told, untold, untold-back, told-append}
 
 module _ (bytes : List ℕ) where
   pub rule-1 : length bytes < 4 → firstBroken (orderR bytes) ≡ 1
@@ -105,3 +108,24 @@ module _ {bytes : List ℕ} {n m : ℕ} (headed : Headed bytes n m) where
           go : (k : ℕ) → 0 < k → unary bytes ≡ take k (drop 28 (bits bytes)) → beginsWithZero (unary bytes) ≡ not (getD (bits bytes) 28 false)
           go zero h e = absurd (omega arith)
           go (suc k) h e = ap beginsWithZero (e ∙ ap (take (suc k)) (drop-cons (bits bytes) 28 false inside))
+
+-- ---- order R, and then rule 5
+
+module _ (bytes : List ℕ) where
+  pub layout-refused : {k : ℕ} → refused k ≡ tried (orderR bytes) (sizesOf bytes) → refused k ≡ tried (layoutRules bytes) (sizesOf bytes)
+  unfolding layoutRules
+  layout-refused e = told-append (orderR bytes) _ (sizesOf bytes) (sizesOf bytes) e
+
+  module _ {s : Sizes} (e : answered s ≡ tried (orderR bytes) (sizesOf bytes)) where
+    left-5 : firstBroken (layoutRules bytes) ≡ firstBroken ((5, spareSet bytes) ∷ [])
+    unfolding layoutRules
+    left-5 = append-kept (order-numbered bytes) _ (untold-back (firstBroken (orderR bytes)) (sizesOf bytes) e .0)
+
+    pub layout-spare : spareSet bytes ≡ true → refused 5 ≡ tried (layoutRules bytes) (sizesOf bytes)
+    layout-spare b = told (sizesOf bytes) (left-5 ∙ first-broken 5 [] b)
+
+    pub layout-kept : spareSet bytes ≡ false → answered s ≡ tried (layoutRules bytes) (sizesOf bytes)
+    unfolding firstBroken
+    layout-kept b =
+        let g = untold-back (firstBroken (orderR bytes)) (sizesOf bytes) e .1 in
+        ap answered g ∙ untold (sizesOf bytes) (left-5 ∙ first-kept 5 [] b)

@@ -1,33 +1,37 @@
 -- `doubles::some_doubled` meets its contract: the blocks passed mention no terminal twice.
-use mathlib.Core.Path.{refl}
-use Prim.Native.Nat.{_-_}
+use mathlib.Core.Path.{refl, ap, _∙_}
+use Prim.Native.Nat.{ℕ, _-_}
 use native.Mathlib.Omega.{arith}
 use borrow.Author.Needs.{needs}
+use lib.ListN.{length}
 use Rattle.record.proofs.Laws.Arrays.Loops.{sized-at}
 use Rattle.record.proofs.Laws.Counting.Doubled.{Single, single-start, single-more, doubled-found, doubled-none}
 use Rattle.record.proofs.doubles.some_doubled.Statement.{statement}
 use Rattle.record.proofs.doubles.some_doubled.Tie as tie
 
 abbrev Inv-loop : tie.InvT-loop
-Inv-loop starts nbrs n last₀ u₀ last u = Single starts nbrs n u last
+Inv-loop starts nbrs last₀ n u₀ last u = Single starts nbrs n u last
 
 abbrev μ-loop : tie.MeasureT-loop
-μ-loop starts nbrs n last₀ u₀ last u = n - u
+μ-loop starts nbrs last₀ n u₀ last u = n - u
+
+clear-requires : tie.Need-clear-requires Inv-loop μ-loop
+clear-requires c κs = search needs
 
 sub-n : tie.Need-sub-n Inv-loop μ-loop
 sub-n c = omega arith
 
 loop-holds : tie.Need-loop-holds Inv-loop μ-loop
-loop-holds c = single-start (c .before .before .pre) refl
-
-slice-aggregate-repeats : tie.Need-slice-aggregate-repeats Inv-loop μ-loop
-slice-aggregate-repeats c = search needs
+loop-holds c = single-start (c .before .before .before .before .before .before .before .pre .0) refl (length (c .before .before .before .before .before .before .before .args .last .now)) (c .before .before .clear .ensures) (omega arith)
 
 repeats-requires : tie.Need-repeats-requires Inv-loop μ-loop
 repeats-requires c κs = (sized-at (c .before .before .loop .inv .sized) (c .before .loop-test .taken), c .before .before .loop .inv .fresh)
 
+same-length : tie.Need-same-length Inv-loop μ-loop
+same-length c = omega arith
+
 returns : tie.Need-returns Inv-loop μ-loop
-returns c = doubled-found (c .before .before .before .before .before .loop .inv) (c .before .before .repeats .ensures) (c .if1 .taken)
+returns c = doubled-found (c .before .before .before .before .before .before .loop .inv) (c .before .before .before .repeats .ensures) (c .if1 .taken)
 
 add-u : tie.Need-add-u Inv-loop μ-loop
 add-u c = omega arith
@@ -36,7 +40,10 @@ loop-less : tie.Need-loop-less Inv-loop μ-loop
 loop-less c = omega arith
 
 loop-again : tie.Need-loop-again Inv-loop μ-loop
-loop-again c = single-more (c .before .before .before .before .before .loop .inv) (c .before .before .repeats .ensures) (c .if1 .left)
+loop-again c = single-more (c .before .before .before .before .before .before .loop .inv) (c .before .before .before .repeats .ensures) (c .if1 .left)
+
+same-length-2 : tie.Need-same-length-2 Inv-loop μ-loop
+same-length-2 c = omega arith
 
 returns-2 : tie.Need-returns-2 Inv-loop μ-loop
 returns-2 c = doubled-none (c .before .loop .inv) (c .loop-test .left)
@@ -47,12 +54,14 @@ some-doubled-spec =
     (tie.spec
     Inv-loop
     μ-loop
+    clear-requires
     sub-n
     loop-holds
-    slice-aggregate-repeats
     repeats-requires
+    same-length
     returns
     add-u
     loop-less
     loop-again
+    same-length-2
     returns-2)

@@ -10,10 +10,10 @@ use Rattle.record.proofs.fields.read_fields.Statement.{statement}
 use Rattle.record.proofs.fields.read_fields.Tie as tie
 
 abbrev Inv-loop : tie.InvT-loop
-Inv-loop bytes start more list₀ i₀ list i = Reading (bits bytes) start more (length list₀) list i
+Inv-loop bytes start list₀ i₀ list i = Reading (bits bytes) start (length list₀) list i
 
 abbrev μ-loop : tie.MeasureT-loop
-μ-loop bytes start more list₀ i₀ list i = length list - i
+μ-loop bytes start list₀ i₀ list i = length list - i
 
 read-fours-requires : tie.Need-read-fours-requires Inv-loop μ-loop
 read-fours-requires c κs = c .before .before .before .pre
@@ -32,9 +32,6 @@ add-read12 c = omega arith
 read12-requires : tie.Need-read12-requires Inv-loop μ-loop
 read12-requires c κs = omega arith
 
-add-put : tie.Need-add-put Inv-loop μ-loop
-add-put c = omega arith
-
 put-requires : tie.Need-put-requires Inv-loop μ-loop
 put-requires c κs = omega arith
 
@@ -44,7 +41,8 @@ add-i c = omega arith
 loop-less : tie.Need-loop-less Inv-loop μ-loop
 loop-less c =
     let loop = c .before .before .before .before .before .before .loop in
-    let e = ap length (c .before .before .put .ensures) ∙ length-set (loop .list) (loop .i) (c .before .before .before .read12 .result + c .before .before .before .before .before .before .before .before .before .before .before .before .before .args .more) in omega arith
+    let e = ap length (c .before .before .put .ensures) ∙ length-set (loop .list) (loop .i) (c .before .before .before .read12 .result) in
+    omega arith
 
 loop-again : tie.Need-loop-again Inv-loop μ-loop
 loop-again c =
@@ -68,7 +66,6 @@ read-fields-spec =
     mul-read12
     add-read12
     read12-requires
-    add-put
     put-requires
     add-i
     loop-less

@@ -13,35 +13,23 @@ add-read-four c = search needs
 read-four-requires : tie.Need-read-four-requires
 read-four-requires c κs = search needs
 
-add-put : tie.Need-add-put
-add-put c = search needs
-
 put-requires : tie.Need-put-requires
 put-requires c κs = search needs
 
-add-put-2 : tie.Need-add-put-2
-add-put-2 c = search needs
-
-add-put-3 : tie.Need-add-put-3
-add-put-3 c = search needs
+add-put : tie.Need-add-put
+add-put c = search needs
 
 put-requires-2 : tie.Need-put-requires-2
 put-requires-2 c κs = search needs
 
-add-put-4 : tie.Need-add-put-4
-add-put-4 c = search needs
-
-add-put-5 : tie.Need-add-put-5
-add-put-5 c = search needs
+add-put-2 : tie.Need-add-put-2
+add-put-2 c = search needs
 
 put-requires-3 : tie.Need-put-requires-3
 put-requires-3 c κs = search needs
 
-add-put-6 : tie.Need-add-put-6
-add-put-6 c = search needs
-
-add-put-7 : tie.Need-add-put-7
-add-put-7 c = search needs
+add-put-3 : tie.Need-add-put-3
+add-put-3 c = search needs
 
 put-requires-4 : tie.Need-put-requires-4
 put-requires-4 c κs = search needs
@@ -51,8 +39,11 @@ same-length c = search needs
 
 returns : tie.Need-returns
 returns c =
-    let pre = c .before .before .before .before .before .before .before .before .before .before .before .before .before .before .before .before .before .before .before .before .before .before .before .pre in
-    reads-four (pre .5) (pre .1) (c .before .before .before .before .before .before .before .before .before .before .before .before .before .before .before .before .before .before .before .before .read-four .ensures) (c .before .before .before .before .before .before .before .before .before .before .before .before .before .before .before .before .before .put .ensures) (c .before .before .before .before .before .before .before .before .before .before .before .before .put2 .ensures) (c .before .before .before .before .before .before .before .put3 .ensures) (c .before .before .put4 .ensures)
+    reads-four (c .before .before .before .before .before .before .before .before .before .before .before .before .before .before .before .before .before .before .before .pre .1) (c .before .before .before .before .before .before .before .before .before .before .before .before .before .before .before .before .before .before .before .pre .0 .1) (c .before .before .before .before .before .before .before .before .before .before .before .before .before .before .before .before .read-four .ensures)
+    (c .before .before .before .before .before .before .before .before .before .before .before .before .before .before .put .ensures)
+    (c .before .before .before .before .before .before .before .before .before .before .put2 .ensures)
+    (c .before .before .before .before .before .before .put3 .ensures)
+    (c .before .before .put4 .ensures)
 
 pub read-four-spec : {M : Type 1} → statement M
 read-four-spec =
@@ -61,16 +52,12 @@ read-four-spec =
     mul-read-four
     add-read-four
     read-four-requires
-    add-put
     put-requires
-    add-put-2
-    add-put-3
+    add-put
     put-requires-2
-    add-put-4
-    add-put-5
+    add-put-2
     put-requires-3
-    add-put-6
-    add-put-7
+    add-put-3
     put-requires-4
     same-length
     returns)

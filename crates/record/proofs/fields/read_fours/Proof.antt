@@ -10,16 +10,16 @@ use Rattle.record.proofs.fields.read_fours.Statement.{statement}
 use Rattle.record.proofs.fields.read_fours.Tie as tie
 
 abbrev Inv-loop : tie.InvT-loop
-Inv-loop bytes start more list₀ i₀ list i = Reading (bits bytes) start more (length list₀) list i
+Inv-loop bytes start list₀ i₀ list i = Reading (bits bytes) start (length list₀) list i
 
 abbrev μ-loop : tie.MeasureT-loop
-μ-loop bytes start more list₀ i₀ list i = length list - i
+μ-loop bytes start list₀ i₀ list i = length list - i
 
 loop-holds : tie.Need-loop-holds Inv-loop μ-loop
 loop-holds c =
     let args = c .before .before .args in
     let list = args .list .now in
-    reads-start (bits (args .bytes .now)) (args .start) (args .more) (length list) list refl
+    reads-start (bits (args .bytes .now)) (args .start) (length list) list refl
 
 add-loop : tie.Need-add-loop Inv-loop μ-loop
 add-loop c = let u = c .loop .inv .upto in omega arith
@@ -29,7 +29,7 @@ read-four-requires c κs =
     let loop = c .before .before .loop in
     let u = loop .inv .upto in
     let e = loop .inv .size in
-    (omega arith, omega arith, omega arith, omega arith, omega arith, rw e (loop .inv))
+    ((omega arith, omega arith, omega arith, omega arith), rw e (loop .inv))
 
 add-i : tie.Need-add-i Inv-loop μ-loop
 add-i c = let u = c .before .before .before .before .before .loop .inv .upto in omega arith

@@ -1,33 +1,70 @@
--- `reverse::all_mutual` meets its contract: the two rows, and the passes over them.
+-- `reverse::all_mutual` meets its contract: turned round, full, and found again.
 use mathlib.Core.Path.{sym}
-use Prim.Native.Nat.{ℕ}
-use lib.ListN.{length, length-replicate}
-use Rattle.record.specs.Laws.Stores.{part-zeros}
+use mathlib.Core.Bool.{true≢false}
+use borrow.Author.Tests.{not-false}
+use Rattle.record.proofs.Laws.Counting.Turned.{turned-divided}
+use Rattle.record.proofs.Laws.Counting.Mutual.{mutual-kept}
 use borrow.Author.Needs.{needs}
 use Rattle.record.proofs.reverse.all_mutual.Statement.{statement}
 use Rattle.record.proofs.reverse.all_mutual.Tie as tie
 
-array-borrow-prefix-reverse : tie.Need-array-borrow-prefix-reverse
-array-borrow-prefix-reverse c = search needs
+rewind-requires : tie.Need-rewind-requires
+rewind-requires c κs = search needs
 
-slice-aggregate-mutual-by : tie.Need-slice-aggregate-mutual-by
-slice-aggregate-mutual-by c = sym (part-zeros 32768 (length (c .before .before .before .args .nbrs .now)) (c .before .before .before .pre .few-places))
+turn-all-requires : tie.Need-turn-all-requires
+turn-all-requires c κs = search needs
 
-slice-aggregate-mutual-by-2 : tie.Need-slice-aggregate-mutual-by-2
-slice-aggregate-mutual-by-2 c = search needs
+same-length : tie.Need-same-length
+same-length c = search needs
 
-mutual-by-requires : tie.Need-mutual-by-requires
-mutual-by-requires c κs = (c .before .before .before .before .pre, part-zeros 32768 (length (c .before .before .before .before .args .nbrs .now)) (c .before .before .before .before .pre .few-places), length-replicate {A = ℕ} 4096 0)
+same-length-2 : tie.Need-same-length-2
+same-length-2 c = search needs
 
 returns : tie.Need-returns
-returns c = search needs
+returns c = λ t. absurd (true≢false (sym t))
+
+all-full-requires : tie.Need-all-full-requires
+all-full-requires c κs = search needs
+
+same-length-3 : tie.Need-same-length-3
+same-length-3 c = search needs
+
+same-length-4 : tie.Need-same-length-4
+same-length-4 c = search needs
+
+returns-2 : tie.Need-returns-2
+returns-2 c = λ t. absurd (true≢false (sym t))
+
+rewind-requires-2 : tie.Need-rewind-requires-2
+rewind-requires-2 c κs = search needs
+
+match-all-requires : tie.Need-match-all-requires
+match-all-requires c κs = (turned-divided (c .before .before .before .before .before .before .before .before .before .before .before .before .before .before .turn-all .ensures (not-false _ (c .before .before .before .before .before .before .before .before .before .if1 .left)) .turned), c .before .before .before .before .rewind2 .ensures)
+
+same-length-5 : tie.Need-same-length-5
+same-length-5 c = search needs
+
+same-length-6 : tie.Need-same-length-6
+same-length-6 c = search needs
+
+returns-3 : tie.Need-returns-3
+returns-3 c = λ t. mutual-kept (c .before .before .before .before .before .before .before .before .before .before .before .before .before .before .before .before .before .turn-all .ensures (not-false _ (c .before .before .before .before .before .before .before .before .before .before .before .before .if1 .left))) (c .before .before .before .before .before .before .before .before .before .before .all-full .ensures (not-false _ (c .before .before .before .before .before .before .before .before .before .if2 .left))) (c .before .before .match-all .ensures t)
 
 pub all-mutual-spec : {M : Type 1} → statement M
 all-mutual-spec =
     tie.close
     (tie.spec
-    array-borrow-prefix-reverse
-    slice-aggregate-mutual-by
-    slice-aggregate-mutual-by-2
-    mutual-by-requires
-    returns)
+    rewind-requires
+    turn-all-requires
+    same-length
+    same-length-2
+    returns
+    all-full-requires
+    same-length-3
+    same-length-4
+    returns-2
+    rewind-requires-2
+    match-all-requires
+    same-length-5
+    same-length-6
+    returns-3)

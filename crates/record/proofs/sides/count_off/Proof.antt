@@ -17,7 +17,7 @@ get-requires c κs = omega arith
 loop-holds : tie.Need-loop-holds Inv-loop μ-loop
 loop-holds c =
     let pre = c .before .before .before .before .before .before .before .pre in
-    walk-start (pre .0) (pre .1) (pre .2) (c .get .ensures .0)
+    walk-start (pre .0 .0) (pre .1) (pre .0 .1) (c .get .ensures .0)
 
 sub-q : tie.Need-sub-q Inv-loop μ-loop
 sub-q c = omega arith

@@ -5,12 +5,12 @@ use Rattle.record.proofs.sides.exceeded.Statement.{statement}
 use Rattle.record.proofs.sides.exceeded.Tie as tie
 
 count-up-requires : tie.Need-count-up-requires
-count-up-requires c κs = (c .before .before .before .before .before .before .before .pre .0, c .before .before .before .before .before .before .before .pre .2)
+count-up-requires c κs = c .before .before .before .before .before .before .before .pre .0
 
 count-off-requires : tie.Need-count-off-requires
 count-off-requires c κs =
     let pre = c .before .before .before .before .before .before .before .before .before .before .before .pre in
-    (pre .0, pre .1, c .before .before .before .count-up .ensures)
+    ((pre .0 .0, c .before .before .before .count-up .ensures), pre .1)
 
 same-length : tie.Need-same-length
 same-length c = omega arith
@@ -20,8 +20,9 @@ returns c = settled-found (c .before .before .before .count-off .ensures) (c .if
 
 wipe-requires : tie.Need-wipe-requires
 wipe-requires c κs =
-    let pre = c .before .before .before .before .before .before .before .before .before .before .before .before .before .before .before .before .pre in
-    (pre .0, left-within (c .before .before .before .before .count-off .ensures) (c .before .if1 .left))
+    let back = c .before .before .before .before in
+    let pre = back .before .before .before .before .before .before .before .before .before .before .before .before .pre in
+    (pre .0 .0, left-within (back .count-off .ensures) (c .before .if1 .left))
 
 same-length-2 : tie.Need-same-length-2
 same-length-2 c = omega arith

@@ -1,12 +1,12 @@
--- `content::spare_set` meets its contract: fewer than eight bits are left, and their ones are counted.
+-- `header::spare_set` meets its contract: fewer than eight bits are left, and their ones are counted.
 use mathlib.Core.Path.{refl}
 use Prim.Native.Nat.{_+_, _-_, _*_}
 use native.Mathlib.Omega.{arith}
 use borrow.Author.Needs.{needs}
 use lib.ListN.{length}
 use Rattle.record.specs.Laws.Sounded.{spare-counted}
-use Rattle.record.proofs.content.spare_set.Statement.{statement}
-use Rattle.record.proofs.content.spare_set.Tie as tie
+use Rattle.record.proofs.header.spare_set.Statement.{statement}
+use Rattle.record.proofs.header.spare_set.Tie as tie
 
 mul-used : tie.Need-mul-used
 mul-used c = search needs

@@ -1,0 +1,71 @@
+-- `rooms::hand_on` meets its contract: the list is filled from the front.
+use mathlib.Core.Path.{refl, sym, _∙_}
+use mathlib.Core.List.{map}
+use Prim.Native.Nat.{suc, _+_, _-_}
+use native.Mathlib.Numerals.{add-one}
+use native.Mathlib.Omega.{arith}
+use borrow.Author.Needs.{needs}
+use lib.ListN.{length, getD, length-map, length-set}
+use Rattle.record.specs.Laws.InOrder.{InOrder, order-start, order-more, order-end}
+use Rattle.record.specs.Laws.Raised.{raised-at}
+use Rattle.record.proofs.rooms.hand_on.Statement.{statement}
+use Rattle.record.proofs.rooms.hand_on.Tie as tie
+
+abbrev Inv-loop : tie.InvT-loop
+Inv-loop nbrs list₀ i₀ list i = InOrder (map suc nbrs) list i
+
+abbrev μ-loop : tie.MeasureT-loop
+μ-loop nbrs list₀ i₀ list i = length nbrs - i
+
+loop-holds : tie.Need-loop-holds Inv-loop μ-loop
+loop-holds c =
+    let l = length-map (c .args .nbrs .now) suc in
+    order-start (map suc (c .args .nbrs .now)) (c .args .list .now) (c .pre .0 ∙ sym l)
+
+mul-list : tie.Need-mul-list Inv-loop μ-loop
+mul-list c = search needs
+
+shared-slice-read-list : tie.Need-shared-slice-read-list Inv-loop μ-loop
+shared-slice-read-list c = omega arith
+
+add-list : tie.Need-add-list Inv-loop μ-loop
+add-list c = let h = c .before .before .before .pre .1 (c .before .before .loop .i) (omega arith) in omega arith
+
+mul-list-2 : tie.Need-mul-list-2 Inv-loop μ-loop
+mul-list-2 c = search needs
+
+slice-write-list : tie.Need-slice-write-list Inv-loop μ-loop
+slice-write-list c = let l = length-map (c .before .before .before .args .nbrs .now) suc in let s = c .before .before .loop .inv .size in omega arith
+
+add-i : tie.Need-add-i Inv-loop μ-loop
+add-i c = omega arith
+
+loop-less : tie.Need-loop-less Inv-loop μ-loop
+loop-less c = omega arith
+
+loop-again : tie.Need-loop-again Inv-loop μ-loop
+loop-again c = let l = length-map (c .before .before .before .args .nbrs .now) suc in order-more (c .before .before .loop .inv) (getD (c .before .before .before .args .nbrs .now) (c .before .before .loop .i) 0 + 1) refl (add-one _ ∙ sym (raised-at (c .before .before .before .args .nbrs .now) (c .before .before .loop .i) (omega arith))) (omega arith)
+
+same-length : tie.Need-same-length Inv-loop μ-loop
+same-length c = let l = length-map (c .before .before .args .nbrs .now) suc in let s = c .before .loop .inv .size in omega arith
+
+returns : tie.Need-returns Inv-loop μ-loop
+returns c = let l = length-map (c .before .before .args .nbrs .now) suc in order-end (c .before .loop .inv) (omega arith)
+
+pub hand-on-spec : {M : Type 1} → statement M
+hand-on-spec =
+    tie.close
+    (tie.spec
+    Inv-loop
+    μ-loop
+    loop-holds
+    mul-list
+    shared-slice-read-list
+    add-list
+    mul-list-2
+    slice-write-list
+    add-i
+    loop-less
+    loop-again
+    same-length
+    returns)
