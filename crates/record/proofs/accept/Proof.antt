@@ -17,7 +17,11 @@ enum-known-s : tie.Need-enum-known-s
 enum-known-s c = search needs
 
 in-room-requires : tie.Need-in-room-requires
-in-room-requires c κs = told-laid (c .before .before .before .before .before .before .before .args .bytes .now) (sym (ap shape (c .before .before .s .given .1)) ∙ c .before .before .before .before .laid-out .ensures)
+in-room-requires c κs =
+    let at-s = c .before .before in
+    let at-laid-out = at-s .before .before in
+    let start = at-laid-out .before .before .before in
+    told-laid (start .args .bytes .now) (sym (ap shape (at-s .s .given .1)) ∙ at-laid-out .laid-out .ensures)
 
 enum-known-r-2 : tie.Need-enum-known-r-2
 enum-known-r-2 c = search needs
@@ -26,19 +30,31 @@ enum-told : tie.Need-enum-told
 enum-told c = search needs
 
 returns : tie.Need-returns
-returns c = accept-unread (c .before .before .before .before .before .before .args .bytes .now) (c .before .before .before .before .before .before .args .list .now) (sym (ap shape (c .before .r .given .1)) ∙ c .before .before .before .laid-out .ensures)
+returns c =
+    let at-r = c .before in
+    let at-laid-out = at-r .before .before in
+    let start = at-laid-out .before .before .before in
+    accept-unread (start .args .bytes .now) (start .args .list .now) (sym (ap shape (at-r .r .given .1)) ∙ at-laid-out .laid-out .ensures)
 
 same-length : tie.Need-same-length
 same-length c = search needs
 
 returns-2 : tie.Need-returns-2
-returns-2 c = accept-refused (c .before .before .before .before .before .in-room .ensures) (ap verdict (c .before .r2 .given .1))
+returns-2 c =
+    let at-r2 = c .before in
+    let at-in-room = at-r2 .before .before .before .before in
+    accept-refused (at-in-room .in-room .ensures) (ap verdict (at-r2 .r2 .given .1))
 
 same-length-2 : tie.Need-same-length-2
 same-length-2 c = search needs
 
 returns-3 : tie.Need-returns-3
-returns-3 c = accept-passed (c .before .before .before .before .in-room .ensures) (told-laid (c .before .before .before .before .before .before .before .before .before .before .before .before .args .bytes .now) (sym (ap shape (c .before .before .before .before .before .before .before .s .given .1)) ∙ c .before .before .before .before .before .before .before .before .before .laid-out .ensures)) (ap verdict (c .enum-told .given .1))
+returns-3 c =
+    let at-in-room = c .before .before .before .before in
+    let at-s = at-in-room .before .before .before in
+    let at-laid-out = at-s .before .before in
+    let start = at-laid-out .before .before .before in
+    accept-passed (at-in-room .in-room .ensures) (told-laid (start .args .bytes .now) (sym (ap shape (at-s .s .given .1)) ∙ at-laid-out .laid-out .ensures)) (ap verdict (c .enum-told .given .1))
 
 pub accept-spec : {M : Type 1} → statement M
 accept-spec =

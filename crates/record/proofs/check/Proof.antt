@@ -22,11 +22,18 @@ enum-told c = search needs
 
 returns : tie.Need-returns
 unfolding check
-returns c = told-same (checkRules (c .before .before .before .before .before .before .before .args .bytes .now)) (sizesOf (c .before .before .before .before .before .before .before .args .bytes .now)) tt (sym (ap shape (c .before .r .given .1)) ∙ c .before .before .before .before .accept .ensures .0)
+returns c =
+    let at-r = c .before in
+    let at-accept = at-r .before .before .before in
+    let start = at-accept .before .before .before in
+    told-same (checkRules (start .args .bytes .now)) (sizesOf (start .args .bytes .now)) tt (sym (ap shape (at-r .r .given .1)) ∙ at-accept .accept .ensures .0)
 
 returns-2 : tie.Need-returns-2
 unfolding check
-returns-2 c = untold-same (checkRules (c .before .before .before .before .before .before .args .bytes .now)) (sizesOf (c .before .before .before .before .before .before .args .bytes .now)) tt (sym (ap shape (c .enum-told .given .1)) ∙ c .before .before .before .accept .ensures .0)
+returns-2 c =
+    let at-accept = c .before .before .before in
+    let start = at-accept .before .before .before in
+    untold-same (checkRules (start .args .bytes .now)) (sizesOf (start .args .bytes .now)) tt (sym (ap shape (c .enum-told .given .1)) ∙ at-accept .accept .ensures .0)
 
 pub check-spec : {M : Type 1} → statement M
 check-spec =

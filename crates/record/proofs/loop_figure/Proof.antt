@@ -27,24 +27,55 @@ enum-known-s : tie.Need-enum-known-s
 enum-known-s c = search needs
 
 add-more : tie.Need-add-more
-add-more c = let s = check-sound (c .before .before .before .before .before .before .before .before .args .bytes .now) (sym (ap shape (c .before .before .s .given .1)) ∙ c .before .before .before .before .before .accept .ensures .0) in omega arith
+add-more c =
+    let at-s = c .before .before in
+    let at-accept = at-s .before .before .before in
+    let start = at-accept .before .before .before in
+    let s = check-sound (start .args .bytes .now) (sym (ap shape (at-s .s .given .1)) ∙ at-accept .accept .ensures .0) in
+    omega arith
 
 cast-t11 : tie.Need-cast-t11
-cast-t11 c = let s = check-sound (c .before .before .before .before .before .before .before .before .args .bytes .now) (sym (ap shape (c .before .before .s .given .1)) ∙ c .before .before .before .before .before .accept .ensures .0) in small-fits (omega arith)
+cast-t11 c =
+    let at-s = c .before .before in
+    let at-accept = at-s .before .before .before in
+    let start = at-accept .before .before .before in
+    let s = check-sound (start .args .bytes .now) (sym (ap shape (at-s .s .given .1)) ∙ at-accept .accept .ensures .0) in
+    small-fits (omega arith)
 
 cast-t12 : tie.Need-cast-t12
-cast-t12 c = let s = check-sound (c .before .before .before .before .before .before .before .before .args .bytes .now) (sym (ap shape (c .before .before .s .given .1)) ∙ c .before .before .before .before .before .accept .ensures .0) in small-fits (omega arith)
+cast-t12 c =
+    let at-s = c .before .before in
+    let at-accept = at-s .before .before .before in
+    let start = at-accept .before .before .before in
+    let s = check-sound (start .args .bytes .now) (sym (ap shape (at-s .s .given .1)) ∙ at-accept .accept .ensures .0) in
+    small-fits (omega arith)
 
 sub-t13 : tie.Need-sub-t13
-sub-t13 c = let s = check-sound (c .before .before .before .before .before .before .before .before .args .bytes .now) (sym (ap shape (c .before .before .s .given .1)) ∙ c .before .before .before .before .before .accept .ensures .0) in difference-fits (c .before .before .s .given .0 .0 .m + 1) (c .before .before .s .given .0 .0 .n) (omega arith) (omega arith)
+sub-t13 c =
+    let at-s = c .before .before in
+    let at-accept = at-s .before .before .before in
+    let start = at-accept .before .before .before in
+    let s = check-sound (start .args .bytes .now) (sym (ap shape (at-s .s .given .1)) ∙ at-accept .accept .ensures .0) in
+    difference-fits (at-s .s .given .0 .0 .m + 1) (at-s .s .given .0 .0 .n) (omega arith) (omega arith)
 
 returns : tie.Need-returns
 unfolding loopFigure
-returns c = told-same (checkRules (c .before .before .before .before .before .before .before .args .bytes .now)) (sizesOf (c .before .before .before .before .before .before .before .args .bytes .now)) (subℕ (wires (c .before .before .before .before .before .before .before .args .bytes .now) + 1) (terminals (c .before .before .before .before .before .before .before .args .bytes .now))) (sym (ap shape (c .before .r .given .1)) ∙ c .before .before .before .before .accept .ensures .0)
+returns c =
+    let at-r = c .before in
+    let at-accept = at-r .before .before .before in
+    let start = at-accept .before .before .before in
+    told-same (checkRules (start .args .bytes .now)) (sizesOf (start .args .bytes .now)) (subℕ (wires (start .args .bytes .now) + 1) (terminals (start .args .bytes .now))) (sym (ap shape (at-r .r .given .1)) ∙ at-accept .accept .ensures .0)
 
 returns-2 : tie.Need-returns-2
 unfolding loopFigure
-returns-2 c = let e = sym (ap shape (c .before .before .s .given .1)) ∙ c .before .before .before .before .before .accept .ensures .0 in let s = check-sound (c .before .before .before .before .before .before .before .before .args .bytes .now) e in let z : ℕ → ℕ → Answer ℤ = λ x y. answered (subℕ (x + 1) y) in ap (λ (x : ℤ). answered x) (difference-told (c .before .before .s .given .0 .0 .m + 1) (c .before .before .s .given .0 .0 .n) (omega arith) (omega arith)) ∙ ap₂ z (s .is-m) (s .is-n) ∙ untold (subℕ (wires (c .before .before .before .before .before .before .before .before .args .bytes .now) + 1) (terminals (c .before .before .before .before .before .before .before .before .args .bytes .now))) (check-kept (c .before .before .before .before .before .before .before .before .args .bytes .now) e)
+returns-2 c =
+    let at-s = c .before .before in
+    let at-accept = at-s .before .before .before in
+    let start = at-accept .before .before .before in
+    let e = sym (ap shape (at-s .s .given .1)) ∙ at-accept .accept .ensures .0 in
+    let s = check-sound (start .args .bytes .now) e in
+    let z : ℕ → ℕ → Answer ℤ = λ x y. answered (subℕ (x + 1) y) in
+    ap (λ (x : ℤ). answered x) (difference-told (at-s .s .given .0 .0 .m + 1) (at-s .s .given .0 .0 .n) (omega arith) (omega arith)) ∙ ap₂ z (s .is-m) (s .is-n) ∙ untold (subℕ (wires (start .args .bytes .now) + 1) (terminals (start .args .bytes .now))) (check-kept (start .args .bytes .now) e)
 
 pub loop-figure-spec : {M : Type 1} → statement M
 loop-figure-spec =

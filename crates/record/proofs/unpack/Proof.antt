@@ -18,25 +18,48 @@ enum-known-s : tie.Need-enum-known-s
 enum-known-s c = search needs
 
 mul-if1 : tie.Need-mul-if1
-mul-if1 c = let s = check-sound (c .before .before .before .before .before .before .before .before .before .before .args .bytes .now) (sym (ap shape (c .before .before .s .given .1)) ∙ c .before .before .before .before .before .before .accept .ensures .0) in omega arith
+mul-if1 c =
+    let at-s = c .before .before in
+    let at-accept = at-s .before .before .before .before in
+    let start = at-accept .before .before .before .before in
+    let s = check-sound (start .args .bytes .now) (sym (ap shape (at-s .s .given .1)) ∙ at-accept .accept .ensures .0) in
+    omega arith
 
 same-length : tie.Need-same-length
 same-length c = search needs
 
 returns : tie.Need-returns
-returns c = let e = sym (ap shape (c .before .before .before .s .given .1)) ∙ c .before .before .before .before .before .before .before .accept .ensures .0 in let s = check-sound (c .before .before .before .before .before .before .before .before .before .before .before .args .bytes .now) e in let m = unpack-misfit (c .before .before .before .before .before .before .before .before .before .before .before .args .bytes .now) (c .before .before .before .before .before .before .before .before .before .before .before .args .list .now) (check-kept (c .before .before .before .before .before .before .before .before .before .before .before .args .bytes .now) e) (s .is-m) (λ same. omega arith) in (m .0, c .before .before .before .before .before .before .before .accept .ensures .1)
+returns c =
+    let at-s = c .before .before .before in
+    let at-accept = at-s .before .before .before .before in
+    let start = at-accept .before .before .before .before in
+    let e = sym (ap shape (at-s .s .given .1)) ∙ at-accept .accept .ensures .0 in
+    let s = check-sound (start .args .bytes .now) e in
+    let m = unpack-misfit (start .args .bytes .now) (start .args .list .now) (check-kept (start .args .bytes .now) e) (s .is-m) (λ same. omega arith) in
+    (m .0, at-accept .accept .ensures .1)
 
 same-length-2 : tie.Need-same-length-2
 same-length-2 c = search needs
 
 returns-2 : tie.Need-returns-2
-returns-2 c = (unpack-refused (c .before .before .before .before .before .before .before .before .before .args .bytes .now) (c .before .before .before .before .before .before .before .before .before .args .list .now) (sizesOf (c .before .before .before .before .before .before .before .before .before .args .bytes .now)) (sym (ap shape (c .before .r .given .1)) ∙ c .before .before .before .before .before .accept .ensures .0) .0, c .before .before .before .before .before .accept .ensures .1)
+returns-2 c =
+    let at-r = c .before in
+    let at-accept = at-r .before .before .before .before in
+    let start = at-accept .before .before .before .before in
+    (unpack-refused (start .args .bytes .now) (start .args .list .now) (sizesOf (start .args .bytes .now)) (sym (ap shape (at-r .r .given .1)) ∙ at-accept .accept .ensures .0) .0, at-accept .accept .ensures .1)
 
 same-length-3 : tie.Need-same-length-3
 same-length-3 c = search needs
 
 returns-3 : tie.Need-returns-3
-returns-3 c = let e = sym (ap shape (c .before .before .before .s .given .1)) ∙ c .before .before .before .before .before .before .before .accept .ensures .0 in let s = check-sound (c .before .before .before .before .before .before .before .before .before .before .before .args .bytes .now) e in let d = unpack-done (c .before .before .before .before .before .before .before .before .before .before .before .args .bytes .now) (c .before .before .before .before .before .before .before .before .before .before .before .args .list .now) (check-kept (c .before .before .before .before .before .before .before .before .before .before .before .args .bytes .now) e) (s .is-m) (omega arith) in (d .0, c .before .before .before .before .before .before .before .accept .ensures .1)
+returns-3 c =
+    let at-s = c .before .before .before in
+    let at-accept = at-s .before .before .before .before in
+    let start = at-accept .before .before .before .before in
+    let e = sym (ap shape (at-s .s .given .1)) ∙ at-accept .accept .ensures .0 in
+    let s = check-sound (start .args .bytes .now) e in
+    let d = unpack-done (start .args .bytes .now) (start .args .list .now) (check-kept (start .args .bytes .now) e) (s .is-m) (omega arith) in
+    (d .0, at-accept .accept .ensures .1)
 
 pub unpack-spec : {M : Type 1} → statement M
 unpack-spec =

@@ -30,7 +30,10 @@ fill-arrays-requires : tie.Need-fill-arrays-requires
 fill-arrays-requires c κs = search needs
 
 try-rules-requires : tie.Need-try-rules-requires
-try-rules-requires c κs = tried-by (c .before .before .before .before .before .before .before .before .before .before .before .before .before .before .before .before .before .before .before .before .pre .1) (c .before .before .before .before .before .before .before .before .before .before .fill-arrays .ensures)
+try-rules-requires c κs =
+    let at-fill-arrays = c .before .before .before .before .before .before .before .before .before .before in
+    let start = at-fill-arrays .before .before .before .before .before .before .before .before .before .before in
+    tried-by (start .pre .1) (at-fill-arrays .fill-arrays .ensures)
 
 same-length : tie.Need-same-length
 same-length c = search needs
@@ -51,7 +54,11 @@ same-length-6 : tie.Need-same-length-6
 same-length-6 c = search needs
 
 returns : tie.Need-returns
-returns c = (check-told (c .before .before .before .before .before .before .before .before .before .before .before .before .before .before .before .before .before .before .before .before .before .before .before .before .before .before .before .before .before .pre .0) (c .before .before .before .before .before .before .before .before .before .before .before .before .before .before .before .before .before .before .before .fill-arrays .ensures) (c .before .before .before .before .before .before .before .before .try-rules .ensures), c .before .before .before .before .before .before .before .before .before .before .before .before .before .before .before .before .before .before .before .fill-arrays .ensures)
+returns c =
+    let at-try-rules = c .before .before .before .before .before .before .before .before in
+    let at-fill-arrays = at-try-rules .before .before .before .before .before .before .before .before .before .before .before in
+    let start = at-fill-arrays .before .before .before .before .before .before .before .before .before .before in
+    (check-told (start .pre .0) (at-fill-arrays .fill-arrays .ensures) (at-try-rules .try-rules .ensures), at-fill-arrays .fill-arrays .ensures)
 
 pub check-arrays-spec : {M : Type 1} → statement M
 check-arrays-spec =

@@ -30,7 +30,11 @@ same-length-2 : tie.Need-same-length-2
 same-length-2 c = search needs
 
 returns : tie.Need-returns
-returns c = arrays-read (c .before .before .before .before .before .before .before .before .before .before .before .pre .0) (c .before .before .before .before .before .before .before .before .before .before .before .pre .2) (c .before .before .before .before .before .before .fill-starts .ensures) (c .before .before .read-fields .ensures)
+returns c =
+    let at-read-fields = c .before .before in
+    let at-fill-starts = at-read-fields .before .before .before .before in
+    let start = at-fill-starts .before .before .before .before .before in
+    arrays-read (start .pre .0) (start .pre .2) (at-fill-starts .fill-starts .ensures) (at-read-fields .read-fields .ensures)
 
 pub fill-arrays-spec : {M : Type 1} → statement M
 fill-arrays-spec =

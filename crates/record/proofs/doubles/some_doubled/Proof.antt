@@ -22,16 +22,25 @@ sub-n : tie.Need-sub-n Inv-loop μ-loop
 sub-n c = omega arith
 
 loop-holds : tie.Need-loop-holds Inv-loop μ-loop
-loop-holds c = single-start (c .before .before .before .before .before .before .before .pre .0) refl (length (c .before .before .before .before .before .before .before .args .last .now)) (c .before .before .clear .ensures) (omega arith)
+loop-holds c =
+    let at-clear = c .before .before in
+    let start = at-clear .before .before .before .before .before in
+    single-start (start .pre .0) refl (length (start .args .last .now)) (at-clear .clear .ensures) (omega arith)
 
 repeats-requires : tie.Need-repeats-requires Inv-loop μ-loop
-repeats-requires c κs = (sized-at (c .before .before .loop .inv .sized) (c .before .loop-test .taken), c .before .before .loop .inv .fresh)
+repeats-requires c κs =
+    let at-loop-test = c .before in
+    let at-loop = at-loop-test .before in
+    (sized-at (at-loop .loop .inv .sized) (at-loop-test .loop-test .taken), at-loop .loop .inv .fresh)
 
 same-length : tie.Need-same-length Inv-loop μ-loop
 same-length c = omega arith
 
 returns : tie.Need-returns Inv-loop μ-loop
-returns c = doubled-found (c .before .before .before .before .before .before .loop .inv) (c .before .before .before .repeats .ensures) (c .if1 .taken)
+returns c =
+    let at-repeats = c .before .before .before in
+    let at-loop = at-repeats .before .before .before in
+    doubled-found (at-loop .loop .inv) (at-repeats .repeats .ensures) (c .if1 .taken)
 
 add-u : tie.Need-add-u Inv-loop μ-loop
 add-u c = omega arith
@@ -40,7 +49,10 @@ loop-less : tie.Need-loop-less Inv-loop μ-loop
 loop-less c = omega arith
 
 loop-again : tie.Need-loop-again Inv-loop μ-loop
-loop-again c = single-more (c .before .before .before .before .before .before .loop .inv) (c .before .before .before .repeats .ensures) (c .if1 .left)
+loop-again c =
+    let at-repeats = c .before .before .before in
+    let at-loop = at-repeats .before .before .before in
+    single-more (at-loop .loop .inv) (at-repeats .repeats .ensures) (c .if1 .left)
 
 same-length-2 : tie.Need-same-length-2 Inv-loop μ-loop
 same-length-2 c = omega arith

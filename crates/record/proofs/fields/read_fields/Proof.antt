@@ -40,20 +40,29 @@ add-i c = omega arith
 
 loop-less : tie.Need-loop-less Inv-loop μ-loop
 loop-less c =
-    let loop = c .before .before .before .before .before .before .loop in
-    let e = ap length (c .before .before .put .ensures) ∙ length-set (loop .list) (loop .i) (c .before .before .before .read12 .result) in
+    let at-put = c .before .before in
+    let at-read12 = at-put .before in
+    let at-loop = at-read12 .before .before .before in
+    let loop = at-loop .loop in
+    let e = ap length (at-put .put .ensures) ∙ length-set (loop .list) (loop .i) (at-read12 .read12 .result) in
     omega arith
 
 loop-again : tie.Need-loop-again Inv-loop μ-loop
 loop-again c =
-    let read12 = c .before .before .before .read12 in
-    reads-more (c .before .before .before .before .before .before .loop .inv) (read12 .result) (omega arith) (read12 .ensures .0) (c .before .before .put .ensures)
+    let at-put = c .before .before in
+    let at-read12 = at-put .before in
+    let at-loop = at-read12 .before .before .before in
+    let read12 = at-read12 .read12 in
+    reads-more (at-loop .loop .inv) (read12 .result) (omega arith) (read12 .ensures .0) (at-put .put .ensures)
 
 same-length : tie.Need-same-length Inv-loop μ-loop
 same-length c = c .before .loop .inv .size ∙ c .before .before .before .before .read-fours .ensures .size
 
 returns : tie.Need-returns Inv-loop μ-loop
-returns c = rw (c .before .before .before .before .read-fours .ensures .size) at (reads-end (c .before .loop .inv) (omega arith))
+returns c =
+    let at-loop = c .before in
+    let at-read-fours = at-loop .before .before .before in
+    rw (at-read-fours .read-fours .ensures .size) at (reads-end (at-loop .loop .inv) (omega arith))
 
 pub read-fields-spec : {M : Type 1} → statement M
 read-fields-spec =

@@ -39,11 +39,17 @@ same-length c = search needs
 
 returns : tie.Need-returns
 returns c =
-    reads-four (c .before .before .before .before .before .before .before .before .before .before .before .before .before .before .before .before .before .before .before .pre .1) (c .before .before .before .before .before .before .before .before .before .before .before .before .before .before .before .before .before .before .before .pre .0 .1) (c .before .before .before .before .before .before .before .before .before .before .before .before .before .before .before .before .read-four .ensures)
-    (c .before .before .before .before .before .before .before .before .before .before .before .before .before .before .put .ensures)
-    (c .before .before .before .before .before .before .before .before .before .before .put2 .ensures)
-    (c .before .before .before .before .before .before .put3 .ensures)
-    (c .before .before .put4 .ensures)
+    let at-put4 = c .before .before in
+    let at-put3 = at-put4 .before .before .before .before in
+    let at-put2 = at-put3 .before .before .before .before in
+    let at-put = at-put2 .before .before .before .before in
+    let at-read-four = at-put .before .before in
+    let start = at-read-four .before .before .before in
+    reads-four (start .pre .1) (start .pre .0 .1) (at-read-four .read-four .ensures)
+    (at-put .put .ensures)
+    (at-put2 .put2 .ensures)
+    (at-put3 .put3 .ensures)
+    (at-put4 .put4 .ensures)
 
 pub read-four-spec : {M : Type 1} → statement M
 read-four-spec =

@@ -38,7 +38,10 @@ loop-less : tie.Need-loop-less Inv-loop μ-loop
 loop-less c = let l = c .before .before .read-four .ensures .size in omega arith
 
 loop-again : tie.Need-loop-again Inv-loop μ-loop
-loop-again c = rw (c .before .before .before .before .before .loop .inv .size) at (c .before .before .read-four .ensures)
+loop-again c =
+    let at-read-four = c .before .before in
+    let at-loop = at-read-four .before .before .before in
+    rw (at-loop .loop .inv .size) at (at-read-four .read-four .ensures)
 
 same-length : tie.Need-same-length Inv-loop μ-loop
 same-length c = c .before .loop .inv .size

@@ -17,20 +17,36 @@ enum-known-s : tie.Need-enum-known-s
 enum-known-s c = search needs
 
 spare-set-requires : tie.Need-spare-set-requires
-spare-set-requires c κs = told-sound (c .before .before .before .before .before .args .bytes .now) (sym (ap shape (c .before .s .given .1)) ∙ c .before .before .before .order-r .ensures)
+spare-set-requires c κs =
+    let at-s = c .before in
+    let at-order-r = at-s .before .before in
+    let start = at-order-r .before .before in
+    told-sound (start .args .bytes .now) (sym (ap shape (at-s .s .given .1)) ∙ at-order-r .order-r .ensures)
 
 returns : tie.Need-returns
 returns c =
-    layout-spare (c .before .before .before .before .before .before .before .args .bytes .now) (sym (ap shape (c .before .before .before .s .given .1)) ∙ c .before .before .before .before .before .order-r .ensures)
-    (sym (c .before .spare-set .ensures) ∙ c .if1 .taken)
+    let at-spare-set = c .before in
+    let at-s = at-spare-set .before .before in
+    let at-order-r = at-s .before .before in
+    let start = at-order-r .before .before in
+    layout-spare (start .args .bytes .now) (sym (ap shape (at-s .s .given .1)) ∙ at-order-r .order-r .ensures)
+    (sym (at-spare-set .spare-set .ensures) ∙ c .if1 .taken)
 
 returns-2 : tie.Need-returns-2
-returns-2 c = layout-refused (c .before .before .before .before .before .args .bytes .now) (sym (ap shape (c .before .r .given .1)) ∙ c .before .before .before .order-r .ensures)
+returns-2 c =
+    let at-r = c .before in
+    let at-order-r = at-r .before .before in
+    let start = at-order-r .before .before in
+    layout-refused (start .args .bytes .now) (sym (ap shape (at-r .r .given .1)) ∙ at-order-r .order-r .ensures)
 
 returns-3 : tie.Need-returns-3
 returns-3 c =
-    layout-kept (c .before .before .before .before .before .before .before .args .bytes .now) (sym (ap shape (c .before .before .before .s .given .1)) ∙ c .before .before .before .before .before .order-r .ensures)
-    (sym (c .before .spare-set .ensures) ∙ c .if1 .left)
+    let at-spare-set = c .before in
+    let at-s = at-spare-set .before .before in
+    let at-order-r = at-s .before .before in
+    let start = at-order-r .before .before in
+    layout-kept (start .args .bytes .now) (sym (ap shape (at-s .s .given .1)) ∙ at-order-r .order-r .ensures)
+    (sym (at-spare-set .spare-set .ensures) ∙ c .if1 .left)
 
 pub laid-out-spec : {M : Type 1} → statement M
 laid-out-spec =

@@ -36,7 +36,9 @@ rank-requires : tie.Need-rank-requires
 rank-requires c κs = search needs
 
 returns : tie.Need-returns
-returns c = spare-counted (c .before .before .pre) (8 * length (c .before .before .args .bytes .now) - (28 + (c .before .before .args .n + 2 * c .before .before .args .m) + 12 * (2 * c .before .before .args .m))) refl (c .rank .ensures)
+returns c =
+    let start = c .before .before in
+    spare-counted (start .pre) (8 * length (start .args .bytes .now) - (28 + (start .args .n + 2 * start .args .m) + 12 * (2 * start .args .m))) refl (c .rank .ensures)
 
 pub spare-set-spec : {M : Type 1} → statement M
 spare-set-spec =

@@ -39,7 +39,11 @@ rewind-requires-2 : tie.Need-rewind-requires-2
 rewind-requires-2 c κs = search needs
 
 match-all-requires : tie.Need-match-all-requires
-match-all-requires c κs = (turned-divided (c .before .before .before .before .before .before .before .before .before .before .before .before .before .before .turn-all .ensures (not-false _ (c .before .before .before .before .before .before .before .before .before .if1 .left)) .turned), c .before .before .before .before .rewind2 .ensures)
+match-all-requires c κs =
+    let at-rewind2 = c .before .before .before .before in
+    let at-if1 = at-rewind2 .before .before .before .before .before in
+    let at-turn-all = at-if1 .before .before .before .before .before in
+    (turned-divided (at-turn-all .turn-all .ensures (not-false _ (at-if1 .if1 .left)) .turned), at-rewind2 .rewind2 .ensures)
 
 same-length-5 : tie.Need-same-length-5
 same-length-5 c = search needs
@@ -48,7 +52,13 @@ same-length-6 : tie.Need-same-length-6
 same-length-6 c = search needs
 
 returns-3 : tie.Need-returns-3
-returns-3 c = λ t. mutual-kept (c .before .before .before .before .before .before .before .before .before .before .before .before .before .before .before .before .before .turn-all .ensures (not-false _ (c .before .before .before .before .before .before .before .before .before .before .before .before .if1 .left))) (c .before .before .before .before .before .before .before .before .before .before .all-full .ensures (not-false _ (c .before .before .before .before .before .before .before .before .before .if2 .left))) (c .before .before .match-all .ensures t)
+returns-3 c =
+    let at-match-all = c .before .before in
+    let at-if2 = at-match-all .before .before .before .before .before .before .before in
+    let at-all-full = at-if2 .before in
+    let at-if1 = at-all-full .before .before in
+    let at-turn-all = at-if1 .before .before .before .before .before in
+    λ t. mutual-kept (at-turn-all .turn-all .ensures (not-false _ (at-if1 .if1 .left))) (at-all-full .all-full .ensures (not-false _ (at-if2 .if2 .left))) (at-match-all .match-all .ensures t)
 
 pub all-mutual-spec : {M : Type 1} → statement M
 all-mutual-spec =

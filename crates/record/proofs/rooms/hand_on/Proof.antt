@@ -35,7 +35,10 @@ mul-list-2 : tie.Need-mul-list-2 Inv-loop μ-loop
 mul-list-2 c = search needs
 
 slice-write-list : tie.Need-slice-write-list Inv-loop μ-loop
-slice-write-list c = let l = length-map (c .before .before .before .args .nbrs .now) suc in let s = c .before .before .loop .inv .size in omega arith
+slice-write-list c =
+    let at-loop = c .before .before in
+    let start = at-loop .before in
+    let l = length-map (start .args .nbrs .now) suc in let s = at-loop .loop .inv .size in omega arith
 
 add-i : tie.Need-add-i Inv-loop μ-loop
 add-i c = omega arith
@@ -44,13 +47,23 @@ loop-less : tie.Need-loop-less Inv-loop μ-loop
 loop-less c = omega arith
 
 loop-again : tie.Need-loop-again Inv-loop μ-loop
-loop-again c = let l = length-map (c .before .before .before .args .nbrs .now) suc in order-more (c .before .before .loop .inv) (getD (c .before .before .before .args .nbrs .now) (c .before .before .loop .i) 0 + 1) refl (add-one _ ∙ sym (raised-at (c .before .before .before .args .nbrs .now) (c .before .before .loop .i) (omega arith))) (omega arith)
+loop-again c =
+    let at-loop = c .before .before in
+    let start = at-loop .before in
+    let l = length-map (start .args .nbrs .now) suc in
+    order-more (at-loop .loop .inv) (getD (start .args .nbrs .now) (at-loop .loop .i) 0 + 1) refl (add-one _ ∙ sym (raised-at (start .args .nbrs .now) (at-loop .loop .i) (omega arith))) (omega arith)
 
 same-length : tie.Need-same-length Inv-loop μ-loop
-same-length c = let l = length-map (c .before .before .args .nbrs .now) suc in let s = c .before .loop .inv .size in omega arith
+same-length c =
+    let at-loop = c .before in
+    let start = at-loop .before in
+    let l = length-map (start .args .nbrs .now) suc in let s = at-loop .loop .inv .size in omega arith
 
 returns : tie.Need-returns Inv-loop μ-loop
-returns c = let l = length-map (c .before .before .args .nbrs .now) suc in order-end (c .before .loop .inv) (omega arith)
+returns c =
+    let at-loop = c .before in
+    let start = at-loop .before in
+    let l = length-map (start .args .nbrs .now) suc in order-end (at-loop .loop .inv) (omega arith)
 
 pub hand-on-spec : {M : Type 1} → statement M
 hand-on-spec =

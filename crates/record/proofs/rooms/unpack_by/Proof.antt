@@ -16,7 +16,11 @@ enum-told : tie.Need-enum-told
 enum-told c = search needs
 
 hand-on-requires : tie.Need-hand-on-requires
-hand-on-requires c κs = (c .before .before .if1 .taken, short-of (c .before .before .before .before .before .before .before .before .before .before .before .before .before .before .before .before .before .check-arrays .ensures .1))
+hand-on-requires c κs =
+    let at-if1 = c .before .before in
+    let past-13 = at-if1 .before .before .before .before .before .before .before .before .before .before .before in
+    let at-check-arrays = past-13 .before .before .before .before in
+    (at-if1 .if1 .taken, short-of (at-check-arrays .check-arrays .ensures .1))
 
 same-length : tie.Need-same-length
 same-length c = search needs
@@ -37,7 +41,11 @@ same-length-6 : tie.Need-same-length-6
 same-length-6 c = search needs
 
 returns : tie.Need-returns
-returns c = handed-refused (sym (ap verdict (c .before .r .given .1)) ∙ c .before .before .before .before .before .before .before .before .before .before .before .before .before .before .before .check-arrays .ensures .0)
+returns c =
+    let at-r = c .before in
+    let past-12 = at-r .before .before .before .before .before .before .before .before .before .before .before in
+    let at-check-arrays = past-12 .before .before .before in
+    handed-refused (sym (ap verdict (at-r .r .given .1)) ∙ at-check-arrays .check-arrays .ensures .0)
 
 same-length-7 : tie.Need-same-length-7
 same-length-7 c = search needs
@@ -61,7 +69,13 @@ same-length-13 : tie.Need-same-length-13
 same-length-13 c = search needs
 
 returns-2 : tie.Need-returns-2
-returns-2 c = handed-done (c .before .before .before .before .before .before .before .before .before .before .before .before .before .before .before .before .before .before .before .before .check-arrays .ensures .1) (sym (ap verdict (c .before .before .before .before .before .before .enum-told .given .1)) ∙ c .before .before .before .before .before .before .before .before .before .before .before .before .before .before .before .before .before .before .before .before .check-arrays .ensures .0) (c .before .before .before .before .before .if1 .taken) (c .before .before .hand-on .ensures)
+returns-2 c =
+    let at-hand-on = c .before .before in
+    let at-if1 = at-hand-on .before .before .before in
+    let at-enum-told = at-if1 .before in
+    let past-17 = at-enum-told .before .before .before .before .before .before .before .before .before .before .before in
+    let at-check-arrays = past-17 .before .before .before in
+    handed-done (at-check-arrays .check-arrays .ensures .1) (sym (ap verdict (at-enum-told .enum-told .given .1)) ∙ at-check-arrays .check-arrays .ensures .0) (at-if1 .if1 .taken) (at-hand-on .hand-on .ensures)
 
 same-length-14 : tie.Need-same-length-14
 same-length-14 c = search needs
@@ -82,7 +96,11 @@ same-length-19 : tie.Need-same-length-19
 same-length-19 c = search needs
 
 returns-3 : tie.Need-returns-3
-returns-3 c = handed-misfit (c .before .before .before .before .before .before .before .before .before .before .before .before .before .before .before .check-arrays .ensures .1) (sym (ap verdict (c .before .enum-told .given .1)) ∙ c .before .before .before .before .before .before .before .before .before .before .before .before .before .before .before .check-arrays .ensures .0) (c .if1 .left)
+returns-3 c =
+    let at-enum-told = c .before in
+    let past-12 = at-enum-told .before .before .before .before .before .before .before .before .before .before .before in
+    let at-check-arrays = past-12 .before .before .before in
+    handed-misfit (at-check-arrays .check-arrays .ensures .1) (sym (ap verdict (at-enum-told .enum-told .given .1)) ∙ at-check-arrays .check-arrays .ensures .0) (c .if1 .left)
 
 pub unpack-by-spec : {M : Type 1} → statement M
 unpack-by-spec =

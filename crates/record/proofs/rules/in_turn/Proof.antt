@@ -14,16 +14,28 @@ returns : tie.Need-returns
 returns c = turn-6 _ (c .before .some-stray .ensures) (c .if1 .taken)
 
 some-doubled-requires : tie.Need-some-doubled-requires
-some-doubled-requires c κs = (arrays-kept (c .before .before .before .before .before .before .before .before .before .pre .0) (sym (c .before .before .some-stray .ensures) ∙ c .before .if1 .left), c .before .before .before .before .before .before .before .before .before .pre .1 .1 .0)
+some-doubled-requires c κs =
+    let at-if1 = c .before in
+    let at-some-stray = at-if1 .before in
+    let start = at-some-stray .before .before .before .before .before .before .before in
+    (arrays-kept (start .pre .0) (sym (at-some-stray .some-stray .ensures) ∙ at-if1 .if1 .left), start .pre .1 .1 .0)
 
 same-length : tie.Need-same-length
 same-length c = search needs
 
 returns-2 : tie.Need-returns-2
-returns-2 c = turn-7 _ (c .before .before .before .before .before .before .some-stray .ensures) (c .before .before .before .before .before .if1 .left) (c .before .before .before .some-doubled .ensures) (c .if2 .taken)
+returns-2 c =
+    let at-some-doubled = c .before .before .before in
+    let at-if1 = at-some-doubled .before .before in
+    let at-some-stray = at-if1 .before in
+    turn-7 _ (at-some-stray .some-stray .ensures) (at-if1 .if1 .left) (at-some-doubled .some-doubled .ensures) (c .if2 .taken)
 
 some-one-sided-requires : tie.Need-some-one-sided-requires
-some-one-sided-requires c κs = (arrays-kept (c .before .before .before .before .before .before .before .before .before .before .before .before .before .before .before .before .before .pre .0) (sym (c .before .before .before .before .before .before .before .before .before .before .some-stray .ensures) ∙ c .before .before .before .before .before .before .before .before .before .if1 .left), ((omega arith, c .before .before .before .before .before .before .before .before .before .before .before .before .before .before .before .before .before .pre .1 .1 .1), c .before .before .before .before .before .before .before .before .before .before .before .before .before .before .before .before .before .pre .1 .0))
+some-one-sided-requires c κs =
+    let at-if1 = c .before .before .before .before .before .before .before .before .before in
+    let at-some-stray = at-if1 .before in
+    let start = at-some-stray .before .before .before .before .before .before .before in
+    (arrays-kept (start .pre .0) (sym (at-some-stray .some-stray .ensures) ∙ at-if1 .if1 .left), ((omega arith, start .pre .1 .1 .1), start .pre .1 .0))
 
 same-length-2 : tie.Need-same-length-2
 same-length-2 c = search needs
@@ -38,7 +50,13 @@ same-length-5 : tie.Need-same-length-5
 same-length-5 c = search needs
 
 returns-3 : tie.Need-returns-3
-returns-3 c = turn-8 _ (c .before .before .before .before .before .before .before .before .before .before .before .before .before .before .before .before .before .before .before .before .some-stray .ensures) (c .before .before .before .before .before .before .before .before .before .before .before .before .before .before .before .before .before .before .before .if1 .left) (c .before .before .before .before .before .before .before .before .before .before .before .before .before .before .before .before .before .some-doubled .ensures) (c .before .before .before .before .before .before .before .before .before .before .before .before .before .before .if2 .left) (c .before .before .before .before .before .before .before .before .before .some-one-sided .ensures) (c .if3 .taken)
+returns-3 c =
+    let at-some-one-sided = c .before .before .before .before .before .before .before .before .before in
+    let at-if2 = at-some-one-sided .before .before .before .before .before in
+    let at-some-doubled = at-if2 .before .before .before in
+    let at-if1 = at-some-doubled .before .before in
+    let at-some-stray = at-if1 .before in
+    turn-8 _ (at-some-stray .some-stray .ensures) (at-if1 .if1 .left) (at-some-doubled .some-doubled .ensures) (at-if2 .if2 .left) (at-some-one-sided .some-one-sided .ensures) (c .if3 .taken)
 
 same-length-6 : tie.Need-same-length-6
 same-length-6 c = search needs
@@ -53,7 +71,13 @@ same-length-9 : tie.Need-same-length-9
 same-length-9 c = search needs
 
 returns-4 : tie.Need-returns-4
-returns-4 c = turn-none _ (c .before .before .before .before .before .before .before .before .before .before .before .before .before .before .before .before .before .before .before .before .some-stray .ensures) (c .before .before .before .before .before .before .before .before .before .before .before .before .before .before .before .before .before .before .before .if1 .left) (c .before .before .before .before .before .before .before .before .before .before .before .before .before .before .before .before .before .some-doubled .ensures) (c .before .before .before .before .before .before .before .before .before .before .before .before .before .before .if2 .left) (c .before .before .before .before .before .before .before .before .before .some-one-sided .ensures) (c .if3 .left)
+returns-4 c =
+    let at-some-one-sided = c .before .before .before .before .before .before .before .before .before in
+    let at-if2 = at-some-one-sided .before .before .before .before .before in
+    let at-some-doubled = at-if2 .before .before .before in
+    let at-if1 = at-some-doubled .before .before in
+    let at-some-stray = at-if1 .before in
+    turn-none _ (at-some-stray .some-stray .ensures) (at-if1 .if1 .left) (at-some-doubled .some-doubled .ensures) (at-if2 .if2 .left) (at-some-one-sided .some-one-sided .ensures) (c .if3 .left)
 
 pub in-turn-spec : {M : Type 1} → statement M
 in-turn-spec =

@@ -18,7 +18,10 @@ returns : tie.Need-returns
 returns c = kept-told (c .before .before .before .before .before .all-mutual .ensures (c .if1 .taken))
 
 in-turn-requires : tie.Need-in-turn-requires
-in-turn-requires c κs = (c .before .before .before .before .before .before .before .before .before .before .before .before .before .before .before .before .before .before .pre .0, ((omega arith, c .before .before .before .before .before .before .before .before .before .before .before .before .before .before .before .before .before .before .pre .1 .0 .1), (omega arith, c .before .before .before .before .before .before .before .before .before .before .before .before .before .before .before .before .before .before .pre .1 .1 .1)))
+in-turn-requires c κs =
+    let past-11 = c .before .before .before .before .before .before .before .before .before .before .before in
+    let start = past-11 .before .before .before .before .before .before .before in
+    (start .pre .0, ((omega arith, start .pre .1 .0 .1), (omega arith, start .pre .1 .1 .1)))
 
 same-length-3 : tie.Need-same-length-3
 same-length-3 c = search needs

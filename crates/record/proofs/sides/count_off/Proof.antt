@@ -26,19 +26,34 @@ get-requires-2 : tie.Need-get-requires-2 Inv-loop μ-loop
 get-requires-2 c κs = let p = walk-place (c .before .loop .inv) (c .loop-test .taken) refl in omega arith
 
 get-requires-3 : tie.Need-get-requires-3 Inv-loop μ-loop
-get-requires-3 c κs = let p = walk-source (c .before .before .before .loop .inv) (c .before .before .loop-test .taken) refl (c .before .get2 .ensures .0) in omega arith
+get-requires-3 c κs =
+    let at-get2 = c .before in
+    let at-loop-test = at-get2 .before in
+    let at-loop = at-loop-test .before in
+    let p = walk-source (at-loop .loop .inv) (at-loop-test .loop-test .taken) refl (at-get2 .get2 .ensures .0) in
+    omega arith
 
 same-length : tie.Need-same-length Inv-loop μ-loop
 same-length c = omega arith
 
 returns : tie.Need-returns Inv-loop μ-loop
-returns c = walk-found (c .before .before .before .before .before .loop .inv) (c .before .before .before .before .loop-test .taken) refl (c .before .before .before .get2 .ensures .0) (c .before .get3 .ensures .0) (c .if1 .taken)
+returns c =
+    let at-get3 = c .before in
+    let at-get2 = at-get3 .before .before in
+    let at-loop-test = at-get2 .before in
+    let at-loop = at-loop-test .before in
+    walk-found (at-loop .loop .inv) (at-loop-test .loop-test .taken) refl (at-get2 .get2 .ensures .0) (at-get3 .get3 .ensures .0) (c .if1 .taken)
 
 sub-put : tie.Need-sub-put Inv-loop μ-loop
 sub-put c = omega arith
 
 put-requires : tie.Need-put-requires Inv-loop μ-loop
-put-requires c κs = let p = walk-source (c .before .before .before .before .before .before .loop .inv) (c .before .before .before .before .before .loop-test .taken) refl (c .before .before .before .before .get2 .ensures .0) in omega arith
+put-requires c κs =
+    let at-get2 = c .before .before .before .before in
+    let at-loop-test = at-get2 .before in
+    let at-loop = at-loop-test .before in
+    let p = walk-source (at-loop .loop .inv) (at-loop-test .loop-test .taken) refl (at-get2 .get2 .ensures .0) in
+    omega arith
 
 get-requires-4 : tie.Need-get-requires-4 Inv-loop μ-loop
 get-requires-4 c κs =
@@ -54,10 +69,16 @@ loop-less c =
 
 loop-again : tie.Need-loop-again Inv-loop μ-loop
 loop-again c =
-    let loop = c .before .before .before .before .before .before .before .before .before .before .loop in
-    let loop-test = c .before .before .before .before .before .before .before .before .before .loop-test in
-    let get2 = c .before .before .before .before .before .before .before .before .get2 in
-    walk-more (loop .inv) (loop-test .taken) refl (get2 .ensures .0) (c .before .before .before .before .before .before .get3 .ensures .0) (c .before .before .before .before .before .if1 .left) (c .before .before .before .put .ensures) (c .get4 .ensures .0)
+    let at-put = c .before .before .before in
+    let at-if1 = at-put .before .before in
+    let at-get3 = at-if1 .before in
+    let at-get2 = at-get3 .before .before in
+    let at-loop-test = at-get2 .before in
+    let at-loop = at-loop-test .before in
+    let loop = at-loop .loop in
+    let loop-test = at-loop-test .loop-test in
+    let get2 = at-get2 .get2 in
+    walk-more (loop .inv) (loop-test .taken) refl (get2 .ensures .0) (at-get3 .get3 .ensures .0) (at-if1 .if1 .left) (at-put .put .ensures) (c .get4 .ensures .0)
 
 same-length-2 : tie.Need-same-length-2 Inv-loop μ-loop
 same-length-2 c = omega arith

@@ -20,17 +20,22 @@ returns c = settled-found (c .before .before .before .count-off .ensures) (c .if
 
 wipe-requires : tie.Need-wipe-requires
 wipe-requires c κs =
-    let back = c .before .before .before .before in
+    let at-if1 = c .before in
+    let at-before = at-if1 .before .before in
+    let back = at-before .before in
     let pre = back .before .before .before .before .before .before .before .before .before .before .before .before .pre in
-    (pre .0 .0, left-within (back .count-off .ensures) (c .before .if1 .left))
+    (pre .0 .0, left-within (back .count-off .ensures) (at-if1 .if1 .left))
 
 same-length-2 : tie.Need-same-length-2
 same-length-2 c = omega arith
 
 returns-2 : tie.Need-returns-2
 returns-2 c =
-    let count-off = c .before .before .before .before .before .before .before .count-off in
-    settled-none (count-off .ensures) (c .before .before .before .before .if1 .left) (c .before .before .wipe .ensures)
+    let at-wipe = c .before .before in
+    let at-if1 = at-wipe .before .before in
+    let at-count-off = at-if1 .before .before .before in
+    let count-off = at-count-off .count-off in
+    settled-none (count-off .ensures) (at-if1 .if1 .left) (at-wipe .wipe .ensures)
 
 pub exceeded-spec : {M : Type 1} → statement M
 exceeded-spec =

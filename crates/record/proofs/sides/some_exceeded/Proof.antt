@@ -17,16 +17,24 @@ sub-n : tie.Need-sub-n Inv-loop μ-loop
 sub-n c = omega arith
 
 loop-holds : tie.Need-loop-holds Inv-loop μ-loop
-loop-holds c = even-start (c .before .before .before .before .before .before .pre .0 .0) refl (c .before .before .before .before .before .before .pre .1) (c .before .before .before .before .before .before .pre .0 .1)
+loop-holds c =
+    let start = c .before .before .before .before .before .before in
+    even-start (start .pre .0 .0) refl (start .pre .1) (start .pre .0 .1)
 
 exceeded-requires : tie.Need-exceeded-requires Inv-loop μ-loop
-exceeded-requires c κs = ((sized-at (c .before .before .loop .inv .sized) (c .before .loop-test .taken), c .before .before .loop .inv .clear), c .before .before .loop .inv .listed)
+exceeded-requires c κs =
+    let at-loop-test = c .before in
+    let at-loop = at-loop-test .before in
+    ((sized-at (at-loop .loop .inv .sized) (at-loop-test .loop-test .taken), at-loop .loop .inv .clear), at-loop .loop .inv .listed)
 
 same-length : tie.Need-same-length Inv-loop μ-loop
 same-length c = omega arith
 
 returns : tie.Need-returns Inv-loop μ-loop
-returns c = one-sided-found (c .before .before .before .before .before .before .loop .inv) (c .before .before .before .exceeded .ensures) (c .if1 .taken)
+returns c =
+    let at-exceeded = c .before .before .before in
+    let at-loop = at-exceeded .before .before .before in
+    one-sided-found (at-loop .loop .inv) (at-exceeded .exceeded .ensures) (c .if1 .taken)
 
 add-u : tie.Need-add-u Inv-loop μ-loop
 add-u c = omega arith
@@ -35,7 +43,10 @@ loop-less : tie.Need-loop-less Inv-loop μ-loop
 loop-less c = omega arith
 
 loop-again : tie.Need-loop-again Inv-loop μ-loop
-loop-again c = even-more (c .before .before .before .before .before .before .loop .inv) (c .before .before .before .exceeded .ensures) (c .if1 .left)
+loop-again c =
+    let at-exceeded = c .before .before .before in
+    let at-loop = at-exceeded .before .before .before in
+    even-more (at-loop .loop .inv) (at-exceeded .exceeded .ensures) (c .if1 .left)
 
 same-length-2 : tie.Need-same-length-2 Inv-loop μ-loop
 same-length-2 c = omega arith

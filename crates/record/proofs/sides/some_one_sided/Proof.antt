@@ -13,10 +13,18 @@ clear-requires-2 : tie.Need-clear-requires-2
 clear-requires-2 c κs = search needs
 
 enter-all-requires : tie.Need-enter-all-requires
-enter-all-requires c κs = (c .before .before .before .before .before .before .before .before .before .before .before .before .before .before .before .before .before .pre .0, listed-none (length (c .before .before .before .before .before .before .before .before .before .before .before .before .before .before .before .before .before .args .head .now)) (c .before .before .before .before .before .before .before .before .before .before .before .before .before .before .before .before .before .pre .1 .0 .0) (c .before .before .before .before .before .before .before .before .before .clear .ensures) (c .before .before .before .before .before .before .before .before .before .before .before .before .before .before .before .before .before .pre .1 .1 .0) (c .before .before .before .before .before .before .before .before .before .before .before .before .before .before .before .before .before .pre .1 .1 .1))
+enter-all-requires c κs =
+    let at-clear = c .before .before .before .before .before .before .before .before .before in
+    let start = at-clear .before .before .before .before .before .before .before .before in
+    (start .pre .0, listed-none (length (start .args .head .now)) (start .pre .1 .0 .0) (at-clear .clear .ensures) (start .pre .1 .1 .0) (start .pre .1 .1 .1))
 
 some-exceeded-requires : tie.Need-some-exceeded-requires
-some-exceeded-requires c κs = ((c .before .before .before .before .before .before .before .before .before .before .before .before .before .before .before .before .before .before .before .before .before .before .before .before .before .before .before .before .pre .0, clear-none (length (c .before .before .before .before .before .before .before .before .before .before .before .before .before .before .before .before .before .before .before .before .before .before .before .before .before .before .before .before .args .counts .now)) (c .before .before .before .before .before .before .before .before .before .before .before .before .before .before .before .before .before .before .before .before .before .before .before .before .before .before .before .before .pre .1 .0 .1) (c .before .before .before .before .before .before .before .before .before .before .before .before .before .before .before .before .clear2 .ensures)), c .before .before .before .before .before .before .before .before .before .before .enter-all .ensures)
+some-exceeded-requires c κs =
+    let at-enter-all = c .before .before .before .before .before .before .before .before .before .before in
+    let at-clear2 = at-enter-all .before .before .before .before .before .before in
+    let past-27 = at-clear2 .before .before .before .before .before .before .before .before .before .before .before in
+    let start = past-27 .before in
+    ((start .pre .0, clear-none (length (start .args .counts .now)) (start .pre .1 .0 .1) (at-clear2 .clear2 .ensures)), at-enter-all .enter-all .ensures)
 
 same-length : tie.Need-same-length
 same-length c = search needs
