@@ -10,6 +10,7 @@ mod counts; // counts.rt: the ones of a string that its bytes hold
 mod table; // table.rt: the place of the k-th one of a byte
 mod search; // search.rt: the place of the k-th one of a string that its bytes hold
 pub mod fields; // fields.rt: bits and fields, read and written
+pub mod ones; // ones.rt: the highest one of a number
 
 // Whether `len` bytes hold `places` bits from bit `start` on.
 fn holds(len: usize, start: usize, places: usize) -> bool
