@@ -1,23 +1,22 @@
 -- Bytes joined to a number are a field of their bits; shifts and masks cut smaller fields out of it.
 use mathlib.Core.Path.{_≡_, refl, sym, ap, _∙_}
 use mathlib.Core.Bool.{Bool}
-use mathlib.Core.List.{List, [], _∷_, _++_, reverse}
+use mathlib.Core.List.{List, [], _∷_, _++_}
 use Prim.Native.Nat.{ℕ, zero, suc, _+_, _-_, _*_, _/_, _%_, _^_, _≤_, _<_}
 use native.Mathlib.Decide.{decLe}
 use native.Mathlib.Nat.{add-mul, add-zero, mul-assoc, mod-eq-of-lt, one-mul}
 use native.Mathlib.Numerals.{add-one, add-two, towards-suc}
 use native.Mathlib.Omega.{arith}
-use lib.Count.{ones}
+use lib.Bits.{bitAnd, and-mask}
 use lib.Dec.{lit<}
 use lib.ListN.{length, take, drop, getD, replicate, length-append}
-use lib.Pow.{pow-lt, pow-add, high, shr-shr}
+use lib.Pow.{pow-lt, pow-add, high, shr-shr, ones-split, ones-lt}
 use lib.Seq.{drop-cons, take-at}
-use Rattle.bits.specs.Bits.{toBits, bits, count, value, field}
+use Rattle.bits.specs.Bits.{toBits, bits, value, field}
 use Rattle.bits.specs.Laws.Digits.{length-toBits, value-append, value-toBits}
 use Rattle.bits.specs.Laws.Bytes.{AreBytes, take-bytes, drop-bytes, length-bits, bits-append, part-bits, byte-on}
-use Rattle.bits.specs.Steps.{IsByte, FourAt}
+use Rattle.bits.specs.Steps.{IsByte, TwoAt, FourAt}
 use Rattle.bits.specs.Laws.Fields.{field-inside, field-front, field-back, field-append}
-use Rattle.bits.specs.Laws.Rank.{ones-value, count-reverse}
 
 -- the bytes, one below the other, below the number a
 abbrev pub joined : ℕ → List ℕ → ℕ
@@ -65,6 +64,12 @@ field-joined bytes f n h = field-bytes bytes f n ∙ value-joined (take n (drop 
 
 -- ---- two, three and eight bytes from byte f on
 
+-- the eight bytes from byte f on, with zeros past the end
+abbrev pub eight : List ℕ → ℕ → List ℕ
+eight bytes f =
+    getD bytes f 0 ∷ getD bytes (f + 1) 0 ∷ getD bytes (f + 2) 0 ∷ getD bytes (f + 3) 0
+    ∷ getD bytes (f + 4) 0 ∷ getD bytes (f + 5) 0 ∷ getD bytes (f + 6) 0 ∷ getD bytes (f + 7) 0 ∷ []
+
 module _ (bytes : List ℕ) (f : ℕ) where
   pub two-bytes : f + 2 ≤ length bytes → take 2 (drop f bytes) ≡ getD bytes f 0 ∷ getD bytes (f + 1) 0 ∷ []
   two-bytes h = rw (drop-cons bytes f 0 (omega arith), drop-cons bytes (suc f) 0 (omega arith), add-one f)
@@ -73,9 +78,7 @@ module _ (bytes : List ℕ) (f : ℕ) where
   three-bytes h =
       rw (drop-cons bytes f 0 (omega arith), drop-cons bytes (suc f) 0 (omega arith), drop-cons bytes (suc (suc f)) 0 (omega arith), add-one f, add-two f)
 
-  eight-bytes : f + 8 ≤ length bytes
-      → take 8 (drop f bytes)
-      ≡ getD bytes f 0 ∷ getD bytes (f + 1) 0 ∷ getD bytes (f + 2) 0 ∷ getD bytes (f + 3) 0 ∷ getD bytes (f + 4) 0 ∷ getD bytes (f + 5) 0 ∷ getD bytes (f + 6) 0 ∷ getD bytes (f + 7) 0 ∷ []
+  pub eight-bytes : f + 8 ≤ length bytes → take 8 (drop f bytes) ≡ eight bytes f
   eight-bytes h =
       rw (
         drop-cons bytes f 0 (omega arith),
@@ -89,20 +92,8 @@ module _ (bytes : List ℕ) (f : ℕ) where
       )
       (simp towards-suc)
 
--- the eight bytes from byte f on, with zeros past the end
-abbrev pub eight : List ℕ → ℕ → List ℕ
-eight bytes f =
-    getD bytes f 0 ∷ getD bytes (f + 1) 0 ∷ getD bytes (f + 2) 0 ∷ getD bytes (f + 3) 0 ∷ getD bytes (f + 4) 0 ∷ getD bytes (f + 5) 0 ∷ getD bytes (f + 6) 0 ∷ getD bytes (f + 7) 0 ∷ []
-
 pub word-field : (bytes : List ℕ) (f : ℕ) → f + 8 ≤ length bytes → value (bits (eight bytes f)) ≡ field 64 (bits bytes) (8 * f)
 word-field bytes f h = sym (field-bytes bytes f 8 ∙ ap (λ (l : List ℕ). value (bits l)) (eight-bytes bytes f h))
-
--- the ones of these bytes joined the other way round
-pub turned-ones : (bytes : List ℕ) (f : ℕ) → f + 8 ≤ length bytes
-    → ones (value (bits (reverse (eight bytes f)))) ≡ count (take 64 (drop (8 * f) (bits bytes)))
-turned-ones bytes f h =
-    ones-value (bits (reverse (eight bytes f))) ∙ count-reverse (eight bytes f)
-    ∙ ap (λ (l : List ℕ). count (bits l)) (sym (eight-bytes bytes f h)) ∙ ap count (part-bits 8 f bytes)
 
 -- the first n of these bits
 pub word-front : (bytes : List ℕ) (f n k : ℕ) → n + k ≡ 64 → f + 8 ≤ length bytes → field 64 (bits bytes) (8 * f) / 2 ^ k ≡ field n (bits bytes) (8 * f)
@@ -133,12 +124,42 @@ short-field bytes f n k e h l =
 pub shifted-one : (w : ℕ) → w < 64 → 1 * 2 ^ w % 2 ^ 64 ≡ 2 ^ w
 shifted-one w h = rw (one-mul (2 ^ w)) (mod-eq-of-lt (pow-lt h))
 
+-- and a number masked by it
+pub masked : (x w : ℕ) → w < 64 → bitAnd x (1 * 2 ^ w % 2 ^ 64 - 1) ≡ x % 2 ^ w
+masked x w h = rw (shifted-one w h) (and-mask x w)
+
 -- a field at the end of bits that start with its first byte
 pub field-masked : (bytes : List ℕ) (start w : ℕ) → start + w ≤ 8 * length bytes
     → field (start % 8 + w) (bits bytes) (8 * (start / 8)) % 2 ^ w ≡ field w (bits bytes) start
 field-masked bytes start w h =
     let s : 8 * (start / 8) + start % 8 ≡ start = omega arith in
     sym (rw s at (field-back (bits bytes) (8 * (start / 8)) (start % 8) w (rw (length-bits bytes) (omega arith))))
+
+-- the mask 0xFF..FF >> (64 - w)
+pub shifted-ones : (w : ℕ) → w ≤ 64 → (2 ^ 64 - 1) / 2 ^ (64 - w) ≡ 2 ^ w - 1
+shifted-ones w h =
+    let k : ℕ = 64 - w in
+    let e : 64 ≡ w + k = omega arith in
+    ap (λ (n : ℕ). (2 ^ n - 1) / 2 ^ k) e ∙ ap (λ (n : ℕ). n / 2 ^ k) (ones-split w k) ∙ high (2 ^ w - 1) k (ones-lt k)
+
+-- two fields of 12 bits in a row
+pub two-cut : (s : List Bool) (start : ℕ) {x a b : ℕ} → start + 24 ≤ length s → x ≡ field 24 s start
+    → a ≡ x / 2 ^ 12 % 2 ^ 12 → b ≡ x / 2 ^ 0 % 2 ^ 12 → (a < 4096) × (b < 4096) → TwoAt s start a b
+two-cut s start {x} h e ea eb small = record {
+  first = ea ∙ ap (λ (n : ℕ). n / 2 ^ 12 % 2 ^ 12) e ∙ sym (field-inside s start 0 12 12 h)
+      ∙ ap (field 12 s) (add-zero start);
+  second = eb ∙ ap (λ (n : ℕ). n / 2 ^ 0 % 2 ^ 12) e ∙ sym (field-inside s start 12 12 0 h);
+  small = small;
+}
+
+-- and in three bytes
+pub two-in-bytes : (bytes : List ℕ) (at : ℕ) {x a b : ℕ} → AreBytes bytes → at + 3 ≤ length bytes
+    → x ≡ joined 0 (getD bytes at 0 ∷ getD bytes (at + 1) 0 ∷ getD bytes (at + 2) 0 ∷ [])
+    → a ≡ x / 2 ^ 12 % 2 ^ 12 → b ≡ x / 2 ^ 0 % 2 ^ 12 → (a < 4096) × (b < 4096) → TwoAt (bits bytes) (8 * at) a b
+two-in-bytes bytes at hb h e ea eb small =
+    let three = ap (joined 0) (three-bytes bytes at h) in
+    let l = length-bits bytes in
+    two-cut (bits bytes) (8 * at) (omega arith) (e ∙ sym (field-joined bytes at 3 hb ∙ three)) ea eb small
 
 -- four fields of 12 bits in a row
 pub four-cut : (s : List Bool) (start : ℕ) {x a b c d : ℕ} → start + 48 ≤ length s → x ≡ field 48 s start

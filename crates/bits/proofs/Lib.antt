@@ -1,6 +1,11 @@
 -- Laws that the answers of several functions share: what the code computes, in terms of the definitions.
 pub mod Joined
+pub mod Turned
+pub mod Tops
 pub mod Stored
 pub mod Entries
 pub mod Found
+pub mod Halves
+pub mod Windows
+pub mod Passes
 pub mod FromBit

@@ -1,5 +1,5 @@
-// Bit strings over bytes, most significant bit first (document 01, "Bits"): rank and select, open to every caller, and the bits and fields
-// that the crates above read and write.
+// Bit strings over bytes, most significant bit first (document 01, "Bits"): rank and select, open to every caller, and
+// the bits and fields that the crates above read and write.
 ghost use mathlib.Core.Path.{_≡_};
 ghost use Prim.Native.Nat.{_+_, _*_};
 ghost use lib.Dec.{leb};
@@ -10,6 +10,8 @@ mod counts; // counts.rt: the ones of a string that its bytes hold
 mod table; // table.rt: the place of the k-th one of a byte
 mod search; // search.rt: the place of the k-th one of a string that its bytes hold
 pub mod fields; // fields.rt: bits and fields, read and written
+pub mod ones; // ones.rt: the highest one of a number
+pub mod spans; // spans.rt: the k-th one of a string, what lies between it and the next, and the only one
 
 // Whether `len` bytes hold `places` bits from bit `start` on.
 fn holds(len: usize, start: usize, places: usize) -> bool
@@ -23,8 +25,8 @@ fn holds(len: usize, start: usize, places: usize) -> bool
     need <= len - first
 }
 
-// The number of ones in places 1 to p of the string of `places` bits from bit `start` on. A p past the end counts all, and a string that the
-// bytes don't hold in full counts as empty.
+// The number of ones in places 1 to p of the string of `places` bits from bit `start` on. A p past the end counts all,
+// and a string that the bytes don't hold in full counts as empty.
 pub fn rank(bytes: &[u8], start: usize, places: usize, p: usize) -> usize
     ensures { λ r. ⌜ r ≡ rankOf (string (now (bytes .entry)) start places) p ⌝ }
 {
@@ -39,8 +41,8 @@ pub fn rank(bytes: &[u8], start: usize, places: usize, p: usize) -> usize
     }
 }
 
-// The place of the k-th one of the string of `places` bits from bit `start` on; 0 for k = 0 and where there are fewer ones. A string that the
-// bytes don't hold in full counts as empty.
+// The place of the k-th one of the string of `places` bits from bit `start` on; 0 for k = 0 and where there are fewer
+// ones. A string that the bytes don't hold in full counts as empty.
 pub fn select(bytes: &[u8], start: usize, places: usize, k: usize) -> usize
     ensures { λ r. ⌜ r ≡ selectOf (string (now (bytes .entry)) start places) k ⌝ }
 {

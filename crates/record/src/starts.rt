@@ -1,27 +1,11 @@
 // Where the blocks start in the list of fields.
 ghost use mathlib.Core.Path.{_≡_};
-ghost use Prim.Native.Nat.{_+_, _-_, _^_, _≤_, _<_};
+ghost use Prim.Native.Nat.{_+_, _≤_, _<_};
 ghost use lib.ListN.{length, getD};
 ghost use Rattle.record.specs.Record.{unary};
 ghost use Rattle.record.specs.Starts.{startsOf};
 ghost use Rattle.record.specs.Steps.{Sound, Filling, Entering};
 use super::cells::put;
-
-// The place of the highest one of x, from 0 for the lowest bit.
-fn top(x: u64) -> usize
-    requires { ⌜ 1 ≤ x ⌝ }
-    ensures { λ r. ⌜ (r < 64) × (2 ^ r ≤ x) × (x < 2 ^ (r + 1)) ⌝ }
-{
-    63 - u64::leading_zeros(x) as usize
-}
-
-// x without its one at place h.
-fn without(x: u64, h: usize) -> u64
-    requires { ⌜ (h < 64) × (2 ^ h ≤ x) ⌝ }
-    ensures { λ r. ⌜ r ≡ x - 2 ^ h ⌝ }
-{
-    x - (1 << h)
-}
 
 // The ones of w, the bits of D before place `end` that are still to be read: each enters the zeros before it as the next start. Returns how
 // many starts are entered. The record's bytes are here for the contract alone.
@@ -32,9 +16,9 @@ fn enter_ones(bytes: &[u8], starts: &mut [u16], w: u64, end: usize, k: usize) ->
     let mut left = w;
     let mut next = k;
     while left != 0 {
-        let h = top(left);
+        let h = bits::ones::top(left);
         put(starts, next, end - (h + 1) - next);
-        left = without(left, h);
+        left = bits::ones::without(left, h);
         next += 1;
     }
     next

@@ -2,24 +2,14 @@
 use mathlib.Core.Path.{_≡_, sym, ap, _∙_}
 use mathlib.Core.Bool.{Bool, true, false}
 use mathlib.Core.List.{List}
-use Prim.Native.Nat.{ℕ, suc, _+_, _-_, _*_, _/_, _%_, _^_, _≤_, _<_}
+use Prim.Native.Nat.{ℕ, _+_, _-_, _*_, _/_, _%_, _^_, _≤_, _<_}
 use native.Mathlib.Decide.{decLe}
 use native.Mathlib.Nat.{div-eq-of-lt, mod-eq-of-lt}
 use native.Mathlib.Omega.{arith}
-use lib.Count.{leadingZeros, leading-top}
 use lib.ListN.{length, getD}
 use lib.Pow.{pow-add, pow-mono, pow-pos, high, low}
 use Rattle.bits.specs.Bits.{bit, field}
 use Rattle.bits.specs.Laws.Fields.{field-lt, field-inside, field-front, field-back, field-one}
-
--- its place, by the zeros above it
-pub top-of : (x : ℕ) → 1 ≤ x → x < 2 ^ 64
-    → (leadingZeros 64 x ≤ 63) × (63 - leadingZeros 64 x < 64) × (2 ^ (63 - leadingZeros 64 x) ≤ x) × (x < 2 ^ (63 - leadingZeros 64 x + 1))
-top-of x p h =
-    let (j, e, l, u) = leading-top 64 x p h in
-    let n : 63 - leadingZeros 64 x ≡ j = omega arith in
-    let s : 63 - leadingZeros 64 x + 1 ≡ suc j = omega arith in
-    (omega arith, omega arith, rw n l, rw s u)
 
 -- of a number below 2 ^ (h + 1), from 2 ^ h on
 module _ (x h : ℕ) (l : 2 ^ h ≤ x) (u : x < 2 ^ (h + 1)) where

@@ -1,8 +1,8 @@
--- `starts::top` meets its contract: the zeros above a number's highest one give its place.
+-- `ones::top` meets its contract: the zeros above a number's highest one give its place.
 use native.Mathlib.Omega.{arith}
-use Rattle.record.proofs.Laws.Reading.Tops.{top-of}
-use Rattle.record.proofs.starts.top.Statement.{statement}
-use Rattle.record.proofs.starts.top.Tie as tie
+use Rattle.bits.proofs.Tops.{top-of}
+use Rattle.bits.proofs.ones.top.Statement.{statement}
+use Rattle.bits.proofs.ones.top.Tie as tie
 
 cast-result : tie.Need-cast-result
 cast-result c = let t = top-of (c .args .x) (c .pre) (c .fits .x .fits) in omega arith
