@@ -80,4 +80,3 @@ place-known {starts} {nbrs} {u} {j} at p =
     let e = sym (p .leads) ∙ row-neighbour (at .arrays .divided) u (at .inside) j a in
     let k = at .arrays .known (getD starts u 0 + j) (omega arith) in
     omega arith
-
