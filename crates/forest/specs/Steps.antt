@@ -93,7 +93,6 @@ pub record Entering (n s : ℕ) (work next : List ℕ) (v k p bit : ℕ) : Type 
 -- the places from `from` up to p lead to visited vertices, and p, where it is before `end`, to an unvisited one
 pub record PassedTo (nbrs : List ℕ) (s : ℕ) (work : List ℕ) (from end p : ℕ) : Type 0 where
   pub low : from ≤ p
-  pub high : p ≤ end
   pub visited : (q : ℕ) → from ≤ q → q < p → getD work (2 * s + getD nbrs q 0) 0 ≡ 0 → ⊥
   pub stops : p < end → getD work (2 * s + getD nbrs p 0) 0 ≡ 0
 

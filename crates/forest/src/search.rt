@@ -66,9 +66,9 @@ fn try_start(
     Hand { cur: 0, k }
 }
 
-// The first place from `from` on and before `end` that leads to an unvisited vertex, or `end`.
+// The first place from `from` on and before `end` that leads to an unvisited vertex, or else one that is not before `end`.
 fn pass_visited(nbrs: &[u16], n: usize, s: usize, work: &[u16], from: usize, end: usize) -> usize
-    requires { ⌜ (Room n s (now work)) × (Known n (now nbrs)) × (from ≤ end) × (end ≤ length (now nbrs)) ⌝ }
+    requires { ⌜ (Room n s (now work)) × (Known n (now nbrs)) × (end ≤ length (now nbrs)) ⌝ }
     ensures { λ r. ⌜ PassedTo (now (nbrs .entry)) s (now (work .entry)) from end r ⌝ }
 {
     let mut p = from;

@@ -1,0 +1,163 @@
+-- The search from its begin to its end.
+--   Starting, starting-none, starting-more, starting-all   the first vertices are unvisited, and at their starts
+--   busy-start                                             what the test of `busy` says where no vertex is at hand
+--   search-begun, searching-busy, search-ended             before the first step, before a step, and after the last
+use mathlib.Core.Path.{_≡_, refl, sym, ap, ap₂, subst, _∙_}
+use mathlib.Core.Bool.{true, false, _||_}
+use mathlib.Core.List.{List, [], flatten}
+use Prim.Native.Nat.{ℕ, zero, suc, _+_, _-_, _*_, _≤_, _<_}
+use native.Mathlib.Decide.{ℕ-discrete}
+use native.Mathlib.Omega.{arith}
+use borrow.Author.Tests.{ltb-true, ltb-false, le-ltb}
+use lib.Dec.{ltb}
+use lib.ListN.{length, getD, set}
+use Rattle.graph.specs.Graph.{Blocks}
+use Rattle.graph.specs.Search.{all, search, countUp}
+use Rattle.graph.specs.Forest.{number}
+use Rattle.graph.specs.Laws.Tree.Entries.{Entered}
+use Rattle.graph.specs.Laws.Joined.Spanning.{count-length, count-more, count-none, Covers, covers-vertices}
+use Rattle.graph.specs.Laws.Joined.Spanning.{Spanning, search-spans, forest-length}
+use Rattle.graph.specs.Laws.Loop.Arrays.{Kept, visit-entered}
+use Rattle.graph.specs.Laws.Loop.Invariant.{Loop, loop-begin, loop-end, loop-busy-start, loop-busy}
+use Rattle.record.specs.Arrays.{cut, Arrays}
+use Rattle.record.specs.Laws.First.{neither}
+use Rattle.forest.specs.Laws.Starts.{places-cut}
+use Rattle.forest.specs.Steps.{Room, downBit, cellsOf, Searching, Begun, Searched}
+use Rattle.forest.proofs.Laws.Graphs.{as-many, in-range}
+use Rattle.forest.proofs.Laws.Stores.{Put, put-length, put-other, put-here}
+use Rattle.forest.proofs.Laws.Tied.{room-after}
+
+-- ---- no vertex is visited
+
+-- the first v vertices are unvisited, and the place that comes next for each is its start
+pub record Starting (starts : List ℕ) (n s : ℕ) (work : List ℕ) (v : ℕ) : Type 0 where
+  pub room : Room n s work
+  pub unvisited : (x : ℕ) → x < v → getD work (2 * s + x) 0 ≡ 0
+  pub at-start : (x : ℕ) → x < v → getD work x 0 ≡ getD starts x 0
+
+pub starting-none : (starts : List ℕ) {n s : ℕ} {work : List ℕ} → Room n s work → Starting starts n s work 0
+starting-none starts r = record {
+  room = r;
+  unvisited = λ x h. absurd (omega arith);
+  at-start = λ x h. absurd (omega arith);
+}
+
+module _ {starts : List ℕ} {n s : ℕ} {work : List ℕ} {v : ℕ} (t : Starting starts n s work v) where
+  pub starting-more : {mid next : List ℕ} {a : ℕ} → v < n → mid ≡ set work (2 * s + v) 0 → a ≡ getD starts v 0
+      → next ≡ set mid v a → Starting starts n s next (v + 1)
+  starting-more {mid} {next} h e i f =
+      let p : Put work mid (2 * s + v) 0 = record { is = e } in
+      let q : Put mid next v (getD starts v 0) = record { is = f ∙ ap (set mid v) i } in
+      record {
+        room = room-after (t .room) (put-length q ∙ put-length p);
+        unvisited = λ x l. visit p q x l (ℕ-discrete x v);
+        at-start = λ x l. place p q x l (ℕ-discrete x v);
+      }
+    where
+      visit : {mid next : List ℕ} → Put work mid (2 * s + v) 0 → Put mid next v (getD starts v 0)
+          → (x : ℕ) → x < v + 1 → Dec (x ≡ v) → getD next (2 * s + x) 0 ≡ 0
+      visit p q x l (yes e) =
+          let r = t .room in
+          rw e (put-other q (2 * s + v) (λ z. omega arith) ∙ put-here p (omega arith))
+      visit p q x l (no d) =
+          let r = t .room in
+          put-other q (2 * s + x) (λ z. omega arith) ∙ put-other p (2 * s + x) (λ z. d (omega arith))
+          ∙ t .unvisited x (omega arith)
+
+      place : {mid next : List ℕ} → Put work mid (2 * s + v) 0 → Put mid next v (getD starts v 0)
+          → (x : ℕ) → x < v + 1 → Dec (x ≡ v) → getD next x 0 ≡ getD starts x 0
+      place p q x l (yes e) =
+          let r = t .room in
+          let b = put-length p in
+          rw e (put-here q (omega arith))
+      place p q x l (no d) =
+          let r = t .room in
+          put-other q x d ∙ put-other p x (λ z. omega arith) ∙ t .at-start x (omega arith)
+
+  pub starting-all : n ≤ v → Begun starts n s work
+  starting-all h = record {
+    room = t .room;
+    unvisited = λ x l. t .unvisited x (omega arith);
+    at-start = λ x l. t .at-start x (omega arith);
+  }
+
+-- ---- something is left to do
+
+pub busy-start : {n i cur : ℕ} → (ltb 0 cur || ltb i n) ≡ true → cur ≤ 0 → i < n
+busy-start {n} {i} {cur} e h = ltb-true i n (rw (le-ltb 0 cur h) at e)
+
+idle : {n i cur : ℕ} → (ltb 0 cur || ltb i n) ≡ false → (cur ≡ 0) × (n ≤ i)
+idle {n} {i} {cur} e =
+    let (a, b) = neither (ltb 0 cur) (ltb i n) e in
+    let c = ltb-false 0 cur a in
+    let d = ltb-false i n b in
+    (omega arith, d)
+
+-- the vertices from i on are still to try
+abbrev From : Blocks → List ℕ → ℕ → ℕ → List ℕ → ℕ → ℕ → ℕ → ℕ → Type 0
+From g starts n s work left i cur k = Searching g (countUp 0 n) (countUp i (n - i)) starts n s work left cur k
+
+pub searching-busy : {g : Blocks} {starts : List ℕ} {n s : ℕ} {work : List ℕ} {left k : ℕ} (i cur : ℕ)
+    → From g starts n s work left i cur k → (ltb 0 cur || ltb i n) ≡ true → 0 < left
+searching-busy {n = n} i zero t e =
+    loop-busy-start (rw (count-more n i (busy-start {cur = 0} e (omega arith))) at (t .loop))
+searching-busy i (suc u) t e = loop-busy (t .loop)
+
+-- ---- begin and end
+
+all-starts : (starts nbrs : List ℕ) (n : ℕ) → n + 1 ≡ length starts → Covers (cut starts nbrs) (countUp 0 n)
+all-starts starts nbrs n fit = rw (as-many starts nbrs fit) at (covers-vertices (cut starts nbrs))
+
+module _ {starts nbrs : List ℕ} (a : Arrays starts nbrs) {n : ℕ} (fit : n + 1 ≡ length starts) where
+  pub search-begun : {s : ℕ} {work : List ℕ} → Begun starts n s work
+      → From (cut starts nbrs) starts n s work (2 * n + 2 * length nbrs) 0 0 0
+  search-begun {s} {work} b =
+      let size = as-many starts nbrs fit in
+      let c = count-length 0 n in
+      let p = places-cut (a .divided) in
+      let e : n ≡ n - 0 = omega arith in
+      let l = loop-begin (in-range a) (all-starts starts nbrs n fit .inside) {c = cellsOf s (λ x. 0) (λ x. 0) work}
+          (λ v h. b .unvisited v (omega arith)) {left = 2 * n + 2 * length nbrs} (omega arith) in
+      record {
+        next-of = λ x. 0;
+        slot-of = λ x. 0;
+        room = b .room;
+        nexts = λ v h. let q = b .at-start v h in omega arith;
+        fresh = λ v h z. refl;
+        downs = λ v h d. absurd (d (b .unvisited v h));
+        loop = subst (λ x. Loop (cut starts nbrs) (search (cut starts nbrs) all (countUp 0 n)) (2 * n + 2 * length nbrs)
+            (countUp 0 x) 0 0 (cellsOf s (λ x. 0) (λ x. 0) work)) e l;
+      }
+
+  module _ {s : ℕ} {work : List ℕ} {left cur k : ℕ} (i : ℕ) (t : From (cut starts nbrs) starts n s work left i cur k)
+      (e : (ltb 0 cur || ltb i n) ≡ false) where
+    spans : Spanning (cut starts nbrs) (search (cut starts nbrs) all (countUp 0 n))
+    spans = search-spans (in-range a) (all-starts starts nbrs n fit)
+
+    kept : Kept (cut starts nbrs) (search (cut starts nbrs) all (countUp 0 n))
+        (cellsOf s (t .next-of) (t .slot-of) work)
+    kept =
+        let (none, done) = idle {n = n} {i = i} {cur = cur} e in
+        loop-end (rw (none, count-none n i done) at (t .loop))
+
+    entered : (v : ℕ) → v < n → Entered v (search (cut starts nbrs) all (countUp 0 n))
+    entered v h = let size = as-many starts nbrs fit in spans .whole v (omega arith)
+
+    visits : (v : ℕ) → v < n → getD work (2 * s + v) 0 ≡ suc (number (search (cut starts nbrs) all (countUp 0 n)) v)
+    visits v h =
+        let size = as-many starts nbrs fit in
+        kept .visit-cells v (omega arith) ∙ visit-entered (entered v h)
+
+    pub search-ended : Searched (cut starts nbrs) (search (cut starts nbrs) all (countUp 0 n)) n s work
+    search-ended = record {
+      spans = spans;
+      room = t .room;
+      visits = visits;
+      parents = λ v h. kept .parent-cells v (entered v h);
+      order = λ j h.
+          let size = as-many starts nbrs fit in
+          let many = forest-length spans in
+          kept .order-cells j (omega arith);
+      downs = λ v h. t .downs v h (λ z. (let y = visits v h in omega arith))
+          ∙ ap₂ (downBit (cut starts nbrs)) (kept .parent-cells v (entered v h)) (kept .slot-cells v (entered v h));
+    }
