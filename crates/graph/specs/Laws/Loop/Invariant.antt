@@ -67,7 +67,10 @@ module _ {g : Blocks} {H : Forest} {left : ℕ} {todo : List ℕ} {cur k : ℕ} 
     (i : Loop g H left todo cur k c) where
   -- a visit cell tells who is entered
   new-vertex : {x : ℕ} → x < length g → c .visits x ≡ 0 → Entered x (i .soFar) → ⊥
-  new-vertex {x} h z o = let a = i .kept .visit-cells x h in let b = visit-entered o in omega arith
+  new-vertex {x} h z o =
+      let a = i .kept .visit-cells x h in
+      let b = visit-entered o in
+      omega arith
 
   old-vertex : {x : ℕ} → x < length g → (c .visits x ≡ 0 → ⊥) → Entered x (i .soFar)
   old-vertex {x} h n = elim (dec-entered x (i .soFar)) [
@@ -81,13 +84,18 @@ module _ {g : Blocks} {H : Forest} {left : ℕ} {todo : List ℕ} {cur k : ℕ} 
 
   -- there is room for a vertex that is not entered
   pub loop-room : {x : ℕ} → x < length g → c .visits x ≡ 0 → k < length g
-  loop-room h z = let a = room (i .built) (i .within) h (new-vertex h z) in let b = i .count in omega arith
+  loop-room h z =
+      let a = room (i .built) (i .within) h (new-vertex h z) in
+      let b = i .count in
+      omega arith
 
   enter-cells : {c′ : Cells} {at : ℕ → ℕ} {p j : ℕ} (a : Goal) → aim a < length g → c .visits (aim a) ≡ 0
       → parent (a ∷ i .soFar) (aim a) ≡ p → slot (a ∷ i .soFar) (aim a) ≡ j
       → Enters (length g) c c′ at (aim a) k p j → Kept g (a ∷ i .soFar) c′
   enter-cells {c′} {at} {p} {j} a h z ep ej s =
-      kept-enter (i .kept) a (within-new a h) (let b = loop-room h z in let d = i .count in omega arith) ep ej
+      let b = loop-room h z in
+      let d = i .count in
+      kept-enter (i .kept) a (within-new a h) (omega arith) ep ej
       (subst (λ x. Enters (length g) c c′ at (aim a) x p j) (i .count) s)
 
 -- ---- no vertex is at hand: the next start
@@ -104,7 +112,10 @@ module _ {g : Blocks} {H : Forest} {left v : ℕ} {todo : List ℕ} {k : ℕ} {c
   enough-start = subst (λ x. work g (i .soFar) x (v ∷ todo) ≤ left) no-frame (i .enough)
 
   pub loop-busy-start : 0 < left
-  loop-busy-start = let a = enough-start in let b = work-pass-start g (i .soFar) v todo in omega arith
+  loop-busy-start =
+      let a = enough-start in
+      let b = work-pass-start g (i .soFar) v todo in
+      omega arith
 
   -- it is visited: pass over
   pub loop-pass-start : v < length g → (c .visits v ≡ 0 → ⊥) → Loop g H (left - 1) todo 0 k c
@@ -117,7 +128,10 @@ module _ {g : Blocks} {H : Forest} {left v : ℕ} {todo : List ℕ} {k : ℕ} {c
     going = going-pass-start (old-vertex i h n) at-start;
     stack = stack-bottom;
     count = i .count;
-    enough = let a = enough-start in let b = work-pass-start g (i .soFar) v todo in omega arith;
+    enough =
+        let a = enough-start in
+        let b = work-pass-start g (i .soFar) v todo in
+        omega arith;
   }
 
   -- it is not: enter it as a root
@@ -137,7 +151,10 @@ module _ {g : Blocks} {H : Forest} {left v : ℕ} {todo : List ℕ} {k : ℕ} {c
         going = going-enter-start n at-start;
         stack = stack-top w (s .nexts-set) (now refl) away-bottom e stack-bottom;
         count = ap suc (i .count);
-        enough = let a = enough-start in let d = work-enter-start g (i .soFar) v todo h n in omega arith;
+        enough =
+            let a = enough-start in
+            let d = work-enter-start g (i .soFar) v todo h n in
+            omega arith;
       }
 
 -- no start is left: the arrays are the forest's
@@ -167,7 +184,7 @@ module _ {g : Blocks} {H : Forest} {left : ℕ} {todo : List ℕ} {u k : ℕ} {c
   loop-vertex = i .within u (top .has)
 
   pub loop-visited : c .visits u ≡ 0 → ⊥
-  loop-visited z = let a = i .kept .visit-cells u loop-vertex in let b = visit-entered (top .has) in omega arith
+  loop-visited z = new-vertex i loop-vertex z (top .has)
 
   pub loop-busy : 0 < left
   loop-busy =
