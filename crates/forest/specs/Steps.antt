@@ -1,7 +1,9 @@
--- What contracts inside this crate say of the work slice and of the search. The slice has six parts of s numbers, of which n each are used:
--- the places that come next (in the end the bits of the ways back), 1 + the parents, 1 + the visit numbers, the vertices in order of their
--- visits, the bits of the places by which they were entered, and 1 + the lowpoints. A cell of a root, where it would tell of a parent, is 0.
---   stride              how far one part stands behind the other: not n itself, so that parts of 4,096 cells don't share cache sets
+-- What contracts inside this crate say of the work slice and of the search. The slice has six parts of s numbers, of
+-- which n each are used: the places that come next (in the end the bits of the ways back), 1 + the parents, 1 + the
+-- visit numbers, the vertices in order of their visits, the bits of the places by which they were entered, and 1 + the
+-- lowpoints. A cell of a root, where it would tell of a parent, is 0.
+--   stride              how far one part stands behind the other: not n itself, so that parts of 4,096 cells don't
+--                       share cache sets
 --   Room                the slice has room for the parts
 --   Known               each neighbour is a vertex
 --   downBit             the bit of the place by which a vertex was entered
@@ -55,8 +57,9 @@ cellsOf s next-of slot-of work = record {
   order = λ k. getD work (3 * s + k) 0;
 }
 
--- from here the search of g from these roots ends in its forest; `todo` are the starts that are still to try, cur is 0 or 1 + the vertex at hand,
--- and k vertices are entered. A vertex's next place is its start and the next position, and 0 before it is visited
+-- from here the search of g from these roots ends in its forest; `todo` are the starts that are still to try, cur is 0
+-- or 1 + the vertex at hand, and k vertices are entered. A vertex's next place is its start and the next position,
+-- which is 0 before it is visited
 pub record Searching (g : Blocks) (roots todo starts : List ℕ) (n s : ℕ) (work : List ℕ) (left cur k : ℕ) : Type 0 where
   pub next-of : ℕ → ℕ
   pub slot-of : ℕ → ℕ

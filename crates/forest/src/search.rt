@@ -1,5 +1,5 @@
-// The depth-first search over the work slice, whose parts are listed in specs/Steps.antt. `left` bounds the steps that are still to come. A step
-// holds for any list of roots: the search of all vertices in order gives it one.
+// The depth-first search over the work slice, whose parts are listed in specs/Steps.antt. `left` bounds the steps that
+// are still to come. A step holds for any list of roots: the search of all vertices in order gives it one.
 ghost use mathlib.Core.Path.{_≡_};
 ghost use mathlib.Core.Bool.{true, _||_};
 ghost use Prim.Native.Nat.{_+_, _-_, _≤_, _<_};
@@ -66,7 +66,8 @@ fn try_start(
     Hand { cur: 0, k }
 }
 
-// The first place from `from` on and before `end` that leads to an unvisited vertex, or else one that is not before `end`.
+// The first place from `from` on and before `end` that leads to an unvisited vertex; where there is none, a place that
+// is not before `end`.
 fn pass_visited(nbrs: &[u16], n: usize, s: usize, work: &[u16], from: usize, end: usize) -> usize
     requires { ⌜ (Room n s (now work)) × (Known n (now nbrs)) × (end ≤ length (now nbrs)) ⌝ }
     ensures { λ r. ⌜ PassedTo (now (nbrs .entry)) s (now (work .entry)) from end r ⌝ }
@@ -139,7 +140,9 @@ fn step(
 ) -> At
     ghost { Blocks }
     requires { λ g. ⌜ cut (now starts) (now nbrs) ≡ g ⌝ }
-    requires { λ g. ⌜ (Arrays (now starts) (now nbrs)) × (n + 1 ≡ length (now starts)) × ((ltb 0 cur || ltb i n) ≡ true) ⌝ }
+    requires { λ g. ⌜
+        (Arrays (now starts) (now nbrs)) × (n + 1 ≡ length (now starts)) × ((ltb 0 cur || ltb i n) ≡ true)
+        ⌝ }
     requires { λ g. ⌜ Underway g (now starts) n s (now work) left cur k ⌝ }
     ensures { λ g r. ⌜
         StepTaken g (now (starts .entry)) n s (now (work .entry)) (now (work .exit)) left i cur k (r .i) (r .cur) (r .k)

@@ -1,12 +1,14 @@
 -- The search from its begin to its end.
 --   Starting, starting-none, starting-more, starting-all   the first vertices are unvisited, and at their starts
---   busy-start                                             what the test of `busy` says where no vertex is at hand
+--   busy-start, underway-start, next-start                 no vertex is at hand: the next vertex is a start
+--   From                                                   the vertices from i on are still to try
 --   search-begun, searching-busy, search-ended             before the first step, before a step, and after the last
 use mathlib.Core.Path.{_≡_, refl, sym, ap, ap₂, subst, _∙_}
 use mathlib.Core.Bool.{true, false, _||_}
-use mathlib.Core.List.{List, [], flatten}
+use mathlib.Core.List.{List, _∷_}
 use Prim.Native.Nat.{ℕ, zero, suc, _+_, _-_, _*_, _≤_, _<_}
 use native.Mathlib.Decide.{ℕ-discrete}
+use native.Mathlib.Numerals.{add-one}
 use native.Mathlib.Omega.{arith}
 use borrow.Author.Tests.{ltb-true, ltb-false, le-ltb}
 use lib.Dec.{ltb}
@@ -22,7 +24,7 @@ use Rattle.graph.specs.Laws.Loop.Invariant.{Loop, loop-begin, loop-end, loop-bu
 use Rattle.record.specs.Arrays.{cut, Arrays}
 use Rattle.record.specs.Laws.First.{neither}
 use Rattle.forest.specs.Laws.Starts.{places-cut}
-use Rattle.forest.specs.Steps.{Room, downBit, cellsOf, Searching, Begun, Searched}
+use Rattle.forest.specs.Steps.{Room, downBit, cellsOf, Searching, Underway, Begun, Searched}
 use Rattle.forest.proofs.Laws.Graphs.{as-many, in-range}
 use Rattle.forest.proofs.Laws.Stores.{Put, put-length, put-other, put-here}
 use Rattle.forest.proofs.Laws.Tied.{room-after}
@@ -93,8 +95,21 @@ idle {n} {i} {cur} e =
     let d = ltb-false i n b in
     (omega arith, d)
 
+-- no vertex is at hand, and i is the next start
+module _ {g : Blocks} {starts : List ℕ} {n s : ℕ} {work : List ℕ} {left cur k : ℕ} (none : cur ≤ 0) where
+  pub underway-start : Underway g starts n s work left cur k → Underway g starts n s work left 0 k
+  underway-start t = let e : cur ≡ 0 = omega arith in rw e at t
+
+  pub next-start : {roots : List ℕ} (i : ℕ) → i < n
+      → Searching g roots (countUp i (n - i)) starts n s work left cur k
+      → Searching g roots (i ∷ countUp (i + 1) (n - (i + 1))) starts n s work left 0 k
+  next-start i h t =
+      let e : cur ≡ 0 = omega arith in
+      let f = count-more n i h ∙ ap (λ (x : ℕ). i ∷ countUp x (n - x)) (sym (add-one i)) in
+      rw (e, f) at t
+
 -- the vertices from i on are still to try
-abbrev From : Blocks → List ℕ → ℕ → ℕ → List ℕ → ℕ → ℕ → ℕ → ℕ → Type 0
+abbrev pub From : Blocks → List ℕ → ℕ → ℕ → List ℕ → ℕ → ℕ → ℕ → ℕ → Type 0
 From g starts n s work left i cur k = Searching g (countUp 0 n) (countUp i (n - i)) starts n s work left cur k
 
 pub searching-busy : {g : Blocks} {starts : List ℕ} {n s : ℕ} {work : List ℕ} {left k : ℕ} (i cur : ℕ)
@@ -117,7 +132,7 @@ module _ {starts nbrs : List ℕ} (a : Arrays starts nbrs) {n : ℕ} (fit : n + 
       let p = places-cut (a .divided) in
       let e : n ≡ n - 0 = omega arith in
       let l = loop-begin (in-range a) (all-starts starts nbrs n fit .inside) {c = cellsOf s (λ x. 0) (λ x. 0) work}
-          (λ v h. b .unvisited v (omega arith)) {left = 2 * n + 2 * length nbrs} (omega arith) in
+      (λ v h. b .unvisited v (omega arith)) {left = 2 * n + 2 * length nbrs} (omega arith) in
       record {
         next-of = λ x. 0;
         slot-of = λ x. 0;

@@ -4,7 +4,7 @@ use mathlib.Core.List.{List}
 use Prim.Native.Nat.{ℕ, _+_, _*_, _<_}
 use native.Mathlib.Numerals.{add-one}
 use native.Mathlib.Omega.{arith}
-use lib.ListN.{length, getD}
+use lib.ListN.{getD}
 use Rattle.forest.specs.Steps.{Room, Entering}
 use Rattle.forest.proofs.Laws.Stores.{Put, put-length, put-other, put-here}
 
@@ -25,20 +25,24 @@ module _ (w₀ : List ℕ) {w₁ w₂ w₃ w₄ : List ℕ} {n s v k up bit : �
         visits-set = record {
           hit = put-other p₄ (2 * s + v) (λ e. omega arith) ∙ put-other p₃ (2 * s + v) (λ e. omega arith)
               ∙ put-other p₂ (2 * s + v) (λ e. omega arith) ∙ put-here p₁ (omega arith) ∙ add-one k;
-          rest = λ i h d. stays (2 * s + i) (λ e. d (omega arith)) (λ e. omega arith) (λ e. omega arith) (λ e. omega arith);
+          rest = λ i h d.
+              stays (2 * s + i) (λ e. d (omega arith)) (λ e. omega arith) (λ e. omega arith) (λ e. omega arith);
         };
         parents-set = record {
           hit = put-other p₄ (s + v) (λ e. omega arith) ∙ put-other p₃ (s + v) (λ e. omega arith)
               ∙ put-here p₂ (omega arith);
-          rest = λ i h d. stays (s + i) (λ e. omega arith) (λ e. d (omega arith)) (λ e. omega arith) (λ e. omega arith);
+          rest = λ i h d.
+              stays (s + i) (λ e. omega arith) (λ e. d (omega arith)) (λ e. omega arith) (λ e. omega arith);
         };
         downs-set = record {
           hit = put-other p₄ (4 * s + v) (λ e. omega arith) ∙ put-here p₃ (omega arith);
-          rest = λ i h d. stays (4 * s + i) (λ e. omega arith) (λ e. omega arith) (λ e. d (omega arith)) (λ e. omega arith);
+          rest = λ i h d.
+              stays (4 * s + i) (λ e. omega arith) (λ e. omega arith) (λ e. d (omega arith)) (λ e. omega arith);
         };
         order-set = record {
           hit = put-here p₄ (omega arith);
-          rest = λ i h d. stays (3 * s + i) (λ e. omega arith) (λ e. omega arith) (λ e. omega arith) (λ e. d (omega arith));
+          rest = λ i h d.
+              stays (3 * s + i) (λ e. omega arith) (λ e. omega arith) (λ e. omega arith) (λ e. d (omega arith));
         };
         nexts-same = λ i h. stays i (λ e. omega arith) (λ e. omega arith) (λ e. omega arith) (λ e. omega arith);
         same-size = put-length p₄ ∙ put-length p₃ ∙ put-length p₂ ∙ put-length p₁;

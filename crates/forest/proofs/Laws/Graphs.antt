@@ -45,7 +45,9 @@ module _ {starts nbrs : List ℕ} (a : Arrays starts nbrs) where
           let f : p - getD starts u 0 < length (block (cut starts nbrs) u) = omega arith in
           record {
             fits = f;
-            leads = row-neighbour (a .divided) u (omega arith) (p - getD starts u 0) f ∙ ap (λ (x : ℕ). getD nbrs x 0) q ∙ sym e;
+            leads =
+                row-neighbour (a .divided) u (omega arith) (p - getD starts u 0) f
+                ∙ ap (λ (x : ℕ). getD nbrs x 0) q ∙ sym e;
           }
 
       pub place-row : {j v : ℕ} → Place (cut starts nbrs) u j v → getD nbrs (getD starts u 0 + j) 0 ≡ v

@@ -6,7 +6,7 @@ use mathlib.Core.List.{List}
 use Prim.Native.Nat.{ℕ, _+_, _*_, _≤_, _<_}
 use native.Mathlib.Decide.{ℕ-discrete}
 use native.Mathlib.Omega.{arith}
-use lib.ListN.{length, getD}
+use lib.ListN.{getD}
 use Rattle.forest.specs.Steps.{PassedTo}
 
 pub passed-none : (nbrs : List ℕ) (s : ℕ) (work : List ℕ) (from : ℕ) → PassedTo nbrs s work from from from

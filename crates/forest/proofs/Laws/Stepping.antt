@@ -4,7 +4,7 @@
 --   hand-vertex                  the vertex at hand is a vertex
 --   next-place, next-new         the place where the passing stopped, and the vertex there
 --   next-left, next-entered      it stopped at the end of the block, or before it
-use mathlib.Core.Path.{_≡_, refl, sym, ap, subst, _∙_}
+use mathlib.Core.Path.{_≡_, refl, sym, ap, _∙_}
 use mathlib.Core.List.{List, _∷_}
 use Prim.Native.Nat.{ℕ, suc, _+_, _-_, _*_, _≤_, _<_}
 use native.Mathlib.Numerals.{add-one}

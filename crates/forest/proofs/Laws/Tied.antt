@@ -7,7 +7,7 @@
 --   enters            the same, for the arrays of a search program
 use mathlib.Core.Path.{_≡_, refl, sym, ap, ap₂, _∙_}
 use mathlib.Core.List.{List}
-use Prim.Native.Nat.{ℕ, suc, _+_, _*_, _≤_, _<_}
+use Prim.Native.Nat.{ℕ, _+_, _*_, _≤_, _<_}
 use native.Mathlib.Decide.{ℕ-discrete}
 use native.Mathlib.Omega.{arith}
 use lib.ListN.{length, getD}
@@ -16,7 +16,8 @@ use Rattle.graph.specs.Search.{all, search}
 use Rattle.graph.specs.Laws.Loop.Arrays.{Enters}
 use Rattle.graph.specs.Laws.Loop.Invariant.{Loop}
 use Rattle.forest.specs.Steps.{Room, downBit, cellsOf, Searching, Entering}
-use Rattle.forest.proofs.Laws.Stores.{Put, put-length, put-other, put-here, changed, stored-changed, stored-after}
+use Rattle.forest.proofs.Laws.Stores.{Put, put-length, put-other, put-here}
+use Rattle.forest.proofs.Laws.Stores.{changed, stored-changed, stored-after}
 
 pub record Tied (g : Blocks) (starts : List ℕ) (n s : ℕ) (work : List ℕ) (next-of slot-of : ℕ → ℕ) : Type 0 where
   pub room : Room n s work
@@ -76,7 +77,8 @@ module _ {g : Blocks} {starts : List ℕ} {n s : ℕ} {work : List ℕ} {next-of
             let r = t .room in
             rw e (put-here p (omega arith) ∙ ap (λ y. getD starts u 0 + y) (sym (stored-changed n next-of u x .hit)))
         at v l (no d) =
-            put-other p v d ∙ t .nexts v l ∙ ap (λ y. getD starts v 0 + y) (sym (stored-changed n next-of u x .rest v l d))
+            put-other p v d ∙ t .nexts v l
+            ∙ ap (λ y. getD starts v 0 + y) (sym (stored-changed n next-of u x .rest v l d))
 
         new : (v : ℕ) → v < n → getD work (2 * s + v) 0 ≡ 0 → changed next-of u x v ≡ 0
         new v l z =
@@ -84,7 +86,8 @@ module _ {g : Blocks} {starts : List ℕ} {n s : ℕ} {work : List ℕ} {next-of
             ∙ t .fresh v l z
 
   -- v is entered
-  module _ {v k p bit : ℕ} (j : ℕ) {next : List ℕ} (e : Entering n s work next v k p bit) (b : bit ≡ downBit g p j) where
+  module _ {v k p bit : ℕ} (j : ℕ) {next : List ℕ} (e : Entering n s work next v k p bit)
+      (b : bit ≡ downBit g p j) where
     pub tied-enter : Tied g starts n s next next-of (changed slot-of v j)
     tied-enter = record {
       room = room-after (t .room) (e .same-size);

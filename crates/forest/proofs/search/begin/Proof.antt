@@ -49,7 +49,7 @@ loop-again : tie.Need-loop-again Inv-loop μ-loop
 loop-again c =
     let p = passing (first c) in
     let b = starting-more (p .before .loop .inv .0) (p .loop-test .taken) (first c .put .ensures)
-        (c .before .before .before .get .ensures .0) (c .before .before .put2 .ensures) in
+    (c .before .before .before .get .ensures .0) (c .before .before .put2 .ensures) in
     (b, search needs)
 
 same-length : tie.Need-same-length Inv-loop μ-loop

@@ -15,6 +15,7 @@ Inv-loop nbrs n s work from end p₀ p = PassedTo nbrs s work from p p
 abbrev μ-loop : tie.MeasureT-loop
 μ-loop nbrs n s work from end p₀ p = end - p
 
+-- the begin of a pass of the loop, and of the function
 abbrev passing : tie.After-get2 Inv-loop μ-loop → tie.At-loop Inv-loop μ-loop
 passing c = c .before .before .before
 
@@ -22,15 +23,15 @@ abbrev begin : tie.At-loop Inv-loop μ-loop → tie.Start Inv-loop μ-loop
 begin c = c .before .before .before
 
 -- the visit cell that is tested
-abbrev tested : tie.At-loop Inv-loop μ-loop → ℕ → ℕ
-tested c x = getD (begin c .args .work .now) (2 * begin c .args .s + x) 0
+abbrev visit : tie.At-loop Inv-loop μ-loop → ℕ → ℕ
+visit c x = getD (begin c .args .work .now) (2 * begin c .args .s + x) 0
 
-cell : (c : tie.After-get2 Inv-loop μ-loop)
-    → c .get2 .result ≡ tested (passing c) (getD (begin (passing c) .args .nbrs .now) (passing c .loop .p) 0)
-cell c = c .get2 .ensures .0 ∙ ap (tested (passing c)) (c .before .get .ensures .0)
+tested : (c : tie.After-get2 Inv-loop μ-loop)
+    → c .get2 .result ≡ visit (passing c) (getD (begin (passing c) .args .nbrs .now) (passing c .loop .p) 0)
+tested c = c .get2 .ensures .0 ∙ ap (visit (passing c)) (c .before .get .ensures .0)
 
 loop-holds : tie.Need-loop-holds Inv-loop μ-loop
-loop-holds c = passed-none (c .before .before .args .nbrs .now) (c .before .before .args .s) (c .before .before .args .work .now) (c .before .before .args .from)
+loop-holds c = let a = c .before .before .args in passed-none (a .nbrs .now) (a .s) (a .work .now) (a .from)
 
 mul-get : tie.Need-mul-get Inv-loop μ-loop
 mul-get c = search needs
@@ -42,10 +43,16 @@ add-get : tie.Need-add-get Inv-loop μ-loop
 add-get c = search needs
 
 get-requires-2 : tie.Need-get-requires-2 Inv-loop μ-loop
-get-requires-2 c κs = let k = c .before .before .before .before .before .pre .1 (c .before .before .loop .p) (omega arith) in let e = c .get .ensures .0 in omega arith
+get-requires-2 c κs =
+    let l = c .before .before in
+    let k = begin l .pre .1 (l .loop .p) (omega arith) in
+    let e = c .get .ensures .0 in
+    omega arith
 
 returns : tie.Need-returns Inv-loop μ-loop
-returns c = passed-stop (c .before .before .before .before .loop .inv) (c .before .before .before .before .before .before .before .args .end) (sym (cell (c .before)) ∙ c .if1 .taken)
+returns c =
+    let l = passing (c .before) in
+    passed-stop (l .loop .inv) (begin l .args .end) (sym (tested (c .before)) ∙ c .if1 .taken)
 
 add-p : tie.Need-add-p Inv-loop μ-loop
 add-p c = search needs
@@ -54,10 +61,10 @@ loop-less : tie.Need-loop-less Inv-loop μ-loop
 loop-less c = search needs
 
 loop-again : tie.Need-loop-again Inv-loop μ-loop
-loop-again c = passed-more (c .before .before .before .before .loop .inv) (λ z. c .if1 .left (cell (c .before) ∙ z))
+loop-again c = passed-more (passing (c .before) .loop .inv) (λ z. c .if1 .left (tested (c .before) ∙ z))
 
 returns-2 : tie.Need-returns-2 Inv-loop μ-loop
-returns-2 c = passed-end (c .before .loop .inv) (c .before .before .before .before .args .end) (omega arith)
+returns-2 c = passed-end (c .before .loop .inv) (begin (c .before) .args .end) (omega arith)
 
 pub pass-visited-spec : {M : Type 1} → statement M
 pass-visited-spec =

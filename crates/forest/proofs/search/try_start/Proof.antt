@@ -9,17 +9,19 @@ use Rattle.forest.proofs.Laws.Stepping.{new-room, start-passed, start-e
 use Rattle.forest.proofs.search.try_start.Statement.{statement}
 use Rattle.forest.proofs.search.try_start.Tie as tie
 
-abbrev begin : tie.Then1 → tie.Start
-begin c = c .before .before .before .before .before .before
+abbrev begin : tie.After-get → tie.Start
+begin c = c .before .before .before .before .before
 
 -- vertex v is not visited, so there is room for it
-new : (c : tie.Then1) → getD (begin c .args .work .now) (2 * begin c .args .s + begin c .args .v) 0 ≡ 0
+new : (c : tie.Then1)
+    → getD (begin (c .before) .args .work .now) (2 * begin (c .before) .args .s + begin (c .before) .args .v) 0 ≡ 0
 new c = sym (c .before .get .ensures .0) ∙ c .if1 .taken
 
-room-left : (c : tie.Then1) → begin c .args .k < begin c .args .n
+room-left : (c : tie.Then1) → begin (c .before) .args .k < begin (c .before) .args .n
 room-left c =
-    let b = begin c .pre in
-    new-room (b .1 .searching) (as-many (begin c .args .starts .now) (begin c .args .nbrs .now) (b .0 .1)) (b .0 .2) (new c)
+    let a = begin (c .before) .args in
+    let b = begin (c .before) .pre in
+    new-room (b .1 .searching) (as-many (a .starts .now) (a .nbrs .now) (b .0 .1)) (b .0 .2) (new c)
 
 mul-get : tie.Need-mul-get
 mul-get c = search needs
@@ -32,7 +34,7 @@ get-requires c κs = search needs
 
 enter-requires : tie.Need-enter-requires
 enter-requires c κs =
-    let b = begin (c .before) .pre in
+    let b = begin (c .before .before) .pre in
     (b .1 .searching .room, b .0 .2, room-left (c .before), omega arith, omega arith)
 
 add-t18 : tie.Need-add-t18
@@ -47,7 +49,7 @@ same-length c = search needs
 returns : tie.Need-returns
 returns c = λ roots todo t.
     let d = c .before .before .before .before in
-    let b = begin d .pre .0 in
+    let b = begin (d .before) .pre .0 in
     start-entered t (as-many _ _ (b .1)) (b .2) (new d) (c .before .before .enter .ensures)
 
 same-length-2 : tie.Need-same-length-2
@@ -55,7 +57,8 @@ same-length-2 c = search needs
 
 returns-2 : tie.Need-returns-2
 returns-2 c = λ roots todo t.
-    start-passed t (as-many _ _ (c .before .before .before .before .before .before .pre .0 .1)) (c .before .before .before .before .before .before .pre .0 .2) (λ z. c .if1 .left (c .before .get .ensures .0 ∙ z))
+    let b = begin (c .before) .pre .0 in
+    start-passed t (as-many _ _ (b .1)) (b .2) (λ z. c .if1 .left (c .before .get .ensures .0 ∙ z))
 
 pub try-start-spec : {M : Type 1} → statement M
 try-start-spec =
