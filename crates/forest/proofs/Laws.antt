@@ -7,4 +7,5 @@ pub mod Entering
 pub mod Tied
 pub mod Passing
 pub mod Stepping
+pub mod Starting
 pub mod Begins

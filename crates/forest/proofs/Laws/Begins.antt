@@ -1,18 +1,16 @@
 -- The search from its begin to its end.
---   Starting, starting-none, starting-more, starting-all   the first vertices are unvisited, and at their starts
---   busy-start, underway-start, next-start                 no vertex is at hand: the next vertex is a start
---   From                                                   the vertices from i on are still to try
---   search-begun, searching-busy, search-ended             before the first step, before a step, and after the last
+--   busy-start, underway-start, next-start       no vertex is at hand: the next vertex is a start
+--   From                                         the vertices from i on are still to try
+--   search-begun, searching-busy, search-ended   before the first step, before a step, and after the last
 use mathlib.Core.Path.{_≡_, refl, sym, ap, ap₂, subst, _∙_}
 use mathlib.Core.Bool.{true, false, _||_}
 use mathlib.Core.List.{List, _∷_}
 use Prim.Native.Nat.{ℕ, zero, suc, _+_, _-_, _*_, _≤_, _<_}
-use native.Mathlib.Decide.{ℕ-discrete}
 use native.Mathlib.Numerals.{add-one}
 use native.Mathlib.Omega.{arith}
 use borrow.Author.Tests.{ltb-true, ltb-false, le-ltb}
 use lib.Dec.{ltb}
-use lib.ListN.{length, getD, set}
+use lib.ListN.{length, getD}
 use Rattle.graph.specs.Graph.{Blocks}
 use Rattle.graph.specs.Search.{all, search, countUp}
 use Rattle.graph.specs.Forest.{number}
@@ -24,64 +22,8 @@ use Rattle.graph.specs.Laws.Loop.Invariant.{Loop, loop-begin, loop-end, loop-bu
 use Rattle.record.specs.Arrays.{cut, Arrays}
 use Rattle.record.specs.Laws.First.{neither}
 use Rattle.forest.specs.Laws.Starts.{places-cut}
-use Rattle.forest.specs.Steps.{Room, downBit, cellsOf, Searching, Underway, Begun, Searched}
+use Rattle.forest.specs.Steps.{downBit, cellsOf, Searching, Underway, Begun, Searched}
 use Rattle.forest.proofs.Laws.Graphs.{as-many, in-range}
-use Rattle.forest.proofs.Laws.Stores.{Put, put-length, put-other, put-here}
-use Rattle.forest.proofs.Laws.Tied.{room-after}
-
--- ---- no vertex is visited
-
--- the first v vertices are unvisited, and the place that comes next for each is its start
-pub record Starting (starts : List ℕ) (n s : ℕ) (work : List ℕ) (v : ℕ) : Type 0 where
-  pub room : Room n s work
-  pub unvisited : (x : ℕ) → x < v → getD work (2 * s + x) 0 ≡ 0
-  pub at-start : (x : ℕ) → x < v → getD work x 0 ≡ getD starts x 0
-
-pub starting-none : (starts : List ℕ) {n s : ℕ} {work : List ℕ} → Room n s work → Starting starts n s work 0
-starting-none starts r = record {
-  room = r;
-  unvisited = λ x h. absurd (omega arith);
-  at-start = λ x h. absurd (omega arith);
-}
-
-module _ {starts : List ℕ} {n s : ℕ} {work : List ℕ} {v : ℕ} (t : Starting starts n s work v) where
-  pub starting-more : {mid next : List ℕ} {a : ℕ} → v < n → mid ≡ set work (2 * s + v) 0 → a ≡ getD starts v 0
-      → next ≡ set mid v a → Starting starts n s next (v + 1)
-  starting-more {mid} {next} h e i f =
-      let p : Put work mid (2 * s + v) 0 = record { is = e } in
-      let q : Put mid next v (getD starts v 0) = record { is = f ∙ ap (set mid v) i } in
-      record {
-        room = room-after (t .room) (put-length q ∙ put-length p);
-        unvisited = λ x l. visit p q x l (ℕ-discrete x v);
-        at-start = λ x l. place p q x l (ℕ-discrete x v);
-      }
-    where
-      visit : {mid next : List ℕ} → Put work mid (2 * s + v) 0 → Put mid next v (getD starts v 0)
-          → (x : ℕ) → x < v + 1 → Dec (x ≡ v) → getD next (2 * s + x) 0 ≡ 0
-      visit p q x l (yes e) =
-          let r = t .room in
-          rw e (put-other q (2 * s + v) (λ z. omega arith) ∙ put-here p (omega arith))
-      visit p q x l (no d) =
-          let r = t .room in
-          put-other q (2 * s + x) (λ z. omega arith) ∙ put-other p (2 * s + x) (λ z. d (omega arith))
-          ∙ t .unvisited x (omega arith)
-
-      place : {mid next : List ℕ} → Put work mid (2 * s + v) 0 → Put mid next v (getD starts v 0)
-          → (x : ℕ) → x < v + 1 → Dec (x ≡ v) → getD next x 0 ≡ getD starts x 0
-      place p q x l (yes e) =
-          let r = t .room in
-          let b = put-length p in
-          rw e (put-here q (omega arith))
-      place p q x l (no d) =
-          let r = t .room in
-          put-other q x d ∙ put-other p x (λ z. omega arith) ∙ t .at-start x (omega arith)
-
-  pub starting-all : n ≤ v → Begun starts n s work
-  starting-all h = record {
-    room = t .room;
-    unvisited = λ x l. t .unvisited x (omega arith);
-    at-start = λ x l. t .at-start x (omega arith);
-  }
 
 -- ---- something is left to do
 

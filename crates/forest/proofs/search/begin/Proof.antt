@@ -4,7 +4,7 @@ use mathlib.Core.Path.{_≡_, refl}
 use native.Mathlib.Omega.{arith}
 use borrow.Author.Needs.{needs}
 use lib.ListN.{length}
-use Rattle.forest.proofs.Laws.Begins.{Starting, starting-none, starting-more, starting-all}
+use Rattle.forest.proofs.Laws.Starting.{Starting, starting-none, starting-more, starting-all}
 use Rattle.forest.proofs.search.begin.Statement.{statement}
 use Rattle.forest.proofs.search.begin.Tie as tie
 
