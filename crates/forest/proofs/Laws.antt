@@ -1,14 +1,11 @@
--- Laws about what the code computes: sections, the search over the work slice, lowpoints.
+-- Laws that the answers of several functions share.
 pub mod Zeros
-pub mod Rows
-pub mod Entering
-pub mod Searched
-pub mod Bounds
-pub mod Lowest
-pub mod Lifted
-pub mod Numbers
 pub mod Marked
-pub mod TreeEdges
-pub mod Sectioned
-pub mod Fronts
-pub mod Building
+pub mod Graphs
+pub mod Stores
+pub mod Entering
+pub mod Tied
+pub mod Passing
+pub mod Stepping
+pub mod Starting
+pub mod Begins

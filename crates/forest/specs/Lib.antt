@@ -4,5 +4,6 @@ pub mod Operations
 pub mod Steps
 pub mod Lows
 pub mod Marks
+pub mod Numbered
 pub mod Fronts
 pub mod Laws

@@ -1,47 +1,62 @@
--- What contracts say of a loop over the places of one vertex that seeks the least visit number, and the way back on its way.
+-- What contracts say of the lowpoints, and of the ways back that are found beside them, for any forest of the graph.
+--   BackBit   the bit of the way back from c, at a position before j
+--   Passed    before position j: that bit, or 0 where no mention of the parent stands there
+--   LowStep   what one place does to the least number and to the way back
+--   LowAt     the places of c before position j are looked at
+--   Lifting   the lowpoints, in which the children of visit number k or more count
+--   Searches, Lifts   for some forest
 use mathlib.Core.Path.{_≡_}
 use mathlib.Core.List.{List}
-use Prim.Native.Nat.{ℕ, zero, suc, _+_, _-_, _*_, _≤_, _<_}
+use Prim.Native.Nat.{ℕ, zero, suc, _+_, _*_, _<_, min}
 use lib.ListN.{length, getD}
-use Rattle.graph.specs.Graph.{block, target}
-use Rattle.graph.specs.Search.{forest}
+use Rattle.graph.specs.Graph.{Blocks, block, target}
+use Rattle.graph.specs.Search.{Forest}
 use Rattle.graph.specs.Forest.{parent}
 use Rattle.graph.specs.Laws.Edges.Marks.{Back}
 use Rattle.graph.specs.Laws.Bridges.Lowpoints.{Lows}
 use Rattle.graph.specs.Laws.Bridges.Sweep.{Least}
-use Rattle.record.specs.Record.{blocks}
 use Rattle.forest.specs.Steps.{Searched}
+use Rattle.forest.specs.Laws.Sections.{placeBit}
 
--- place p of the record is the way back from c, at a position before j; the block of c starts at place a
-pub record BackAt (bytes : List ℕ) (a c j p : ℕ) : Type 0 where
-  pub from : a ≤ p
-  pub before : p - a < j
-  pub is-back : Back (blocks bytes) (blocks bytes) (forest (blocks bytes)) c (p - a)
+-- ---- one vertex
 
--- before position j: 1 + the place of the way back; or 0, and no mention of the parent stands there
-abbrev pub Passed : List ℕ → ℕ → ℕ → ℕ → ℕ → Type 0
-Passed bytes a c j zero = (i : ℕ) → i < j → parent (forest (blocks bytes)) c ≡ suc (target (blocks bytes) c i) → ⊥
-Passed bytes a c j (suc p) = BackAt bytes a c j p
+pub record BackBit (g : Blocks) (F : Forest) (c j bit : ℕ) : Type 0 where
+  pub slot : ℕ
+  pub before : slot < j
+  pub is-back : Back g g F c slot
+  pub is : bit ≡ placeBit g c slot
 
--- the places of c before place p of the record are looked at
-pub record LowAt (bytes work : List ℕ) (n m c p low back : ℕ) : Type 0 where
-  pub searched : Searched bytes work n m
-  pub inside : c < n
-  pub from : getD work c 0 ≤ p
-  pub upto : p ≤ getD work (c + 1) 0
-  pub least : Least (blocks bytes) (forest (blocks bytes)) c (p - getD work c 0) low
-  pub passed : Passed bytes (getD work c 0) c (p - getD work c 0) back
+abbrev pub Passed : Blocks → Forest → ℕ → ℕ → ℕ → Type 0
+Passed g F c j zero = (i : ℕ) → i < j → parent F c ≡ suc (target g c i) → ⊥
+Passed g F c j (suc b) = BackBit g F c j (suc b)
 
--- all places of c are looked at
-pub record OwnLow (bytes : List ℕ) (n a c low back : ℕ) : Type 0 where
-  pub least : Least (blocks bytes) (forest (blocks bytes)) c (length (block (blocks bytes) c)) low
-  pub low-fits : low < n
-  pub passed : Passed bytes a c (length (block (blocks bytes) c)) back
-  pub back-fits : back ≤ 32768
+-- v stands at place p, its visit cell is x, and the parent's cell of c is `up`: the first mention of the parent is the way back, and any other
+-- place counts
+pub data LowStep (c up p v x low back low′ back′ : ℕ) : Type 0 where
+  way-back : v + 1 ≡ up → back ≡ 0 → low′ ≡ low → back′ ≡ p + c + 1 → LowStep c up p v x low back low′ back′
+  counts : (v + 1 ≡ up → back ≡ 0 → ⊥) → low′ ≡ min low x → back′ ≡ back → LowStep c up p v x low back low′ back′
 
--- the last part of the work slice is the table of lowpoints in which the children of visit number k or more count, and the ways back have
--- taken the place of the next positions
-pub record Lifting (bytes work : List ℕ) (n m k : ℕ) : Type 0 where
-  pub searched : Searched bytes work n m
-  pub lows : Lows (blocks bytes) (forest (blocks bytes)) k (λ v. getD work (7 * n + v) 0)
-  pub backs : (c : ℕ) → c < n → Passed bytes (getD work c 0) c (length (block (blocks bytes) c)) (getD work (2 * n + c) 0)
+-- `low` is 1 + the least number so far
+pub record LowAt (g : Blocks) (F : Forest) (c j low back : ℕ) : Type 0 where
+  pub least-number : ℕ
+  pub is-low : low ≡ suc least-number
+  pub least : Least g F c j least-number
+  pub passed : Passed g F c j back
+
+-- ---- all vertices
+
+-- the last part of the work slice is 1 + the lowpoints, and the bits of the ways back have taken the place of the next places
+pub record Lifting (g : Blocks) (F : Forest) (n s : ℕ) (work : List ℕ) (k : ℕ) : Type 0 where
+  pub searched : Searched g F n s work
+  pub low-of : ℕ → ℕ
+  pub low-cells : (v : ℕ) → v < n → getD work (5 * s + v) 0 ≡ suc (low-of v)
+  pub lows : Lows g F k low-of
+  pub backs : (c : ℕ) → c < n → Passed g F c (length (block g c)) (getD work c 0)
+
+pub record Searches (g : Blocks) (n s : ℕ) (work : List ℕ) : Type 0 where
+  pub forest : Forest
+  pub searched : Searched g forest n s work
+
+pub record Lifts (g : Blocks) (n s : ℕ) (work : List ℕ) (k : ℕ) : Type 0 where
+  pub forest : Forest
+  pub lifting : Lifting g forest n s work k

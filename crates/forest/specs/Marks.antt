@@ -1,48 +1,41 @@
--- What contracts say of a section of marks while it is written, and of the bit that a tree edge has at either end.
+-- What contracts say of a section of marks while it is written.
+--   markAll              bits with a one at each place of a list
+--   upTo                 of the marks that have owners, those whose owner is below k
+--   childEnd             the owner of a mark of B: the child of the tree edge
+--   bridgeMarks, marked  B's marks of the vertices below k; the bytes of a section
+--   BridgeStep           what the vertex c does to the bits of B
 use mathlib.Core.Path.{_≡_}
-use mathlib.Core.Bool.{true, false, _&&_}
-use mathlib.Core.List.{List, List·Memᴰ}
-use Prim.Native.Nat.{ℕ}
+use mathlib.Core.Bool.{Bool, true, false, _&&_}
+use mathlib.Core.List.{List, [], _∷_}
+use Prim.Native.Nat.{ℕ, _<_}
 use lib.Dec.{ltb}
+use lib.ListN.{set}
 use Rattle.bits.specs.Bits.{pack}
 use Rattle.graph.specs.Graph.{Blocks, target}
-use Rattle.graph.specs.Search.{PlaceTest, via, forest}
+use Rattle.graph.specs.Search.{Forest, PlaceTest}
 use Rattle.graph.specs.Joined.{bridge}
-use Rattle.graph.specs.Forest.{childMark, parentMark}
-use Rattle.graph.specs.Laws.Edges.Marks.{Back}
+use Rattle.graph.specs.Forest.{childMark}
 use Rattle.forest.specs.Index.{section}
-use Rattle.forest.specs.Laws.Sections.{placeBit}
 
--- each mark has an owner: those whose owner is below k
+-- from the first to the last
+unfoldable pub markAll : List ℕ → List Bool → List Bool
+markAll [] s = s
+markAll (i ∷ l) s = markAll l (set s i true)
+
 unfoldable pub upTo : PlaceTest → (ℕ → ℕ → ℕ) → ℕ → PlaceTest
 upTo mark owner k u j = mark u j && ltb (owner u j) k
 
--- the owner is the child of the tree edge: for E the neighbour, for P the vertex, for B the one or the other
-unfoldable pub childEnd : Blocks → ℕ → ℕ → ℕ
-childEnd g u j = elim (childMark (forest g) u j) [ true ↦ target g u j | false ↦ u ]
+-- the neighbour, where the search went down by the place, and else the vertex
+unfoldable pub childEnd : Blocks → Forest → ℕ → ℕ → ℕ
+childEnd g F u j = elim (childMark F u j) [ true ↦ target g u j | false ↦ u ]
 
-abbrev pub childMarks : Blocks → ℕ → PlaceTest
-childMarks g k = upTo (childMark (forest g)) (target g) k
+abbrev pub bridgeMarks : Blocks → Forest → ℕ → PlaceTest
+bridgeMarks g F k = upTo (bridge g) (childEnd g F) k
 
-abbrev pub parentMarks : Blocks → ℕ → PlaceTest
-parentMarks g k = upTo (parentMark g g (forest g)) (λ u j. u) k
-
-abbrev pub bridgeMarks : Blocks → ℕ → PlaceTest
-bridgeMarks g k = upTo (bridge g) (childEnd g) k
-
--- the bytes of a section of marks
 abbrev pub marked : Blocks → PlaceTest → List ℕ
 marked g test = pack (section test g)
 
--- the bit of the place by which c was entered
-pub record DownBit (g : Blocks) (c bit : ℕ) : Type 0 where
-  pub from : ℕ
-  pub slot : ℕ
-  pub entry : List·Memᴰ (via from slot c) (forest g)
-  pub is : bit ≡ placeBit g from slot
-
--- the bit of the way back from c
-pub record UpBit (g : Blocks) (c bit : ℕ) : Type 0 where
-  pub slot : ℕ
-  pub is-back : Back g g (forest g) c slot
-  pub is : bit ≡ placeBit g c slot
+-- d and b are the bits of the tree edge that leads to c, 0 for a root: both are set where the lowpoint is c's own visit number
+pub data BridgeStep (d b low visit : ℕ) (s s′ : List Bool) : Type 0 where
+  parts : 0 < d → low ≡ visit → s′ ≡ set (set s d true) b true → BridgeStep d b low visit s s′
+  stays : (0 < d → low ≡ visit → ⊥) → s′ ≡ s → BridgeStep d b low visit s s′

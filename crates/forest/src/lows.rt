@@ -1,16 +1,17 @@
 // Lowpoints: for each vertex the least visit number that it and the vertices below it reach by a wire other than the way back to the parent.
-// On the way the way back itself is found: the first mention of the parent.
+// On the way the way back itself is found: the first mention of the parent. All of it holds for any forest that the work slice shows.
 ghost use mathlib.Core.Path.{_≡_};
-ghost use Prim.Native.Nat.{_+_, _*_, _-_, _<_, min};
+ghost use Prim.Native.Nat.{_+_, _*_, _<_, _≤_, min};
 ghost use lib.ListN.{length, getD};
-ghost use Rattle.forest.specs.Steps.{Searched};
-ghost use Rattle.record.specs.Record.{fields};
-ghost use Rattle.forest.specs.Lows.{LowAt, OwnLow, Lifting};
-use super::fields::field;
+ghost use Rattle.graph.specs.Graph.{Blocks, block, WellFormed};
+ghost use Rattle.graph.specs.Search.{Forest};
+ghost use Rattle.record.specs.Arrays.{cut, Arrays};
+ghost use Rattle.forest.specs.Steps.{Room, Known, Searched};
+ghost use Rattle.forest.specs.Lows.{LowStep, LowAt, Lifting, Searches, Lifts};
 use record::cells::get;
 use record::cells::put;
 
-// The least number so far, and 1 + the place of the way back, or 0 where it is not passed yet.
+// 1 + the least number so far, and the bit of the way back, or 0 where it is not passed yet.
 pub struct Low {
     pub low: usize,
     pub back: usize,
@@ -22,51 +23,58 @@ fn lesser(a: usize, b: usize) -> usize
     if a < b { a } else { b }
 }
 
-// The lesser of `low` and the number in cell i less 1.
-fn lower(work: &[u16], i: usize, low: usize) -> usize
-    requires { ⌜ (i < length (now work)) × (0 < getD (now work) i 0) ⌝ }
-    ensures { λ r. ⌜ r ≡ min low (getD (now (work .entry)) i 0 - 1) ⌝ }
-{
-    lesser(low, get(work, i) - 1)
-}
-
 // The place p of vertex c is looked at.
 fn next_low(
-    bytes: &[u8],
     nbrs: &[u16],
     n: usize,
-    m: usize,
+    s: usize,
     work: &[u16],
     c: usize,
+    up: usize,
     p: usize,
     low: usize,
     back: usize,
 ) -> Low
-    requires { ⌜ (LowAt (now bytes) (now work) n m c p low back) × (p < getD (now work) (c + 1) 0) × (now nbrs ≡ fields (now bytes)) ⌝ }
-    ensures { λ r. ⌜ LowAt (now (bytes .entry)) (now (work .entry)) n m c (p + 1) (r .low) (r .back) ⌝ }
+    requires { ⌜ (Room n s (now work)) × (Known n (now nbrs)) × (p < length (now nbrs)) × (length (now nbrs) ≤ 32768) ⌝ }
+    requires { ⌜ (c < n) × (low < 65536) × (back < 65536) ⌝ }
+    ensures { λ r. ⌜
+        LowStep c up p (getD (now (nbrs .entry)) p 0) (getD (now (work .entry)) (2 * s + getD (now (nbrs .entry)) p 0) 0)
+        low back (r .low) (r .back)
+        ⌝ }
+    ensures { λ r. ⌜ (r .low < 65536) × (r .back < 65536) ⌝ }
 {
-    let v = field(bytes, nbrs, n, m, p);
-    let x = lower(work, 4 * n + v, low);
-    if v + 1 == get(work, 3 * n + c) {
+    let v = get(nbrs, p);
+    let x = lesser(low, get(work, 2 * s + v));
+    if v + 1 == up {
         if back == 0 {
-            return Low { low, back: p + 1 };
+            return Low {
+                low,
+                back: p + c + 1,
+            };
         }
         return Low { low: x, back };
     }
     Low { low: x, back }
 }
 
-// The least number over all places of vertex c, and its way back.
-fn own_low(bytes: &[u8], nbrs: &[u16], n: usize, m: usize, work: &[u16], c: usize) -> Low
-    requires { ⌜ (Searched (now bytes) (now work) n m) × (c < n) × (now nbrs ≡ fields (now bytes)) ⌝ }
-    ensures { λ r. ⌜ OwnLow (now (bytes .entry)) n (getD (now (work .entry)) c 0) c (r .low) (r .back) ⌝ }
+// 1 + the least number over all places of vertex c, and its way back.
+fn own_low(starts: &[u16], nbrs: &[u16], n: usize, s: usize, work: &[u16], c: usize) -> Low
+    ghost { Blocks }
+    requires { λ g. ⌜ cut (now starts) (now nbrs) ≡ g ⌝ }
+    requires { λ g. ⌜ (Arrays (now starts) (now nbrs)) × (WellFormed g) × (n + 1 ≡ length (now starts)) × (c < n) ⌝ }
+    requires { λ g. ⌜ Room n s (now work) ⌝ }
+    ensures { λ g r. ⌜
+        (F : Forest) → Searched g F n s (now (work .entry)) → LowAt g F c (length (block g c)) (r .low) (r .back)
+        ⌝ }
+    ensures { λ g r. ⌜ (r .low < 65536) × (r .back < 65536) ⌝ }
 {
-    let end = get(work, c + 1);
-    let mut p = get(work, c);
-    let mut low = get(work, 4 * n + c) - 1;
+    let end = get(starts, c + 1);
+    let up = get(work, s + c);
+    let mut p = get(starts, c);
+    let mut low = get(work, 2 * s + c);
     let mut back: usize = 0;
     while p < end {
-        let l = next_low(bytes, nbrs, n, m, work, c, p, low, back);
+        let l = next_low(nbrs, n, s, work, c, up, p, low, back);
         low = l.low;
         back = l.back;
         p += 1;
@@ -75,42 +83,58 @@ fn own_low(bytes: &[u8], nbrs: &[u16], n: usize, m: usize, work: &[u16], c: usiz
 }
 
 // The least number over its own places, and the way back, for every vertex.
-fn own_lows(bytes: &[u8], nbrs: &[u16], n: usize, m: usize, work: &mut [u16])
-    requires { ⌜ (Searched (now bytes) (now work) n m) × (now nbrs ≡ fields (now bytes)) ⌝ }
-    ensures { λ _. ⌜ Lifting (now (bytes .entry)) (now (work .exit)) n m n ⌝ }
+fn own_lows(starts: &[u16], nbrs: &[u16], n: usize, s: usize, work: &mut [u16])
+    ghost { Blocks }
+    requires { λ g. ⌜ cut (now starts) (now nbrs) ≡ g ⌝ }
+    requires { λ g. ⌜ (Arrays (now starts) (now nbrs)) × (WellFormed g) × (n + 1 ≡ length (now starts)) ⌝ }
+    requires { λ g. ⌜ Room n s (now work) ⌝ }
+    ensures { λ g _. ⌜
+        (F : Forest) → Searched g F n s (now (work .entry)) → Lifting g F n s (now (work .exit)) n
+        ⌝ }
+    ensures { λ g _. ⌜ length (now (work .exit)) ≡ length (now (work .entry)) ⌝ }
 {
     let mut c = 0;
     while c < n {
-        let l = own_low(bytes, nbrs, n, m, work, c);
-        put(work, 7 * n + c, l.low);
-        put(work, 2 * n + c, l.back);
+        let l = own_low(starts, nbrs, n, s, work, c);
+        put(work, 5 * s + c, l.low);
+        put(work, c, l.back);
         c += 1;
     }
 }
 
-// The number of the vertex of visit number k goes into its parent's. The record stands here for the contract only.
-fn lift(bytes: &[u8], n: usize, m: usize, work: &mut [u16], k: usize)
-    requires { ⌜ (Lifting (now bytes) (now work) n m (k + 1)) × (k < n) ⌝ }
-    ensures { λ _. ⌜ Lifting (now (bytes .entry)) (now (work .exit)) n m k ⌝ }
+// The number of the vertex of visit number k goes into its parent's. The arrays stand here for the contract only.
+fn lift(starts: &[u16], nbrs: &[u16], n: usize, s: usize, work: &mut [u16], k: usize)
+    ghost { Blocks }
+    requires { λ g. ⌜ cut (now starts) (now nbrs) ≡ g ⌝ }
+    requires { λ g. ⌜ (length g ≡ n) × (k < n) × (Lifts g n s (now work) (k + 1)) ⌝ }
+    ensures { λ g _. ⌜
+        (F : Forest) → Lifting g F n s (now (work .entry)) (k + 1) → Lifting g F n s (now (work .exit)) k
+        ⌝ }
+    ensures { λ g _. ⌜ length (now (work .exit)) ≡ length (now (work .entry)) ⌝ }
 {
-    let v = get(work, 5 * n + k);
-    let up = get(work, 3 * n + v);
+    let v = get(work, 3 * s + k);
+    let up = get(work, s + v);
     if 0 < up {
-        let a = get(work, 7 * n + v);
-        let b = get(work, 7 * n + (up - 1));
-        put(work, 7 * n + (up - 1), lesser(b, a));
+        let a = get(work, 5 * s + v);
+        let b = get(work, 5 * s + (up - 1));
+        put(work, 5 * s + (up - 1), lesser(b, a));
     }
 }
 
 // The lowpoints, from the last visited vertex back.
-pub fn lowpoints(bytes: &[u8], nbrs: &[u16], n: usize, m: usize, work: &mut [u16])
-    requires { ⌜ (Searched (now bytes) (now work) n m) × (now nbrs ≡ fields (now bytes)) ⌝ }
-    ensures { λ _. ⌜ Lifting (now (bytes .entry)) (now (work .exit)) n m 0 ⌝ }
+pub fn lowpoints(starts: &[u16], nbrs: &[u16], n: usize, s: usize, work: &mut [u16])
+    ghost { Blocks }
+    requires { λ g. ⌜ cut (now starts) (now nbrs) ≡ g ⌝ }
+    requires { λ g. ⌜ (Arrays (now starts) (now nbrs)) × (WellFormed g) × (n + 1 ≡ length (now starts)) ⌝ }
+    requires { λ g. ⌜ Searches g n s (now work) ⌝ }
+    ensures { λ g _. ⌜
+        (F : Forest) → Searched g F n s (now (work .entry)) → Lifting g F n s (now (work .exit)) 0
+        ⌝ }
 {
-    own_lows(bytes, nbrs, n, m, work);
+    own_lows(starts, nbrs, n, s, work);
     let mut k = n;
     while 0 < k {
         k -= 1;
-        lift(bytes, n, m, work, k);
+        lift(starts, nbrs, n, s, work, k);
     }
 }

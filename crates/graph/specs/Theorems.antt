@@ -6,7 +6,7 @@ use mathlib.Core.Bool.{Bool, true, false}
 use mathlib.Core.List.{List, [], _∷_, List·Memᴰ, flatten}
 use lib.Dec.{eqb}
 use lib.ListN.{length}
-use Rattle.graph.specs.Graph.{Blocks, block, target, Place, position, pair, twin, WellFormed}
+use Rattle.graph.specs.Graph.{Blocks, block, Place, position, pair, twin, WellFormed}
 use Rattle.graph.specs.Search.{Forest, PlaceTest, all, entered, search, countUp}
 use Rattle.graph.specs.Joined.{Chain, without, joined, bridge, DoublyJoined}
 use Rattle.graph.specs.Forest.{number, vertexAt, parent, rootOf, head, Ancestor, children, childMark, parentMark}
@@ -27,8 +27,9 @@ use Rattle.graph.specs.Laws.Bridges.Stores.{Stored}
 use Rattle.graph.specs.Laws.Bridges.Lowpoints.{Lows, Lowpoints, bridge-lowpoint, bridge-at-child, bridge-at-parent}
 use Rattle.graph.specs.Laws.Bridges.Sweep.{Least, sweep-begin, sweep-root, sweep-child}
 use Rattle.graph.specs.Laws.Heads.Sections.{same-head}
-use Rattle.graph.specs.Laws.Loop.Arrays.{Cells, Kept, Same, Enters}
-use Rattle.graph.specs.Laws.Loop.Invariant.{Loop, loop-begin, loop-pass-start, loop-enter-start, loop-pass, loop-enter, loop-return, loop-end}
+use Rattle.graph.specs.Laws.Loop.Arrays.{Cells, Kept, Enters}
+use Rattle.graph.specs.Laws.Loop.Invariant.{Loop, loop-begin, loop-pass-start, loop-enter-start, Visited}
+use Rattle.graph.specs.Laws.Loop.Invariant.{loop-enter-at, loop-leave, loop-end}
 use Rattle.graph.specs.Laws.Heads.Walks.{HeadSteps, walk-head, rise-head, AncestorSteps, walk-ancestor}
 
 -- `forest g` takes the vertices in order: they cover
@@ -202,34 +203,33 @@ bridge-told = bridge-joined
 pub bridge-both : {g : Blocks} → WellFormed g → {u j v : ℕ} → Place g u j v → bridge g v (twin g u j) ≡ bridge g u j
 bridge-both = bridge-twin
 
--- ---- 7. The invariant of a loop: from the state that the arrays hold, the search ends in H. It begins, passes over, enters, returns and ends
+-- ---- 7. The invariant of a loop: from the state that the arrays hold, the search ends in H. It begins, tries a start,
+-- enters a neighbour, leaves a block and ends
 
-pub search-begins : {g : Blocks} {starts : List ℕ} → InRange g → ((v : ℕ) → List·Memᴰ v starts → v < length g) → {c : Cells}
-    → ((v : ℕ) → v < length g → c .visits v ≡ 0) → {left : ℕ} → 2 * length starts + 2 * length (flatten g) ≤ left
-    → Loop g (search g all starts) left starts 0 0 c
+pub search-begins : {g : Blocks} {starts : List ℕ} → InRange g → ((v : ℕ) → List·Memᴰ v starts → v < length g)
+    → {c : Cells} → ((v : ℕ) → v < length g → c .visits v ≡ 0)
+    → {left : ℕ} → 2 * length starts + 2 * length (flatten g) ≤ left → Loop g (search g all starts) left starts 0 0 c
 search-begins = loop-begin
 
 module _ {g : Blocks} {H : Forest} {left : ℕ} {todo : List ℕ} {k : ℕ} {c : Cells} where
-  pub start-passed : {v : ℕ} → Loop g H left (v ∷ todo) 0 k c → v < length g → (c .visits v ≡ 0 → ⊥) → Loop g H (left - 1) todo 0 k c
+  pub start-passed : {v : ℕ} → Loop g H left (v ∷ todo) 0 k c → v < length g → (c .visits v ≡ 0 → ⊥)
+      → Loop g H (left - 1) todo 0 k c
   start-passed = loop-pass-start
 
   pub start-entered : {v : ℕ} {c′ : Cells} → Loop g H left (v ∷ todo) 0 k c → v < length g → c .visits v ≡ 0
       → Enters (length g) c c′ (c .nexts) v k 0 0 → Loop g H (left - 1) todo (suc v) (suc k) c′
   start-entered i h z s = loop-enter-start i h z s
 
-  pub neighbour-passed : {u : ℕ} {c′ : Cells} → Loop g H left todo (suc u) k c → c .nexts u < length (block g u) → target g u (c .nexts u) < length g
-      → (c .visits (target g u (c .nexts u)) ≡ 0 → ⊥) → Same (length g) c c′ → Stored (length g) (c .nexts) (c′ .nexts) u (suc (c .nexts u))
-      → Loop g H (left - 1) todo (suc u) k c′
-  neighbour-passed i h l n s t = loop-pass i h l n s t
+  -- the visited neighbours are passed over at once: behind them one is entered, or the parent comes to hand
+  pub neighbour-entered : {u j v : ℕ} {c′ : Cells} {at : ℕ → ℕ} → Loop g H left todo (suc u) k c → InRange g
+      → c .nexts u ≤ j → Visited g c u (c .nexts u) j → Place g u j v → c .visits v ≡ 0
+      → Stored (length g) (c .nexts) at u (suc j) → Enters (length g) c c′ at v k (suc u) j
+      → Loop g H (left - 1) todo (suc v) (suc k) c′
+  neighbour-entered i r f m p z s t = loop-enter-at i r f m p z s t
 
-  pub neighbour-entered : {u : ℕ} {c′ : Cells} {at : ℕ → ℕ} → Loop g H left todo (suc u) k c → c .nexts u < length (block g u)
-      → target g u (c .nexts u) < length g → c .visits (target g u (c .nexts u)) ≡ 0 → Stored (length g) (c .nexts) at u (suc (c .nexts u))
-      → Enters (length g) c c′ at (target g u (c .nexts u)) k (suc u) (c .nexts u)
-      → Loop g H (left - 1) todo (suc (target g u (c .nexts u))) (suc k) c′
-  neighbour-entered i h l z s t = loop-enter i h l z s t
-
-  pub block-done : {u : ℕ} → Loop g H left todo (suc u) k c → length (block g u) ≤ c .nexts u → Loop g H (left - 1) todo (c .parents u) k c
-  block-done = loop-return
+  pub block-done : {u : ℕ} → Loop g H left todo (suc u) k c → InRange g
+      → Visited g c u (c .nexts u) (length (block g u)) → Loop g H (left - 1) todo (c .parents u) k c
+  block-done = loop-leave
 
 pub search-ends : {g : Blocks} {H : Forest} {left k : ℕ} {c : Cells} → Loop g H left [] 0 k c → Kept g H c
 search-ends = loop-end

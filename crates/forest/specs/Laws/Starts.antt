@@ -1,10 +1,15 @@
--- The starts of the blocks, as the code finds them in D, and as they follow from the blocks.
-use mathlib.Core.Path.{_≡_, ap}
+-- The starts of the blocks, as they stand in an array or are found in D, and as they follow from the blocks.
+use mathlib.Core.Path.{_≡_, sym, ap, _∙_}
 use mathlib.Core.List.{List, flatten}
-use Prim.Native.Nat.{ℕ, zero, suc, _+_, _≤_}
+use Prim.Native.Nat.{ℕ, zero, suc, _+_, _-_, _≤_, _<_}
 use native.Mathlib.Numerals.{add-one}
 use native.Mathlib.Omega.{arith}
-use lib.ListN.{getD}
+use lib.ListN.{length, getD, take}
+use lib.Seq.{take-all}
+use Rattle.graph.specs.Graph.{Blocks}
+use Rattle.record.specs.Arrays.{cut, Divided}
+use Rattle.record.specs.Laws.Parts.{length-cut}
+use Rattle.record.specs.Laws.Rows.{row-size}
 use Rattle.record.specs.Record.{unary, blocks}
 use Rattle.record.specs.Starts.{startsOf}
 use Rattle.record.specs.Steps.{Sound}
@@ -14,6 +19,29 @@ use Rattle.record.specs.Laws.Spans.{span-rises, span-size}
 use Rattle.forest.specs.Laws.Sections.{blockStart, start-more}
 
 -- a block starts after the places of those before it
+pub start-cut : {starts nbrs : List ℕ} → Divided starts nbrs → (u : ℕ) → u < length starts
+    → getD starts u 0 ≡ blockStart (cut starts nbrs) u
+unfolding flatten
+start-cut i zero h = i .first
+start-cut {starts} {nbrs} i (suc u) h =
+    let l = length-cut starts nbrs in
+    let r = start-cut i u (omega arith) in
+    let e : getD starts (u + 1) 0 ≡ getD starts (suc u) 0 = ap (λ (x : ℕ). getD starts x 0) (add-one u) in
+    let s = start-more (cut starts nbrs) u (omega arith) in
+    let q = row-size i u (omega arith) in
+    let d = i .rising u (omega arith) in
+    omega arith
+
+-- there are as many places as neighbours
+pub places-cut : {starts nbrs : List ℕ} → Divided starts nbrs → length (flatten (cut starts nbrs)) ≡ length nbrs
+places-cut {starts} {nbrs} i =
+    let l = length-cut starts nbrs in
+    let s = i .some in
+    let e = start-cut i (length starts - 1) (omega arith) in
+    let a : take (length starts - 1) (cut starts nbrs) ≡ cut starts nbrs = take-all (length starts - 1) (cut starts nbrs) (omega arith) in
+    sym (ap (λ (g : Blocks). length (flatten g)) a) ∙ sym e ∙ i .last
+
+-- the same for the starts that are found in D
 pub start-block : {bytes : List ℕ} {n m : ℕ} → Sound bytes n m → (u : ℕ) → u ≤ n
     → getD (startsOf (unary bytes)) u 0 ≡ blockStart (blocks bytes) u
 unfolding flatten

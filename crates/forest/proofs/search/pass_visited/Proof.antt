@@ -1,85 +1,70 @@
--- `search::pass_visited` meets its contract.
-use Rattle.forest.proofs.Laws.Rows.{row-ends}
-use Rattle.forest.proofs.Laws.Searched.{hand-vertex, Passing, passing-begin, passing-more, passing-state}
-use Prim.Native.Nat.{_-_}
+-- `search::pass_visited` meets its contract: up to p all places lead to visited vertices.
+use Prim.Native.Nat.{ℕ, _+_, _-_, _*_}
+use mathlib.Core.Path.{_≡_, sym, ap, _∙_}
 use native.Mathlib.Omega.{arith}
-use mathlib.Core.Path.{refl}
+use borrow.Author.Needs.{needs}
+use lib.ListN.{getD}
+use Rattle.forest.specs.Steps.{PassedTo}
+use Rattle.forest.proofs.Laws.Passing.{passed-none, passed-more, passed-stop, passed-end}
 use Rattle.forest.proofs.search.pass_visited.Statement.{statement}
 use Rattle.forest.proofs.search.pass_visited.Tie as tie
 
 abbrev Inv-loop : tie.InvT-loop
-Inv-loop bytes nbrs n m work left i cur k u a p₀ p = Passing bytes work n m left i cur k p
+Inv-loop nbrs n s work from end p₀ p = PassedTo nbrs s work from p p
 
 abbrev μ-loop : tie.MeasureT-loop
-μ-loop bytes nbrs n m work left i cur k u a p₀ p = 32768 - p
+μ-loop nbrs n s work from end p₀ p = end - p
 
-sub-u : tie.Need-sub-u Inv-loop μ-loop
-sub-u c = let h = c .before .before .before .pre .1 in omega arith
+-- the begin of a pass of the loop, and of the function
+abbrev passing : tie.After-get2 Inv-loop μ-loop → tie.At-loop Inv-loop μ-loop
+passing c = c .before .before .before
 
-get-requires : tie.Need-get-requires Inv-loop μ-loop
-get-requires c κs = let o = c .before .before .before .before .pre .0 .holds in let z = o .size in let u = hand-vertex (c .before .before .before .before .pre .0) (c .before .before .before .before .pre .1) in omega arith
+abbrev begin : tie.At-loop Inv-loop μ-loop → tie.Start Inv-loop μ-loop
+begin c = c .before .before .before
 
-mul-get : tie.Need-mul-get Inv-loop μ-loop
-mul-get c = let f = c .before .before .before .before .before .before .pre .0 .holds .sound .n-fits in omega arith
+-- the visit cell that is tested
+abbrev visit : tie.At-loop Inv-loop μ-loop → ℕ → ℕ
+visit c x = getD (begin c .args .work .now) (2 * begin c .args .s + x) 0
 
-add-get : tie.Need-add-get Inv-loop μ-loop
-add-get c = let f = c .before .before .before .before .before .before .pre .0 .holds .sound .n-fits in let u = hand-vertex (c .before .before .before .before .before .before .pre .0) (c .before .before .before .before .before .before .pre .1) in omega arith
-
-get-requires-2 : tie.Need-get-requires-2 Inv-loop μ-loop
-get-requires-2 c κs = let o = c .before .before .before .before .before .before .pre .0 .holds in let z = o .size in let s = o .some in let u = hand-vertex (c .before .before .before .before .before .before .pre .0) (c .before .before .before .before .before .before .pre .1) in omega arith
-
-add-p : tie.Need-add-p Inv-loop μ-loop
-add-p c = let x = c .before .before .get .ensures .1 in let y = c .get2 .ensures .1 in omega arith
+tested : (c : tie.After-get2 Inv-loop μ-loop)
+    → c .get2 .result ≡ visit (passing c) (getD (begin (passing c) .args .nbrs .now) (passing c .loop .p) 0)
+tested c = c .get2 .ensures .0 ∙ ap (visit (passing c)) (c .before .get .ensures .0)
 
 loop-holds : tie.Need-loop-holds Inv-loop μ-loop
-loop-holds c = passing-begin (c .before .before .before .before .before .before .before .pre .0) (c .before .before .before .before .before .before .before .pre .1) (c .before .before .get .ensures .0) (c .get2 .ensures .0) (c .get2 .ensures .1) refl
+loop-holds c = let a = c .before .before .args in passed-none (a .nbrs .now) (a .s) (a .work .now) (a .from)
 
-visited-at-requires : tie.Need-visited-at-requires Inv-loop μ-loop
-visited-at-requires c κs = (c .before .before .before .before .before .before .before .before .before .pre .0 .holds, hand-vertex (c .before .before .before .before .before .before .before .before .before .pre .0) (c .before .before .before .before .before .before .before .before .before .pre .1), c .before .loop .inv .from, c .before .before .before .before .before .before .before .before .before .pre .2)
+mul-get : tie.Need-mul-get Inv-loop μ-loop
+mul-get c = search needs
 
-add-p-2 : tie.Need-add-p-2 Inv-loop μ-loop
-add-p-2 c =
-    let v = c .before .visited-at .ensures (c .if1 .taken) in
-    let l = v .inside in
-    let r = row-ends (c .before .before .before .before .before .before .before .before .before .before .before .pre .0 .holds) (hand-vertex (c .before .before .before .before .before .before .before .before .before .before .before .pre .0) (c .before .before .before .before .before .before .before .before .before .before .before .pre .1)) in
-    let f = c .before .before .before .before .before .before .before .before .before .before .before .pre .0 .holds .sound .m-fits in
+get-requires : tie.Need-get-requires Inv-loop μ-loop
+get-requires c κs = search needs
+
+add-get : tie.Need-add-get Inv-loop μ-loop
+add-get c = search needs
+
+get-requires-2 : tie.Need-get-requires-2 Inv-loop μ-loop
+get-requires-2 c κs =
+    let l = c .before .before in
+    let k = begin l .pre .1 (l .loop .p) (omega arith) in
+    let e = c .get .ensures .0 in
     omega arith
-
-loop-less : tie.Need-loop-less Inv-loop μ-loop
-loop-less c =
-    let v = c .before .visited-at .ensures (c .if1 .taken) in
-    let l = v .inside in
-    let r = row-ends (c .before .before .before .before .before .before .before .before .before .before .before .pre .0 .holds) (hand-vertex (c .before .before .before .before .before .before .before .before .before .before .before .pre .0) (c .before .before .before .before .before .before .before .before .before .before .before .pre .1)) in
-    let f = c .before .before .before .before .before .before .before .before .before .before .before .pre .0 .holds .sound .m-fits in
-    omega arith
-
-loop-again : tie.Need-loop-again Inv-loop μ-loop
-loop-again c = passing-more (c .before .before .before .before .before .before .before .before .before .before .before .pre .0) (c .before .before .before .before .before .before .before .before .before .before .before .pre .1) (c .before .before .before .loop .inv) (c .before .visited-at .ensures (c .if1 .taken))
-
-mul-put : tie.Need-mul-put Inv-loop μ-loop
-mul-put c = let f = c .before .before .before .before .before .before .before .before .before .before .before .before .pre .0 .holds .sound .n-fits in omega arith
-
-add-put : tie.Need-add-put Inv-loop μ-loop
-add-put c = let f = c .before .before .before .before .before .before .before .before .before .before .before .before .pre .0 .holds .sound .n-fits in let u = hand-vertex (c .before .before .before .before .before .before .before .before .before .before .before .before .pre .0) (c .before .before .before .before .before .before .before .before .before .before .before .before .pre .1) in omega arith
-
-sub-put : tie.Need-sub-put Inv-loop μ-loop
-sub-put c = let e = c .before .before .before .before .before .before .before .get .ensures .0 in let f = c .before .before .before .before .loop .inv .from in omega arith
-
-put-requires : tie.Need-put-requires Inv-loop μ-loop
-put-requires c κs =
-    let o = c .before .before .before .before .before .before .before .before .before .before .before .before .pre .0 .holds in
-    let z = o .size in
-    let s = o .some in
-    let u = hand-vertex (c .before .before .before .before .before .before .before .before .before .before .before .before .pre .0) (c .before .before .before .before .before .before .before .before .before .before .before .before .pre .1) in
-    let e = c .before .before .before .before .before .before .before .get .ensures .0 in
-    let q = c .before .before .before .before .loop .inv .short in
-    (omega arith, omega arith)
-
-same-length : tie.Need-same-length Inv-loop μ-loop
-same-length c = c .before .work .given
 
 returns : tie.Need-returns Inv-loop μ-loop
-returns c = passing-state (c .before .before .before .before .before .before .before .loop .inv) (c .before .before .before .before .before .before .before .before .before .before .get .ensures .0) (c .before .before .put .ensures)
+returns c =
+    let l = passing (c .before) in
+    passed-stop (l .loop .inv) (begin l .args .end) (sym (tested (c .before)) ∙ c .if1 .taken)
+
+add-p : tie.Need-add-p Inv-loop μ-loop
+add-p c = search needs
+
+loop-less : tie.Need-loop-less Inv-loop μ-loop
+loop-less c = search needs
+
+loop-again : tie.Need-loop-again Inv-loop μ-loop
+loop-again c = passed-more (passing (c .before) .loop .inv) (λ z. c .if1 .left (tested (c .before) ∙ z))
+
+returns-2 : tie.Need-returns-2 Inv-loop μ-loop
+returns-2 c = passed-end (c .before .loop .inv) (begin (c .before) .args .end) (omega arith)
 
 pub pass-visited-spec : {M : Type 1} → statement M
 pass-visited-spec =
@@ -87,20 +72,13 @@ pass-visited-spec =
     (tie.spec
     Inv-loop
     μ-loop
-    sub-u
-    get-requires
+    loop-holds
     mul-get
+    get-requires
     add-get
     get-requires-2
+    returns
     add-p
-    loop-holds
-    visited-at-requires
-    add-p-2
     loop-less
     loop-again
-    mul-put
-    add-put
-    sub-put
-    put-requires
-    same-length
-    returns)
+    returns-2)

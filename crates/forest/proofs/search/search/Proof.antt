@@ -1,62 +1,77 @@
--- `search::search` meets its contract: each step leads to the same forest.
+-- `search::search` meets its contract.
 use mathlib.Core.Path.{_≡_, refl, sym, _∙_}
+use Prim.Native.Nat.{_-_, _<_}
 use native.Mathlib.Omega.{arith}
 use borrow.Author.Needs.{needs}
 use lib.ListN.{length}
-use Rattle.forest.proofs.Laws.Bounds.{idle, searching-busy, search-begun, search-ended}
-use Rattle.forest.specs.Steps.{Searching}
+use Rattle.graph.specs.Search.{countUp}
+use Rattle.record.specs.Arrays.{cut}
+use Rattle.forest.proofs.Laws.Begins.{From, searching-busy, search-begun, search-ended}
 use Rattle.forest.proofs.search.search.Statement.{statement}
 use Rattle.forest.proofs.search.search.Tie as tie
 
 abbrev Inv-loop : tie.InvT-loop
-Inv-loop bytes nbrs n m work₀ left₀ i₀ cur₀ k₀ work left i cur k = (Searching bytes work n m left i cur k) × (length work ≡ length work₀)
+Inv-loop starts nbrs n s work₀ left₀ i₀ cur₀ k₀ work left i cur k =
+    (From (cut starts nbrs) starts n s work left i cur k) × (length work ≡ length work₀)
 
 abbrev μ-loop : tie.MeasureT-loop
-μ-loop bytes nbrs n m work₀ left₀ i₀ cur₀ k₀ work left i cur k = left
+μ-loop starts nbrs n s work₀ left₀ i₀ cur₀ k₀ work left i cur k = left
 
-unvisit-requires : tie.Need-unvisit-requires Inv-loop μ-loop
-unvisit-requires c κs =
-    let pre = c .before .before .before .before .pre .0 in
-    let o = pre .sound .n-fits in let p = pre .sound .m-fits in let q = pre .size in let s = pre .some in (omega arith, omega arith, omega arith)
+abbrev begin : tie.After-slice-known2 Inv-loop μ-loop → tie.Start Inv-loop μ-loop
+begin c = c .before .before .before .before .before .before .before
+
+-- a step is to be done, so `left` is not used up
+left-more : (c : tie.Then1 Inv-loop μ-loop) → 0 < c .before .before .loop .left
+left-more c =
+    let l = c .before .before .loop in
+    searching-busy (l .i) (l .cur) (l .inv .0) (sym (c .before .busy .ensures) ∙ c .if1 .taken)
+
+begin-requires : tie.Need-begin-requires Inv-loop μ-loop
+begin-requires c κs = search needs
 
 mul-left : tie.Need-mul-left Inv-loop μ-loop
-mul-left c =
-    let pre = c .before .before .before .before .before .before .before .pre .0 in
-    let o = pre .sound .n-fits in let p = pre .sound .m-fits in omega arith
+mul-left c = search needs
 
 mul-left-2 : tie.Need-mul-left-2 Inv-loop μ-loop
-mul-left-2 c =
-    let pre = c .before .before .before .before .before .before .before .pre .0 in
-    let o = pre .sound .n-fits in let p = pre .sound .m-fits in omega arith
+mul-left-2 c = search needs
 
 add-left : tie.Need-add-left Inv-loop μ-loop
-add-left c =
-    let pre = c .before .before .before .before .before .before .before .pre .0 in
-    let o = pre .sound .n-fits in let p = pre .sound .m-fits in omega arith
+add-left c = search needs
 
 loop-holds : tie.Need-loop-holds Inv-loop μ-loop
-loop-holds c = (search-begun (c .before .before .before .before .before .before .before .pre .0) (c .before .before .unvisit .ensures), refl)
+loop-holds c = (search-begun (begin c .pre .0) (begin c .pre .1) (c .before .before .begin .ensures), refl)
 
 busy-requires : tie.Need-busy-requires Inv-loop μ-loop
 busy-requires c κs = search needs
 
 step-requires : tie.Need-step-requires Inv-loop μ-loop
-step-requires c κs = (c .before .before .before .loop .inv .0, sym (c .before .before .busy .ensures) ∙ c .before .if1 .taken, c .before .before .before .before .before .before .before .before .before .before .before .pre .1)
+step-requires c κs =
+    let l = c .before .before .before in
+    let b = begin (l .before) in
+    let busy = sym (c .before .before .busy .ensures) ∙ c .before .if1 .taken in
+    let from = countUp (l .loop .i) (b .args .n - l .loop .i) in
+    ((b .pre .0, b .pre .1, busy), record { roots = countUp 0 (b .args .n); todo = from; searching = l .loop .inv .0 })
 
 sub-left : tie.Need-sub-left Inv-loop μ-loop
-sub-left c = searching-busy (c .before .before .before .before .before .before .loop .inv .0) (sym (c .before .before .before .before .before .busy .ensures) ∙ c .before .before .before .before .if1 .taken)
+sub-left c = left-more (c .before .before .before .before)
 
 loop-less : tie.Need-loop-less Inv-loop μ-loop
-loop-less c = let b = searching-busy (c .before .before .before .before .before .before .loop .inv .0) (sym (c .before .before .before .before .before .busy .ensures) ∙ c .before .before .before .before .if1 .taken) in omega arith
+loop-less c = let h = left-more (c .before .before .before .before) in omega arith
 
 loop-again : tie.Need-loop-again Inv-loop μ-loop
-loop-again c = (c .before .before .step .ensures, c .before .work2 .given ∙ c .before .before .before .before .before .before .loop .inv .1)
+loop-again c =
+    let l = c .before .before .before .before .before .before in
+    let b = begin (l .before) in
+    (c .before .before .step .ensures (countUp 0 (b .args .n)) (l .loop .inv .0), search needs)
 
 same-length : tie.Need-same-length Inv-loop μ-loop
-same-length c = c .before .before .loop .inv .1 ∙ c .before .before .before .before .before .unvisit .ensures .same-size
+same-length c = search needs
 
 returns : tie.Need-returns Inv-loop μ-loop
-returns c = search-ended (c .before .before .loop .inv .0) (idle (sym (c .before .busy .ensures) ∙ c .if1 .left))
+returns c =
+    let l = c .before .before in
+    let b = begin (l .before) .pre in
+    search-ended (b .0) (b .1) (l .loop .i) (l .loop .inv .0) (sym (c .before .busy .ensures) ∙ c .if1 .left)
 
 pub search-spec : {M : Type 1} → statement M
 search-spec =
@@ -64,7 +79,7 @@ search-spec =
     (tie.spec
     Inv-loop
     μ-loop
-    unvisit-requires
+    begin-requires
     mul-left
     mul-left-2
     add-left

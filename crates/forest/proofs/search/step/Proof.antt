@@ -1,15 +1,17 @@
 -- `search::step` meets its contract.
-use mathlib.Core.Path.{subst}
-use Prim.Native.Nat.{ℕ}
+use Prim.Native.Nat.{_<_}
 use native.Mathlib.Omega.{arith}
-use Rattle.forest.proofs.Laws.Bounds.{busy-start}
-use Rattle.forest.specs.Steps.{Searching}
 use borrow.Author.Needs.{needs}
+use Rattle.forest.proofs.Laws.Begins.{busy-start, underway-start, next-start}
 use Rattle.forest.proofs.search.step.Statement.{statement}
 use Rattle.forest.proofs.search.step.Tie as tie
 
-pass-visited-requires : tie.Need-pass-visited-requires
-pass-visited-requires c κs = search needs
+abbrev begin : tie.Else1 → tie.Start
+begin c = c .before .before .before .before
+
+-- no vertex is at hand, so a start is left
+start : (c : tie.Else1) → begin c .args .i < begin c .args .n
+start c = busy-start {cur = begin c .args .cur} (begin c .pre .0 .2) (c .if1 .left)
 
 try-next-requires : tie.Need-try-next-requires
 try-next-requires c κs = search needs
@@ -18,28 +20,32 @@ same-length : tie.Need-same-length
 same-length c = search needs
 
 returns : tie.Need-returns
-returns c = search needs
+returns c = λ roots t. c .before .before .try-next .ensures roots _ t
 
 try-start-requires : tie.Need-try-start-requires
 try-start-requires c κs =
-    let pre = c .before .before .before .before .before .pre in
-    let a = c .before .before .before .before .before .args in
-    (subst (λ (x : ℕ). Searching (a .bytes .now) (a .work .now) (a .n) (a .m) (a .left) (a .i) x (a .k)) (omega arith) (pre .0), busy-start (pre .1) (c .before .if1 .left))
+    let b = begin (c .before) .pre in
+    ((b .0 .0, b .0 .1, start (c .before)), underway-start (c .before .if1 .left) (b .1))
+
+add-t17 : tie.Need-add-t17
+add-t17 c = let h = start (c .before .before .before .before) in omega arith
 
 same-length-2 : tie.Need-same-length-2
 same-length-2 c = search needs
 
 returns-2 : tie.Need-returns-2
-returns-2 c = search needs
+returns-2 c = λ roots t.
+    let d = c .before .before .before .before in
+    c .before .before .try-start .ensures roots _ (next-start (d .if1 .left) (begin d .args .i) (start d) t)
 
 pub step-spec : {M : Type 1} → statement M
 step-spec =
     tie.close
     (tie.spec
-    pass-visited-requires
     try-next-requires
     same-length
     returns
     try-start-requires
+    add-t17
     same-length-2
     returns-2)

@@ -1,193 +1,165 @@
--- `search::try_next` meets its contract: a return, a neighbour passed over, or one entered.
-use mathlib.Core.Path.{sym, _∙_}
+-- `search::try_next` meets its contract.
+use Prim.Native.Nat.{_-_, _≤_, _<_}
+use mathlib.Core.Path.{ap, _∙_}
 use native.Mathlib.Omega.{arith}
 use borrow.Author.Needs.{needs}
-use Rattle.forest.proofs.Laws.Searched.{hand-vertex, next-rises, next-returned, next-inside, next-size, next-room, next-passed, next-entered}
+use lib.ListN.{length, length-set}
+use Rattle.record.specs.Laws.Rows.{starts-fit}
+use Rattle.forest.proofs.Laws.Graphs.{as-many, known}
+use Rattle.forest.proofs.Laws.Tied.{room-after}
+use Rattle.forest.proofs.Laws.Stepping.{new-room, hand-vertex, next-new, next-left, next-entered}
 use Rattle.forest.proofs.search.try_next.Statement.{statement}
 use Rattle.forest.proofs.search.try_next.Tie as tie
+
+-- the begin, where the end of the block is read, and where the passing has stopped
+abbrev begin : tie.After-slice-known → tie.Start
+begin c = c .before .before .before
+
+abbrev ended : tie.After-pass-visited → tie.After-get
+ended c = c .before .before .before
+
+abbrev stopped : tie.After-get3 → tie.After-pass-visited
+stopped c = c .before .before
+
+-- the vertex at hand
+vertex : (c : tie.After-slice-known) → begin c .args .cur - 1 < begin c .args .n
+vertex c =
+    let b = begin c .pre in
+    hand-vertex (b .0 .0) (b .0 .1) (begin c .args .cur - 1) (b .1 .searching) (omega arith)
+
+-- the end of its block
+end-fits : (c : tie.After-get) → c .get .result ≤ length (begin (c .before) .args .nbrs .now)
+end-fits c =
+    let b = begin (c .before) .pre .0 in
+    let v = vertex (c .before) in
+    let f = starts-fit (b .0 .divided) (begin (c .before) .args .cur) (omega arith) in
+    let e = c .get .ensures .0 in
+    omega arith
+
+-- a place before that end
+place-fits : (c : tie.After-get3) → stopped c .pass-visited .result < 32768
+place-fits c =
+    let f = end-fits (ended (stopped c)) in
+    let p = begin (ended (stopped c) .before) .pre .0 .0 .divided .few-places in
+    omega arith
+
+-- the neighbour there, which is to be entered
+inside : (c : tie.After-get3) → c .get3 .result < begin (ended (stopped c) .before) .args .n
+inside c =
+    let b = begin (ended (stopped c) .before) .pre .0 in
+    let f = end-fits (ended (stopped c)) in
+    let k = known (b .0) (b .1) (stopped c .pass-visited .result) (omega arith) in
+    let e = c .get3 .ensures .0 in
+    omega arith
+
+room-left : (c : tie.After-get3)
+    → begin (ended (stopped c) .before) .args .k < begin (ended (stopped c) .before) .args .n
+room-left c =
+    let d = stopped c in
+    let a = begin (ended d .before) .args in
+    let b = begin (ended d .before) .pre in
+    let z = next-new (b .0 .0) (b .0 .1) (a .cur - 1) (b .1 .searching) (omega arith) (d .before .get2 .ensures .0)
+    (ended d .get .ensures .0) (d .pass-visited .ensures) (c .before .if1 .taken) (c .get3 .ensures .0) in
+    new-room (b .1 .searching) (as-many (a .starts .now) (a .nbrs .now) (b .0 .1)) (inside c) z
 
 sub-u : tie.Need-sub-u
 sub-u c = search needs
 
-mul-get : tie.Need-mul-get
-mul-get c = search needs
-
-add-get : tie.Need-add-get
-add-get c =
-    let pre = c .before .before .before .before .pre in
-    let o = pre .0 .holds .sound .n-fits in let q = pre .0 .holds .size in let u = hand-vertex (pre .0) (pre .1) in omega arith
-
 get-requires : tie.Need-get-requires
-get-requires c κs =
-    let pre = c .before .before .before .before .pre in
-    let o = pre .0 .holds .sound .n-fits in let q = pre .0 .holds .size in let u = hand-vertex (pre .0) (pre .1) in omega arith
+get-requires c κs = let v = vertex c in omega arith
 
 get-requires-2 : tie.Need-get-requires-2
-get-requires-2 c κs =
-    let pre = c .before .before .before .before .before .before .pre in
-    let o = pre .0 .holds .sound .n-fits in let q = pre .0 .holds .size in let u = hand-vertex (pre .0) (pre .1) in omega arith
+get-requires-2 c κs = let v = vertex (c .before .before) in omega arith
 
-add-get-2 : tie.Need-add-get-2
-add-get-2 c = search needs
+pass-visited-requires : tie.Need-pass-visited-requires
+pass-visited-requires c κs =
+    let b = begin (c .before .before .before) .pre in
+    (b .1 .searching .room, known (b .0 .0) (b .0 .1), end-fits (c .before .before))
 
 get-requires-3 : tie.Need-get-requires-3
-get-requires-3 c κs =
-    let pre = c .before .before .before .before .before .before .before .before .pre in
-    let o = pre .0 .holds .sound .n-fits in let q = pre .0 .holds .size in let u = hand-vertex (pre .0) (pre .1) in omega arith
+get-requires-3 c κs = let f = end-fits (ended (c .before)) in omega arith
 
-sub-if1 : tie.Need-sub-if1
-sub-if1 c =
-    let pre = c .before .before .before .before .before .before .before .before .before .pre in
-    let o = pre .0 .holds .sound .n-fits in let q = pre .0 .holds .size in let u = hand-vertex (pre .0) (pre .1) in let r = next-rises (pre .0) (pre .1) (c .before .before .get2 .ensures .0) (c .get3 .ensures .0) (c .before .before .before .before .get .ensures .0) in omega arith
+add-put : tie.Need-add-put
+add-put c = search needs
 
-mul-get-2 : tie.Need-mul-get-2
-mul-get-2 c = search needs
+put-requires : tie.Need-put-requires
+put-requires c κs =
+    let v = vertex (ended (stopped (c .before)) .before) in
+    let p = place-fits (c .before) in
+    (omega arith, omega arith)
 
-add-get-3 : tie.Need-add-get-3
-add-get-3 c =
-    let pre = c .before .before .before .before .before .before .before .before .before .before .before .pre in
-    let o = pre .0 .holds .sound .n-fits in let q = pre .0 .holds .size in let u = hand-vertex (pre .0) (pre .1) in omega arith
+add-enter : tie.Need-add-enter
+add-enter c =
+    let d = c .before .before .before .before .before in
+    let v = vertex (ended (stopped d) .before) in
+    let p = place-fits d in
+    omega arith
 
-get-requires-4 : tie.Need-get-requires-4
-get-requires-4 c κs =
-    let pre = c .before .before .before .before .before .before .before .before .before .before .before .pre in
-    let o = pre .0 .holds .sound .n-fits in let q = pre .0 .holds .size in let u = hand-vertex (pre .0) (pre .1) in omega arith
+enter-requires : tie.Need-enter-requires
+enter-requires c κs =
+    let d = c .before .before .before .before .before in
+    let b = begin (ended (stopped d) .before) .pre .1 .searching .room in
+    let v = vertex (ended (stopped d) .before) in
+    let p = place-fits d in (
+      room-after b (ap length (c .before .before .before .put .ensures) ∙ simp length-set),
+      inside d,
+      room-left d,
+      omega arith,
+      omega arith,
+    )
+
+add-t22 : tie.Need-add-t22
+add-t22 c = search needs
+
+add-t25 : tie.Need-add-t25
+add-t25 c = let r = room-left (c .before .before .before .before .before .before .before .before) in omega arith
 
 same-length : tie.Need-same-length
 same-length c = search needs
 
 returns : tie.Need-returns
-returns c =
-    let pre = c .before .before .before .before .before .before .before .before .before .before .before .before .pre in
-    let get = c .before .before .before .before .before .before .before .get in
-    next-returned (pre .0) (pre .1) (c .before .before .before .before .before .get2 .ensures .0) (c .before .before .before .get3 .ensures .0) (get .ensures .0) (c .before .before .if1 .taken) (c .get4 .ensures .0)
+returns c = λ roots todo t.
+    let d = c .before .before .before .before .before .before .before .before in
+    let e = ended (stopped d) in
+    let b = begin (e .before) in
+    next-entered (b .pre .0 .0) (b .pre .0 .1) (b .args .cur - 1) t (omega arith) (stopped d .before .get2 .ensures .0)
+    (e .get .ensures .0) (stopped d .pass-visited .ensures) (d .before .if1 .taken) (d .get3 .ensures .0)
+    (c .before .before .before .before .before .before .put .ensures) (c .before .before .enter .ensures)
 
-add-field : tie.Need-add-field
-add-field c = search needs
+add-get : tie.Need-add-get
+add-get c = let v = vertex (ended (c .before .before) .before) in omega arith
 
-field-requires : tie.Need-field-requires
-field-requires c κs =
-    let pre = c .before .before .before .before .before .before .before .before .before .before .pre in
-    let o = pre .0 .holds .sound .n-fits in let q = pre .0 .holds .size in let u = hand-vertex (pre .0) (pre .1) in let r = next-rises (pre .0) (pre .1) (c .before .before .before .get2 .ensures .0) (c .before .get3 .ensures .0) (c .before .before .before .before .before .get .ensures .0) in (pre .0 .holds .sound, omega arith, pre .2)
-
-mul-put : tie.Need-mul-put
-mul-put c = search needs
-
-add-put : tie.Need-add-put
-add-put c =
-    let pre = c .before .before .before .before .before .before .before .before .before .before .before .before .pre in
-    let o = pre .0 .holds .sound .n-fits in let q = pre .0 .holds .size in let u = hand-vertex (pre .0) (pre .1) in omega arith
-
-add-put-2 : tie.Need-add-put-2
-add-put-2 c = search needs
-
-put-requires : tie.Need-put-requires
-put-requires c κs =
-    let pre = c .before .before .before .before .before .before .before .before .before .before .before .before .pre in
-    let get = c .before .before .before .before .before .before .before .get in
-    let o = pre .0 .holds .sound .n-fits in let q = pre .0 .holds .size in let u = hand-vertex (pre .0) (pre .1) in let r = next-rises (pre .0) (pre .1) (c .before .before .before .before .before .get2 .ensures .0) (c .before .before .before .get3 .ensures .0) (get .ensures .0) in (omega arith, omega arith)
-
-mul-get-3 : tie.Need-mul-get-3
-mul-get-3 c = search needs
-
-add-get-4 : tie.Need-add-get-4
-add-get-4 c = search needs
-
-get-requires-5 : tie.Need-get-requires-5
-get-requires-5 c κs =
-    let pre = c .before .before .before .before .before .before .before .before .before .before .before .before .before .before .before .before .pre in
-    let get = c .before .before .before .before .before .before .before .before .before .before .before .get in
-    let get2 = c .before .before .before .before .before .before .before .before .before .get2 in
-    let get3 = c .before .before .before .before .before .before .before .get3 in
-    let if1 = c .before .before .before .before .before .before .if1 in
-    let field = c .before .before .before .before .before .field in
-    let o = pre .0 .holds .sound .n-fits in let q = pre .0 .holds .size in let u = hand-vertex (pre .0) (pre .1) in let r = next-rises (pre .0) (pre .1) (get2 .ensures .0) (get3 .ensures .0) (get .ensures .0) in let x = next-inside (pre .0) (pre .1) (get2 .ensures .0) (get3 .ensures .0) (get .ensures .0) (if1 .left) (field .ensures .0) in let z = next-size (pre .0) (pre .1) (get2 .ensures .0) (get3 .ensures .0) (get .ensures .0) (if1 .left) (field .ensures .0) (c .before .before .before .put .ensures) in omega arith
-
-enter-requires : tie.Need-enter-requires
-enter-requires c κs =
-    let pre = c .before .before .before .before .before .before .before .before .before .before .before .before .before .before .before .before .before .before .before .pre in
-    let get = c .before .before .before .before .before .before .before .before .before .before .before .before .before .before .get in
-    let get2 = c .before .before .before .before .before .before .before .before .before .before .before .before .get2 in
-    let get3 = c .before .before .before .before .before .before .before .before .before .before .get3 in
-    let if1 = c .before .before .before .before .before .before .before .before .before .if1 in
-    let field = c .before .before .before .before .before .before .before .before .field in
-    let put = c .before .before .before .before .before .before .put in
-    let o = pre .0 .holds .sound .n-fits in let q = pre .0 .holds .size in let u = hand-vertex (pre .0) (pre .1) in let r = next-rises (pre .0) (pre .1) (get2 .ensures .0) (get3 .ensures .0) (get .ensures .0) in let x = next-inside (pre .0) (pre .1) (get2 .ensures .0) (get3 .ensures .0) (get .ensures .0) (if1 .left) (field .ensures .0) in let z = next-size (pre .0) (pre .1) (get2 .ensures .0) (get3 .ensures .0) (get .ensures .0) (if1 .left) (field .ensures .0) (put .ensures) in let t = next-room (pre .0) (pre .1) (get2 .ensures .0) (get3 .ensures .0) (get .ensures .0) (if1 .left) (field .ensures .0) (put .ensures) (sym (c .before .before .get5 .ensures .0) ∙ c .before .if2 .taken) in
-    let w = pre .0 .holds .some in
-    (omega arith, omega arith, omega arith, omega arith, omega arith, omega arith, omega arith)
-
-add-t38 : tie.Need-add-t38
-add-t38 c = search needs
-
-add-t39 : tie.Need-add-t39
-add-t39 c =
-    let pre = c .before .before .before .before .before .before .before .before .before .before .before .before .before .before .before .before .before .before .before .before .before .before .pre in
-    let get = c .before .before .before .before .before .before .before .before .before .before .before .before .before .before .before .before .before .get in
-    let get2 = c .before .before .before .before .before .before .before .before .before .before .before .before .before .before .before .get2 in
-    let get3 = c .before .before .before .before .before .before .before .before .before .before .before .before .before .get3 in
-    let if1 = c .before .before .before .before .before .before .before .before .before .before .before .before .if1 in
-    let field = c .before .before .before .before .before .before .before .before .before .before .before .field in
-    let put = c .before .before .before .before .before .before .before .before .before .put in
-    let o = pre .0 .holds .sound .n-fits in let q = pre .0 .holds .size in let u = hand-vertex (pre .0) (pre .1) in let r = next-rises (pre .0) (pre .1) (get2 .ensures .0) (get3 .ensures .0) (get .ensures .0) in let x = next-inside (pre .0) (pre .1) (get2 .ensures .0) (get3 .ensures .0) (get .ensures .0) (if1 .left) (field .ensures .0) in let z = next-size (pre .0) (pre .1) (get2 .ensures .0) (get3 .ensures .0) (get .ensures .0) (if1 .left) (field .ensures .0) (put .ensures) in let t = next-room (pre .0) (pre .1) (get2 .ensures .0) (get3 .ensures .0) (get .ensures .0) (if1 .left) (field .ensures .0) (put .ensures) (sym (c .before .before .before .before .before .get5 .ensures .0) ∙ c .before .before .before .before .if2 .taken) in omega arith
+get-requires-4 : tie.Need-get-requires-4
+get-requires-4 c κs = let v = vertex (ended (c .before .before) .before) in omega arith
 
 same-length-2 : tie.Need-same-length-2
 same-length-2 c = search needs
 
 returns-2 : tie.Need-returns-2
-returns-2 c =
-    let pre = c .before .before .before .before .before .before .before .before .before .before .before .before .before .before .before .before .before .before .before .before .before .before .pre in
-    let get = c .before .before .before .before .before .before .before .before .before .before .before .before .before .before .before .before .before .get in
-    let get2 = c .before .before .before .before .before .before .before .before .before .before .before .before .before .before .before .get2 in
-    let get3 = c .before .before .before .before .before .before .before .before .before .before .before .before .before .get3 in
-    let if1 = c .before .before .before .before .before .before .before .before .before .before .before .before .if1 in
-    let field = c .before .before .before .before .before .before .before .before .before .before .before .field in
-    let put = c .before .before .before .before .before .before .before .before .before .put in
-    let enter = c .before .before .enter in
-    next-entered (pre .0) (pre .1) (get2 .ensures .0) (get3 .ensures .0) (get .ensures .0) (if1 .left) (field .ensures .0) (put .ensures) (sym (c .before .before .before .before .before .get5 .ensures .0) ∙ c .before .before .before .before .if2 .taken) (enter .ensures .0) (enter .ensures .1) (enter .ensures .2)
-
-same-length-3 : tie.Need-same-length-3
-same-length-3 c = search needs
-
-returns-3 : tie.Need-returns-3
-returns-3 c =
-    let pre = c .before .before .before .before .before .before .before .before .before .before .before .before .before .before .before .before .before .before .pre in
-    let get = c .before .before .before .before .before .before .before .before .before .before .before .before .before .get in
-    let get2 = c .before .before .before .before .before .before .before .before .before .before .before .get2 in
-    let get3 = c .before .before .before .before .before .before .before .before .before .get3 in
-    let if1 = c .before .before .before .before .before .before .before .before .if1 in
-    let field = c .before .before .before .before .before .before .before .field in
-    next-passed (pre .0) (pre .1) (get2 .ensures .0) (get3 .ensures .0) (get .ensures .0) (if1 .left) (field .ensures .0) (c .before .before .before .before .before .put .ensures) (λ e. c .if2 .left (c .before .get5 .ensures .0 ∙ e))
+returns-2 c = λ roots todo t.
+    let d = c .before .before .before in
+    let b = begin (ended d .before) in
+    next-left (b .pre .0 .0) (b .pre .0 .1) (b .args .cur - 1) t (omega arith) (d .before .get2 .ensures .0)
+    (ended d .get .ensures .0) (d .pass-visited .ensures) (c .before .before .if1 .left) (c .get4 .ensures .0)
 
 pub try-next-spec : {M : Type 1} → statement M
 try-next-spec =
     tie.close
     (tie.spec
     sub-u
-    mul-get
-    add-get
     get-requires
     get-requires-2
-    add-get-2
+    pass-visited-requires
     get-requires-3
-    sub-if1
-    mul-get-2
-    add-get-3
-    get-requires-4
+    add-put
+    put-requires
+    add-enter
+    enter-requires
+    add-t22
+    add-t25
     same-length
     returns
-    add-field
-    field-requires
-    mul-put
-    add-put
-    add-put-2
-    put-requires
-    mul-get-3
-    add-get-4
-    get-requires-5
-    enter-requires
-    add-t38
-    add-t39
+    add-get
+    get-requires-4
     same-length-2
-    returns-2
-    same-length-3
-    returns-3)
+    returns-2)

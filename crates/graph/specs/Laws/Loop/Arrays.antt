@@ -1,5 +1,10 @@
 -- The arrays of a search program, as functions of an index: what they say of a forest, and what a step stores in them.
-use Prim.Native.Nat.{ℕ, suc, _≤_, _<_}
+--   Cells                                  the arrays
+--   visitCell, visit-entered, visit-new    what stands in the visit cell of a vertex
+--   Kept                                   the arrays hold a forest
+--   Enters, kept-enter                     the stores that enter a vertex, after which they hold one entry more
+--   room                                   a forest that lacks a vertex has fewer entries than there are vertices
+use Prim.Native.Nat.{ℕ, suc, _<_}
 use mathlib.Core.Path.{_≡_, refl, sym, _∙_, ap}
 use mathlib.Core.Bool.{true, false}
 use mathlib.Core.List.{_∷_}
@@ -9,12 +14,14 @@ use lib.ListN.{length}
 use Rattle.graph.specs.Graph.{Blocks}
 use Rattle.graph.specs.Search.{Goal, root, aim, Forest, entered}
 use Rattle.graph.specs.Forest.{number, vertexAt, parent}
-use Rattle.graph.specs.Laws.Tree.Entries.{Entered, now, old, test-entered, test-new, dec-entered, entered-rest, Built, built-root}
+use Rattle.graph.specs.Laws.Tree.Entries.{Entered, now, old, test-entered, test-new, dec-entered, entered-rest}
+use Rattle.graph.specs.Laws.Tree.Entries.{Built, built-root}
 use Rattle.graph.specs.Laws.Tree.Numbers.{number-hit, number-miss, vertex-hit, vertex-miss, count-most}
 use Rattle.graph.specs.Laws.Tree.Climbs.{parent-miss, slot, slot-miss}
-use Rattle.graph.specs.Laws.Bridges.Stores.{Stored, Agree}
+use Rattle.graph.specs.Laws.Bridges.Stores.{Stored}
 
--- for each vertex: its visit cell, 1 + its parent or 0, its slot, and the position in its block to try next; and the vertex of each visit number
+-- for each vertex: its visit cell, 1 + its parent or 0, its slot, and the position in its block to try next; and the
+-- vertex of each visit number
 pub record Cells : Type 0 where
   pub visits : ℕ → ℕ
   pub parents : ℕ → ℕ
@@ -50,13 +57,6 @@ pub record Kept (g : Blocks) (F : Forest) (c : Cells) : Type 0 where
 
 -- ---- what a step stores
 
--- the arrays but `nexts` stay
-pub record Same (n : ℕ) (c c′ : Cells) : Type 0 where
-  pub visits-same : Agree n (c .visits) (c′ .visits)
-  pub parents-same : Agree n (c .parents) (c′ .parents)
-  pub slots-same : Agree n (c .slots) (c′ .slots)
-  pub order-same : Agree n (c .order) (c′ .order)
-
 -- v is entered as number k under p (0, or 1 + its parent) by position j; before that the next positions were `at`
 pub record Enters (n : ℕ) (c c′ : Cells) (at : ℕ → ℕ) (v k p j : ℕ) : Type 0 where
   pub visits-set : Stored n (c .visits) (c′ .visits) v (suc k)
@@ -66,7 +66,8 @@ pub record Enters (n : ℕ) (c c′ : Cells) (at : ℕ → ℕ) (v k p j : ℕ) 
   pub order-set : Stored n (c .order) (c′ .order) k v
 
 -- the entries are fewer than the vertices while one is missing
-pub room : {Ok : ℕ → ℕ → ℕ → Type 0} {F : Forest} {n x : ℕ} → Built Ok F → ((v : ℕ) → Entered v F → v < n) → x < n → (Entered x F → ⊥) → length F < n
+pub room : {Ok : ℕ → ℕ → ℕ → Type 0} {F : Forest} {n x : ℕ} → Built Ok F → ((v : ℕ) → Entered v F → v < n) → x < n
+    → (Entered x F → ⊥) → length F < n
 room {F = F} {n = n} {x = x} b w h k = count-most n (built-root k b) inside
   where
     inside : (v : ℕ) → Entered v (root x ∷ F) → v < n
@@ -84,23 +85,20 @@ table-enter f miss {n} a {F} {t} {t′} {y} e s v l h = go (ℕ-discrete v (aim 
     go (no q) = s .rest v l q ∙ (h q ∙ sym (miss a F v q))
 
 module _ {g : Blocks} {F : Forest} {c c′ : Cells} (ke : Kept g F c) where
-  pub kept-same : ((v : ℕ) → Entered v F → v < length g) → length F ≤ length g → Same (length g) c c′ → Kept g F c′
-  kept-same w l s = record {
-    visit-cells = λ v h. s .visits-same v h ∙ ke .visit-cells v h;
-    parent-cells = λ v i. s .parents-same v (w v i) ∙ ke .parent-cells v i;
-    slot-cells = λ v i. s .slots-same v (w v i) ∙ ke .slot-cells v i;
-    order-cells = λ k h. s .order-same k (omega arith) ∙ ke .order-cells k h;
-  }
-
-  pub kept-enter : {at : ℕ → ℕ} {p j : ℕ} (a : Goal) → ((v : ℕ) → Entered v (a ∷ F) → v < length g) → length F < length g
-      → parent (a ∷ F) (aim a) ≡ p → slot (a ∷ F) (aim a) ≡ j → Enters (length g) c c′ at (aim a) (length F) p j → Kept g (a ∷ F) c′
+  pub kept-enter : {at : ℕ → ℕ} {p j : ℕ} (a : Goal) → ((v : ℕ) → Entered v (a ∷ F) → v < length g)
+      → length F < length g → parent (a ∷ F) (aim a) ≡ p → slot (a ∷ F) (aim a) ≡ j
+      → Enters (length g) c c′ at (aim a) (length F) p j → Kept g (a ∷ F) c′
   kept-enter a w l ep ej s = record {
-    visit-cells = λ v h. table-enter visitCell visit-miss a (visit-entered (now refl) ∙ ap suc (number-hit a F refl)) (s .visits-set) v h (λ q. ke .visit-cells v h);
-    parent-cells = λ v i. table-enter parent parent-miss a ep (s .parents-set) v (w v i) (λ q. ke .parent-cells v (entered-rest i q));
-    slot-cells = λ v i. table-enter slot slot-miss a ej (s .slots-set) v (w v i) (λ q. ke .slot-cells v (entered-rest i q));
+    visit-cells = λ v h. table-enter visitCell visit-miss a (visit-entered (now refl) ∙ ap suc (number-hit a F refl))
+        (s .visits-set) v h (λ q. ke .visit-cells v h);
+    parent-cells = λ v i. table-enter parent parent-miss a ep (s .parents-set) v (w v i)
+        (λ q. ke .parent-cells v (entered-rest i q));
+    slot-cells = λ v i. table-enter slot slot-miss a ej (s .slots-set) v (w v i)
+        (λ q. ke .slot-cells v (entered-rest i q));
     order-cells = λ k h. at-number k h (ℕ-discrete k (length F));
   }
     where
       at-number : (k : ℕ) → k < length (a ∷ F) → Dec (k ≡ length F) → c′ .order k ≡ vertexAt (a ∷ F) k
       at-number k h (yes e) = rw e (s .order-set .hit) ∙ sym (vertex-hit a F e)
-      at-number k h (no n) = s .order-set .rest k (omega arith) n ∙ (ke .order-cells k (omega arith) ∙ sym (vertex-miss a F n))
+      at-number k h (no n) =
+          s .order-set .rest k (omega arith) n ∙ (ke .order-cells k (omega arith) ∙ sym (vertex-miss a F n))
