@@ -5,6 +5,7 @@
 --   LowAt     the places of c before position j are looked at
 --   Lifting   the lowpoints, in which the children of visit number k or more count
 --   Searches, Lifts   for some forest
+--   OwnLow, Lowers, LiftsOne   what one function of the lowpoints does, for every forest
 use mathlib.Core.Path.{_≡_}
 use mathlib.Core.List.{List}
 use Prim.Native.Nat.{ℕ, zero, suc, _+_, _*_, _<_, min}
@@ -60,3 +61,17 @@ pub record Searches (g : Blocks) (n s : ℕ) (work : List ℕ) : Type 0 where
 pub record Lifts (g : Blocks) (n s : ℕ) (work : List ℕ) (k : ℕ) : Type 0 where
   pub forest : Forest
   pub lifting : Lifting g forest n s work k
+
+-- ---- for every forest
+
+-- the places of c are looked at
+abbrev pub OwnLow : Blocks → ℕ → ℕ → List ℕ → ℕ → ℕ → ℕ → Type 0
+OwnLow g n s work c low back = (F : Forest) → Searched g F n s work → LowAt g F c (length (block g c)) low back
+
+-- the lowpoints are found, in which the children of visit number k or more count
+abbrev pub Lowers : Blocks → ℕ → ℕ → List ℕ → List ℕ → ℕ → Type 0
+Lowers g n s work next k = (F : Forest) → Searched g F n s work → Lifting g F n s next k
+
+-- the child of visit number k counts too
+abbrev pub LiftsOne : Blocks → ℕ → ℕ → List ℕ → List ℕ → ℕ → Type 0
+LiftsOne g n s work next k = (F : Forest) → Lifting g F n s work (k + 1) → Lifting g F n s next k
