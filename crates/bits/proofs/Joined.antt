@@ -1,23 +1,21 @@
 -- Bytes joined to a number are a field of their bits; shifts and masks cut smaller fields out of it.
 use mathlib.Core.Path.{_≡_, refl, sym, ap, _∙_}
 use mathlib.Core.Bool.{Bool}
-use mathlib.Core.List.{List, [], _∷_, _++_, reverse}
+use mathlib.Core.List.{List, [], _∷_, _++_}
 use Prim.Native.Nat.{ℕ, zero, suc, _+_, _-_, _*_, _/_, _%_, _^_, _≤_, _<_}
 use native.Mathlib.Decide.{decLe}
 use native.Mathlib.Nat.{add-mul, add-zero, mul-assoc, mod-eq-of-lt, one-mul}
 use native.Mathlib.Numerals.{add-one, add-two, towards-suc}
 use native.Mathlib.Omega.{arith}
-use lib.Count.{ones}
 use lib.Dec.{lit<}
 use lib.ListN.{length, take, drop, getD, replicate, length-append}
 use lib.Pow.{pow-lt, pow-add, high, shr-shr}
 use lib.Seq.{drop-cons, take-at}
-use Rattle.bits.specs.Bits.{toBits, bits, count, value, field}
+use Rattle.bits.specs.Bits.{toBits, bits, value, field}
 use Rattle.bits.specs.Laws.Digits.{length-toBits, value-append, value-toBits}
 use Rattle.bits.specs.Laws.Bytes.{AreBytes, take-bytes, drop-bytes, length-bits, bits-append, part-bits, byte-on}
 use Rattle.bits.specs.Steps.{IsByte, FourAt}
 use Rattle.bits.specs.Laws.Fields.{field-inside, field-front, field-back, field-append}
-use Rattle.bits.specs.Laws.Rank.{ones-value, count-reverse}
 
 -- the bytes, one below the other, below the number a
 abbrev pub joined : ℕ → List ℕ → ℕ
@@ -65,6 +63,12 @@ field-joined bytes f n h = field-bytes bytes f n ∙ value-joined (take n (drop 
 
 -- ---- two, three and eight bytes from byte f on
 
+-- the eight bytes from byte f on, with zeros past the end
+abbrev pub eight : List ℕ → ℕ → List ℕ
+eight bytes f =
+    getD bytes f 0 ∷ getD bytes (f + 1) 0 ∷ getD bytes (f + 2) 0 ∷ getD bytes (f + 3) 0
+    ∷ getD bytes (f + 4) 0 ∷ getD bytes (f + 5) 0 ∷ getD bytes (f + 6) 0 ∷ getD bytes (f + 7) 0 ∷ []
+
 module _ (bytes : List ℕ) (f : ℕ) where
   pub two-bytes : f + 2 ≤ length bytes → take 2 (drop f bytes) ≡ getD bytes f 0 ∷ getD bytes (f + 1) 0 ∷ []
   two-bytes h = rw (drop-cons bytes f 0 (omega arith), drop-cons bytes (suc f) 0 (omega arith), add-one f)
@@ -73,9 +77,7 @@ module _ (bytes : List ℕ) (f : ℕ) where
   three-bytes h =
       rw (drop-cons bytes f 0 (omega arith), drop-cons bytes (suc f) 0 (omega arith), drop-cons bytes (suc (suc f)) 0 (omega arith), add-one f, add-two f)
 
-  eight-bytes : f + 8 ≤ length bytes
-      → take 8 (drop f bytes)
-      ≡ getD bytes f 0 ∷ getD bytes (f + 1) 0 ∷ getD bytes (f + 2) 0 ∷ getD bytes (f + 3) 0 ∷ getD bytes (f + 4) 0 ∷ getD bytes (f + 5) 0 ∷ getD bytes (f + 6) 0 ∷ getD bytes (f + 7) 0 ∷ []
+  pub eight-bytes : f + 8 ≤ length bytes → take 8 (drop f bytes) ≡ eight bytes f
   eight-bytes h =
       rw (
         drop-cons bytes f 0 (omega arith),
@@ -89,20 +91,8 @@ module _ (bytes : List ℕ) (f : ℕ) where
       )
       (simp towards-suc)
 
--- the eight bytes from byte f on, with zeros past the end
-abbrev pub eight : List ℕ → ℕ → List ℕ
-eight bytes f =
-    getD bytes f 0 ∷ getD bytes (f + 1) 0 ∷ getD bytes (f + 2) 0 ∷ getD bytes (f + 3) 0 ∷ getD bytes (f + 4) 0 ∷ getD bytes (f + 5) 0 ∷ getD bytes (f + 6) 0 ∷ getD bytes (f + 7) 0 ∷ []
-
 pub word-field : (bytes : List ℕ) (f : ℕ) → f + 8 ≤ length bytes → value (bits (eight bytes f)) ≡ field 64 (bits bytes) (8 * f)
 word-field bytes f h = sym (field-bytes bytes f 8 ∙ ap (λ (l : List ℕ). value (bits l)) (eight-bytes bytes f h))
-
--- the ones of these bytes joined the other way round
-pub turned-ones : (bytes : List ℕ) (f : ℕ) → f + 8 ≤ length bytes
-    → ones (value (bits (reverse (eight bytes f)))) ≡ count (take 64 (drop (8 * f) (bits bytes)))
-turned-ones bytes f h =
-    ones-value (bits (reverse (eight bytes f))) ∙ count-reverse (eight bytes f)
-    ∙ ap (λ (l : List ℕ). count (bits l)) (sym (eight-bytes bytes f h)) ∙ ap count (part-bits 8 f bytes)
 
 -- the first n of these bits
 pub word-front : (bytes : List ℕ) (f n k : ℕ) → n + k ≡ 64 → f + 8 ≤ length bytes → field 64 (bits bytes) (8 * f) / 2 ^ k ≡ field n (bits bytes) (8 * f)

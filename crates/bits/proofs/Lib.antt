@@ -1,5 +1,6 @@
 -- Laws that the answers of several functions share: what the code computes, in terms of the definitions.
 pub mod Joined
+pub mod Turned
 pub mod Stored
 pub mod Entries
 pub mod Found

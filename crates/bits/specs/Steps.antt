@@ -1,11 +1,24 @@
--- What contracts inside this crate say of a byte, of a search for ones, and of a number with a field replaced, and what callers are told of four fields.
+-- What contracts inside this crate say of a byte, of a search for ones, and of a number with a field replaced, and what
+-- callers are told of two and of four fields.
+--   lowBytes  the lowest bytes of a number, the lowest first
+--   IsByte    a number is a byte of a list
+--   IsRest    a number is what is left of a byte from a bit on
+--   Passed    how many ones are left to go from a byte on
+--   within    a place, or 0 past a limit
+--   FourAt    four numbers are the fields of 12 bits from a bit on
+--   replace   a number with a field replaced
 use mathlib.Core.Path.{_≡_}
 use mathlib.Core.Bool.{Bool, true, false}
-use mathlib.Core.List.{List}
-use Prim.Native.Nat.{ℕ, _+_, _-_, _*_, _/_, _%_, _^_, _≤_, _<_}
+use mathlib.Core.List.{List, [], _∷_}
+use Prim.Native.Nat.{ℕ, zero, suc, _+_, _-_, _*_, _/_, _%_, _^_, _≤_, _<_}
 use lib.Dec.{leb}
 use lib.ListN.{length, take, getD}
 use Rattle.bits.specs.Bits.{bits, count, field}
+
+-- the n lowest bytes of a number, the lowest first
+unfoldable pub lowBytes : ℕ → ℕ → List ℕ
+lowBytes zero x = []
+lowBytes (suc n) x = x % 256 ∷ lowBytes n (x / 256)
 
 -- b is byte `at`
 pub record IsByte (bytes : List ℕ) (at b : ℕ) : Type 0 where

@@ -7,6 +7,7 @@ ghost use Rattle.bits.specs.Bits.{bits, field, put};
 ghost use Rattle.bits.specs.Steps.{FourAt, replace};
 use super::words::byte_at;
 use super::words::join;
+use super::words::low_byte;
 use super::words::short_word;
 
 // The bit `index`.
@@ -90,13 +91,6 @@ pub fn read_four(bytes: &[u8], start: usize) -> Four
         c: cut12(x, 12),
         d: cut12(x, 0),
     }
-}
-
-// The lowest byte of x.
-fn low_byte(x: u64) -> u8
-    ensures { λ r. ⌜ r ≡ x % 256 ⌝ }
-{
-    (x & 0xFF) as u8
 }
 
 // x with v in the `width` bits above its `low` lowest.

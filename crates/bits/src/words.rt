@@ -1,11 +1,11 @@
 // Bytes joined to numbers, most significant byte first, and the count of ones of a number.
 ghost use mathlib.Core.Path.{_≡_};
-ghost use mathlib.Core.List.{[], _∷_};
+ghost use mathlib.Core.List.{[], _∷_, reverse};
 ghost use Prim.Native.Nat.{_+_, _-_, _*_, _%_, _^_, _<_, _≤_};
 ghost use lib.Count.{ones};
 ghost use lib.ListN.{length, take, drop, getD};
 ghost use Rattle.bits.specs.Bits.{bits, count, value, field};
-ghost use Rattle.bits.specs.Steps.{IsByte, IsRest};
+ghost use Rattle.bits.specs.Steps.{IsByte, IsRest, lowBytes};
 
 pub fn wide(b: u8) -> u64
     ensures { λ r. ⌜ (r ≡ b) × (r < 256) ⌝ }
@@ -29,21 +29,53 @@ fn join8(a: u8, b: u8, c: u8, d: u8, e: u8, f: u8, g: u8, h: u8) -> u64
     join(join(join(join(high, e), f), g), h)
 }
 
+// The eight bytes from byte `at` on as one number, the first byte lowest: the machine's own order, so that this is one
+// load.
+fn low_word(bytes: &[u8], at: usize) -> u64
+    requires { ⌜ at + 8 ≤ length (now bytes) ⌝ }
+    ensures { λ r. ⌜ r ≡ value (bits (reverse (take 8 (drop at (now (bytes .entry)))))) ⌝ }
+{
+    join8(
+        bytes[at + 7],
+        bytes[at + 6],
+        bytes[at + 5],
+        bytes[at + 4],
+        bytes[at + 3],
+        bytes[at + 2],
+        bytes[at + 1],
+        bytes[at],
+    )
+}
+
+// The lowest byte of x.
+pub fn low_byte(x: u64) -> u8
+    ensures { λ r. ⌜ r ≡ x % 256 ⌝ }
+{
+    (x & 0xFF) as u8
+}
+
+// The bytes of x in the other order.
+fn turned(x: u64) -> u64
+    ensures { λ r. ⌜ r ≡ value (bits (lowBytes 8 x)) ⌝ }
+{
+    join8(
+        low_byte(x),
+        low_byte(x >> 8),
+        low_byte(x >> 16),
+        low_byte(x >> 24),
+        low_byte(x >> 32),
+        low_byte(x >> 40),
+        low_byte(x >> 48),
+        low_byte(x >> 56),
+    )
+}
+
 // The 64 bits from byte `at` on.
 fn word(bytes: &[u8], at: usize) -> u64
     requires { ⌜ at + 8 ≤ length (now bytes) ⌝ }
     ensures { λ r. ⌜ r ≡ field 64 (bits (now (bytes .entry))) (8 * at) ⌝ }
 {
-    join8(
-        bytes[at],
-        bytes[at + 1],
-        bytes[at + 2],
-        bytes[at + 3],
-        bytes[at + 4],
-        bytes[at + 5],
-        bytes[at + 6],
-        bytes[at + 7],
-    )
+    turned(low_word(bytes, at))
 }
 
 // Byte `at`, or 0 past the end.
@@ -53,7 +85,8 @@ fn byte_or_zero(bytes: &[u8], at: usize) -> u8
     if at < bytes.len() { bytes[at] } else { 0 }
 }
 
-// The n bits from byte `at` on, at most 64: of a whole word, or of zeros after the bytes where the slice ends before a whole word does.
+// The n bits from byte `at` on, at most 64: of a whole word, or of zeros after the bytes where the slice ends before a
+// whole word does.
 pub fn short_word(bytes: &[u8], at: usize, n: usize) -> u64
     requires { ⌜ (1 ≤ n) × (n ≤ 64) × (8 * at + n ≤ 8 * length (now bytes)) ⌝ }
     ensures { λ r. ⌜ r ≡ field n (bits (now (bytes .entry))) (8 * at) ⌝ }
@@ -122,22 +155,12 @@ pub fn byte_ones(b: u64) -> usize
     ones_of(b)
 }
 
-// The ones of the 64 bits from byte `at` on. Their order is no matter to a count: the first byte is the lowest here, which is the machine's own order.
+// The ones of the 64 bits from byte `at` on: the order of bytes is no matter to a count.
 pub fn word_ones(bytes: &[u8], at: usize) -> usize
     requires { ⌜ at + 8 ≤ length (now bytes) ⌝ }
     ensures { λ r. ⌜ (r ≡ count (take 64 (drop (8 * at) (bits (now (bytes .entry)))))) × (r ≤ 64) ⌝ }
 {
-    let w = join8(
-        bytes[at + 7],
-        bytes[at + 6],
-        bytes[at + 5],
-        bytes[at + 4],
-        bytes[at + 3],
-        bytes[at + 2],
-        bytes[at + 1],
-        bytes[at],
-    );
-    ones_of(w)
+    ones_of(low_word(bytes, at))
 }
 
 // The ones of the n bits from byte `at` on, at most 64.

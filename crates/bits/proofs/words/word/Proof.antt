@@ -1,80 +1,26 @@
--- `words::word` meets its contract: eight bytes are a field of 64 bits.
-use mathlib.Core.Path.{_∙_}
+-- `words::word` meets its contract: the bytes joined one way and turned are a field of 64 bits.
+use mathlib.Core.Path.{_∙_, ap}
+use Prim.Native.Nat.{ℕ}
 use native.Mathlib.Omega.{arith}
+use Rattle.bits.specs.Bits.{bits, value}
+use Rattle.bits.specs.Steps.{lowBytes}
+use Rattle.bits.proofs.Turned.{turned-field}
 use borrow.Author.Needs.{needs}
-use Rattle.bits.proofs.Joined.{word-field}
 use Rattle.bits.proofs.words.word.Statement.{statement}
 use Rattle.bits.proofs.words.word.Tie as tie
 
-shared-slice-read-join8 : tie.Need-shared-slice-read-join8
-shared-slice-read-join8 c = search needs
+low-word-requires : tie.Need-low-word-requires
+low-word-requires c κs = search needs
 
-add-join8 : tie.Need-add-join8
-add-join8 c = search needs
-
-shared-slice-read-join8-2 : tie.Need-shared-slice-read-join8-2
-shared-slice-read-join8-2 c = search needs
-
-add-join8-2 : tie.Need-add-join8-2
-add-join8-2 c = search needs
-
-shared-slice-read-join8-3 : tie.Need-shared-slice-read-join8-3
-shared-slice-read-join8-3 c = search needs
-
-add-join8-3 : tie.Need-add-join8-3
-add-join8-3 c = search needs
-
-shared-slice-read-join8-4 : tie.Need-shared-slice-read-join8-4
-shared-slice-read-join8-4 c = search needs
-
-add-join8-4 : tie.Need-add-join8-4
-add-join8-4 c = search needs
-
-shared-slice-read-join8-5 : tie.Need-shared-slice-read-join8-5
-shared-slice-read-join8-5 c = search needs
-
-add-join8-5 : tie.Need-add-join8-5
-add-join8-5 c = search needs
-
-shared-slice-read-join8-6 : tie.Need-shared-slice-read-join8-6
-shared-slice-read-join8-6 c = search needs
-
-add-join8-6 : tie.Need-add-join8-6
-add-join8-6 c = search needs
-
-shared-slice-read-join8-7 : tie.Need-shared-slice-read-join8-7
-shared-slice-read-join8-7 c = search needs
-
-add-join8-7 : tie.Need-add-join8-7
-add-join8-7 c = search needs
-
-shared-slice-read-join8-8 : tie.Need-shared-slice-read-join8-8
-shared-slice-read-join8-8 c = search needs
-
-join8-requires : tie.Need-join8-requires
-join8-requires c κs = search needs
+turned-requires : tie.Need-turned-requires
+turned-requires c κs = search needs
 
 returns : tie.Need-returns
-returns c = c .join8 .ensures ∙ word-field (c .before .before .before .before .before .before .before .before .before .before .args .bytes .now) (c .before .before .before .before .before .before .before .before .before .before .args .at) (omega arith)
+returns c =
+    let args = c .before .before .before .args in
+    let known = c .before .before .shared-slice-known in
+    c .turned .ensures ∙ ap (λ (x : ℕ). value (bits (lowBytes 8 x))) (c .before .low-word .ensures)
+    ∙ turned-field (args .bytes .now) (args .at) (λ i. known .given i .fits) (omega arith)
 
 pub word-spec : {M : Type 1} → statement M
-word-spec =
-    tie.close
-    (tie.spec
-    shared-slice-read-join8
-    add-join8
-    shared-slice-read-join8-2
-    add-join8-2
-    shared-slice-read-join8-3
-    add-join8-3
-    shared-slice-read-join8-4
-    add-join8-4
-    shared-slice-read-join8-5
-    add-join8-5
-    shared-slice-read-join8-6
-    add-join8-6
-    shared-slice-read-join8-7
-    add-join8-7
-    shared-slice-read-join8-8
-    join8-requires
-    returns)
+word-spec = tie.close (tie.spec low-word-requires turned-requires returns)

@@ -1,8 +1,8 @@
--- `fields::low_byte` meets its contract: a mask of eight ones is a remainder.
+-- `words::low_byte` meets its contract: a mask of eight ones is a remainder.
 use native.Mathlib.Omega.{arith}
 use lib.Bits.{and-mask, mask-lt}
-use Rattle.bits.proofs.fields.low_byte.Statement.{statement}
-use Rattle.bits.proofs.fields.low_byte.Tie as tie
+use Rattle.bits.proofs.words.low_byte.Statement.{statement}
+use Rattle.bits.proofs.words.low_byte.Tie as tie
 
 cast-result : tie.Need-cast-result
 cast-result c = omega (arith, mask-lt (c .args .x) 8)
