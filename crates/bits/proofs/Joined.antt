@@ -9,12 +9,12 @@ use native.Mathlib.Numerals.{add-one, add-two, towards-suc}
 use native.Mathlib.Omega.{arith}
 use lib.Dec.{lit<}
 use lib.ListN.{length, take, drop, getD, replicate, length-append}
-use lib.Pow.{pow-lt, pow-add, high, shr-shr}
+use lib.Pow.{pow-lt, pow-add, high, shr-shr, ones-split, ones-lt}
 use lib.Seq.{drop-cons, take-at}
 use Rattle.bits.specs.Bits.{toBits, bits, value, field}
 use Rattle.bits.specs.Laws.Digits.{length-toBits, value-append, value-toBits}
 use Rattle.bits.specs.Laws.Bytes.{AreBytes, take-bytes, drop-bytes, length-bits, bits-append, part-bits, byte-on}
-use Rattle.bits.specs.Steps.{IsByte, FourAt}
+use Rattle.bits.specs.Steps.{IsByte, TwoAt, FourAt}
 use Rattle.bits.specs.Laws.Fields.{field-inside, field-front, field-back, field-append}
 
 -- the bytes, one below the other, below the number a
@@ -129,6 +129,32 @@ pub field-masked : (bytes : List ℕ) (start w : ℕ) → start + w ≤ 8 * leng
 field-masked bytes start w h =
     let s : 8 * (start / 8) + start % 8 ≡ start = omega arith in
     sym (rw s at (field-back (bits bytes) (8 * (start / 8)) (start % 8) w (rw (length-bits bytes) (omega arith))))
+
+-- the mask 0xFF..FF >> (64 - w)
+pub shifted-ones : (w : ℕ) → w ≤ 64 → (2 ^ 64 - 1) / 2 ^ (64 - w) ≡ 2 ^ w - 1
+shifted-ones w h =
+    let k : ℕ = 64 - w in
+    let e : 64 ≡ w + k = omega arith in
+    ap (λ (n : ℕ). (2 ^ n - 1) / 2 ^ k) e ∙ ap (λ (n : ℕ). n / 2 ^ k) (ones-split w k) ∙ high (2 ^ w - 1) k (ones-lt k)
+
+-- two fields of 12 bits in a row
+pub two-cut : (s : List Bool) (start : ℕ) {x a b : ℕ} → start + 24 ≤ length s → x ≡ field 24 s start
+    → a ≡ x / 2 ^ 12 % 2 ^ 12 → b ≡ x / 2 ^ 0 % 2 ^ 12 → (a < 4096) × (b < 4096) → TwoAt s start a b
+two-cut s start {x} h e ea eb small = record {
+  first = ea ∙ ap (λ (n : ℕ). n / 2 ^ 12 % 2 ^ 12) e ∙ sym (field-inside s start 0 12 12 h)
+      ∙ ap (field 12 s) (add-zero start);
+  second = eb ∙ ap (λ (n : ℕ). n / 2 ^ 0 % 2 ^ 12) e ∙ sym (field-inside s start 12 12 0 h);
+  small = small;
+}
+
+-- and in three bytes
+pub two-in-bytes : (bytes : List ℕ) (at : ℕ) {x a b : ℕ} → AreBytes bytes → at + 3 ≤ length bytes
+    → x ≡ joined 0 (getD bytes at 0 ∷ getD bytes (at + 1) 0 ∷ getD bytes (at + 2) 0 ∷ [])
+    → a ≡ x / 2 ^ 12 % 2 ^ 12 → b ≡ x / 2 ^ 0 % 2 ^ 12 → (a < 4096) × (b < 4096) → TwoAt (bits bytes) (8 * at) a b
+two-in-bytes bytes at hb h e ea eb small =
+    let three = ap (joined 0) (three-bytes bytes at h) in
+    let l = length-bits bytes in
+    two-cut (bits bytes) (8 * at) (omega arith) (e ∙ sym (field-joined bytes at 3 hb ∙ three)) ea eb small
 
 -- four fields of 12 bits in a row
 pub four-cut : (s : List Bool) (start : ℕ) {x a b c d : ℕ} → start + 48 ≤ length s → x ≡ field 48 s start

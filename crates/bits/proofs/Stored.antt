@@ -1,6 +1,6 @@
 -- Bytes stored into a slice: the bytes of a number into which a field was put are that field put into the slice's bits.
 use mathlib.Core.Path.{_≡_, refl, sym, ap, ap₂, _∙_}
-use mathlib.Core.Bool.{Bool, true}
+use mathlib.Core.Bool.{Bool, true, false}
 use mathlib.Core.List.{List, [], _∷_, _++_, append-assoc, append-nil}
 use Prim.Native.Nat.{ℕ, _+_, _-_, _*_, _/_, _%_, _^_, _≤_, _<_}
 use native.Mathlib.Nat.{lt-of-lt-of-le, div-mul-le-self, mul-assoc, add-mul, add-comm, max-eq-right, mod-eq-of-lt, mod-lt}
@@ -8,12 +8,12 @@ use native.Mathlib.Numerals.{add-one, add-two}
 use native.Mathlib.Omega.{arith}
 use lib.Bits.{bitAnd, bitOr, or-step, or-zero-r, or-block, or-lt, or-shifted, and-mask}
 use lib.ListN.{length, take, drop, getD, set, length-drop}
-use lib.Pow.{shl-lt, shl-shr, shr-shr, split, pow-lt, pow-mono, pow-add, pow-pos}
+use lib.Pow.{shl-lt, shl-shr, shr-shr, split, high, low, pow-lt, pow-mono, pow-add, pow-pos}
 use lib.Seq.{sets, sets-eq, length-take-le}
 use Rattle.bits.specs.Bits.{toBits, bits, field, put}
 use Rattle.bits.specs.Laws.Digits.{toBits-agree, toBits-append, toBits-value}
 use Rattle.bits.specs.Laws.Bytes.{AreBytes, length-bits, bits-append, take-bits, drop-bits}
-use Rattle.bits.specs.Laws.Puts.{put-number, put-part, put-one}
+use Rattle.bits.specs.Laws.Puts.{put-number, put-part, put-one, put-beside}
 use Rattle.bits.specs.Steps.{IsByte, replace}
 use Rattle.bits.proofs.Joined.{joined, field-joined, byte-field, two-bytes, three-bytes}
 
@@ -137,3 +137,37 @@ write-or bytes i hb h =
     ap (λ (n : ℕ). bits (set bytes f n)) (ap (bitOr x) mask ∙ sym small)
     ∙ write-one i 1 k 1 y byte (omega arith) (omega arith) (replace-or x k)
     ∙ put-one true (bits bytes) i (rw (length-bits bytes) h)
+
+-- what a mask of all but the first bit leaves of the first byte
+pub write-clear : (bytes : List ℕ) → AreBytes bytes → 0 < length bytes
+    → bits (set bytes 0 (bitAnd (getD bytes 0 0) 127)) ≡ set (bits bytes) 0 false
+write-clear bytes hb h =
+    let x : ℕ = getD bytes 0 0 in
+    let byte : IsByte bytes 0 x = record { inside = h; same = refl; small = hb 0 } in
+    let small : x < 256 = hb 0 in
+    let y : x % 2 ^ 7 ≡ replace x 1 7 0 = omega arith in
+    let e : bitAnd x 127 ≡ x % 2 ^ 7 % 256 = and-mask x 7 ∙ omega arith in
+    ap (λ (n : ℕ). bits (set bytes 0 n)) e ∙ write-one 0 1 7 0 (x % 2 ^ 7) byte refl (omega arith) y
+    ∙ put-one false (bits bytes) 0 (rw (length-bits bytes) (omega arith))
+
+-- what two numbers of 12 bits stored in three bytes leave
+pub write-beside : (bytes : List ℕ) (at a b x : ℕ) {p q r : ℕ} → at + 3 ≤ length bytes → a < 4096 → b < 4096
+    → x ≡ a * 2 ^ 12 + b → p ≡ x / 2 ^ 16 % 256 → q ≡ x / 2 ^ 8 % 256 → r ≡ x % 256
+    → bits (set (set (set bytes at p) (at + 1) q) (at + 2) r) ≡ put 12 b (put 12 a (bits bytes) (8 * at)) (8 * at + 12)
+write-beside bytes at a b x h ha hb e ep eq er =
+    let s : List Bool = bits bytes in
+    let l : length s ≡ 8 * length bytes = length-bits bytes in
+    let vs : List ℕ = x / 2 ^ 16 % 256 ∷ x / 2 ^ 8 % 256 ∷ x % 256 ∷ [] in
+    let top : x / 2 ^ 12 ≡ a = ap (λ (n : ℕ). n / 2 ^ 12) e ∙ high a 12 hb in
+    let rest : x % 2 ^ 12 ≡ b % 2 ^ 12 = ap (λ (n : ℕ). n % 2 ^ 12) e ∙ low a 12 hb ∙ sym (mod-eq-of-lt hb) in
+    let new : bits vs ≡ toBits 12 a ++ toBits 12 b =
+    bits-three x ∙ toBits-append 12 12 x ∙ ap₂ _++_ (ap (toBits 12) top) (toBits-agree 12 x b rest) in
+    rw (ep, eq, er, add-one at, add-two at)
+    (stored bytes vs at h ∙ ap (λ (t : List Bool). take (8 * at) s ++ (t ++ drop (8 * at + 24) s)) new
+    ∙ sym (put-beside 12 a 12 b s (8 * at) (omega arith)))
+
+-- the number that the two write, by a shift
+pub beside-shifted : (a b : ℕ) → a < 4096 → b < 4096 → bitOr (a * 2 ^ 12 % 2 ^ 64) b ≡ a * 2 ^ 12 + b
+beside-shifted a b ha hb =
+    let e : a * 2 ^ 12 < 2 ^ 64 = omega arith in
+    rw (mod-eq-of-lt e) (or-shifted a 12 b hb)

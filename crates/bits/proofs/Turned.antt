@@ -5,7 +5,7 @@
 --   turned-field   its lowest bytes, joined, are the field of 64 bits
 use mathlib.Core.Path.{_≡_, refl, sym, ap, ap₂, _∙_}
 use mathlib.Core.List.{List, [], _∷_, _++_, reverse, reverse-cons, append-nil}
-use Prim.Native.Nat.{ℕ, zero, suc, _+_, _*_, _/_, _%_, _^_, _≤_, _<_}
+use Prim.Native.Nat.{ℕ, suc, _+_, _*_, _/_, _%_, _^_, _≤_, _<_}
 use native.Mathlib.Nat.{mod-eq-of-lt}
 use native.Mathlib.Omega.{arith}
 use lib.Count.{ones}
@@ -20,8 +20,9 @@ use Rattle.bits.specs.Laws.Rank.{ones-value, count-reverse}
 use Rattle.bits.proofs.Joined.{eight, eight-bytes, field-bytes}
 
 module _ (bytes : List ℕ) (f : ℕ) (h : f + 8 ≤ length bytes) where
-  pub low-word : value (bits (reverse (eight bytes f))) ≡ value (bits (reverse (take 8 (drop f bytes))))
-  low-word = ap (λ (l : List ℕ). value (bits (reverse l))) (sym (eight-bytes bytes f h))
+  pub low-word : {r : ℕ} → r ≡ value (bits (reverse (eight bytes f)))
+      → r ≡ value (bits (reverse (take 8 (drop f bytes))))
+  low-word e = e ∙ ap (λ (l : List ℕ). value (bits (reverse l))) (sym (eight-bytes bytes f h))
 
   pub turned-ones : ones (value (bits (reverse (take 8 (drop f bytes))))) ≡ count (take 64 (drop (8 * f) (bits bytes)))
   turned-ones =
@@ -31,13 +32,13 @@ module _ (bytes : List ℕ) (f : ℕ) (h : f + 8 ≤ length bytes) where
 -- ---- the lowest bytes of a number
 
 -- by shifts
-pub turned-bytes : (x : ℕ) {a b c d e f g h : ℕ}
+pub turned-bytes : (x : ℕ) {a b c d e f g h r : ℕ}
     → a ≡ x % 256 → b ≡ x / 2 ^ 8 % 256 → c ≡ x / 2 ^ 16 % 256 → d ≡ x / 2 ^ 24 % 256
     → e ≡ x / 2 ^ 32 % 256 → f ≡ x / 2 ^ 40 % 256 → g ≡ x / 2 ^ 48 % 256 → h ≡ x / 2 ^ 56 % 256
-    → value (bits (a ∷ b ∷ c ∷ d ∷ e ∷ f ∷ g ∷ h ∷ [])) ≡ value (bits (lowBytes 8 x))
+    → r ≡ value (bits (a ∷ b ∷ c ∷ d ∷ e ∷ f ∷ g ∷ h ∷ [])) → r ≡ value (bits (lowBytes 8 x))
 unfolding lowBytes
-turned-bytes x ea eb ec ed ee ef eg eh =
-    rw (
+turned-bytes x ea eb ec ed ee ef eg eh e =
+    e ∙ rw (
       ea,
       eb,
       ec,

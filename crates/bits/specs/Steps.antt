@@ -5,6 +5,7 @@
 --   IsRest    a number is what is left of a byte from a bit on
 --   Passed    how many ones are left to go from a byte on
 --   within    a place, or 0 past a limit
+--   TwoAt     two numbers are the fields of 12 bits from a bit on
 --   FourAt    four numbers are the fields of 12 bits from a bit on
 --   replace   a number with a field replaced
 use mathlib.Core.Path.{_≡_}
@@ -41,6 +42,12 @@ pub record Passed (bytes : List ℕ) (k at left : ℕ) : Type 0 where
 -- the place p, or 0 where it is past the limit
 unfoldable pub within : ℕ → ℕ → ℕ
 within limit p = elim (leb p limit) [ true ↦ p | false ↦ 0 ]
+
+-- a and b are the two fields of 12 bits from bit `start` on
+pub record TwoAt (s : List Bool) (start a b : ℕ) : Type 0 where
+  pub first : a ≡ field 12 s start
+  pub second : b ≡ field 12 s (start + 12)
+  pub small : (a < 4096) × (b < 4096)
 
 -- a, b, c and d are the four fields of 12 bits from bit `start` on
 pub record FourAt (s : List Bool) (start a b c d : ℕ) : Type 0 where

@@ -1,10 +1,11 @@
-// Bits and fields, read and written by shifts and masks at any starting bit. Here bits count from 0 for the first bit of the first byte.
+// Bits and fields, read and written by shifts and masks at any starting bit. Here bits count from 0 for the first bit
+// of the first byte.
 ghost use mathlib.Core.Path.{_≡_};
 ghost use mathlib.Core.Bool.{true, false};
 ghost use Prim.Native.Nat.{_+_, _*_, _/_, _%_, _^_, _<_, _≤_};
 ghost use lib.ListN.{length, getD, set};
 ghost use Rattle.bits.specs.Bits.{bits, field, put};
-ghost use Rattle.bits.specs.Steps.{FourAt, replace};
+ghost use Rattle.bits.specs.Steps.{TwoAt, FourAt, replace};
 use super::words::byte_at;
 use super::words::join;
 use super::words::low_byte;
@@ -18,8 +19,8 @@ pub fn read_bit(bytes: &[u8], index: usize) -> bool
     (byte_at(bytes, index / 8) >> (7 - index % 8)) & 1 == 1
 }
 
-// The field of `width` bits from bit `start` on. Three bytes are joined: the first, the next, and the one in which the field ends. Where that is
-// the next again, its second copy is shifted out. No byte past the field is read.
+// The field of `width` bits from bit `start` on. Three bytes are joined: the first, the next, and the one in which the
+// field ends. Where that is the next again, its second copy is shifted out. No byte past the field is read.
 fn read_field(bytes: &[u8], start: usize, width: usize) -> usize
     requires { ⌜ (9 ≤ width) × (width ≤ 16) × (start + width ≤ 8 * length (now bytes)) ⌝ }
     ensures { λ r. ⌜ (r ≡ field width (bits (now (bytes .entry))) start) × (r < 2 ^ width) ⌝ }
@@ -55,12 +56,12 @@ pub fn read15(bytes: &[u8], start: usize) -> usize
     read_field(bytes, start, 15)
 }
 
-// The field of `width` bits from bit `start` on, at most 56: a word holds it, wherever in its first byte it starts.
+// The field of `width` bits from bit `start` on, where the 64 bits from its first byte on hold it.
 pub fn read_long(bytes: &[u8], start: usize, width: usize) -> u64
-    requires { ⌜ (1 ≤ width) × (width ≤ 56) × (start + width ≤ 8 * length (now bytes)) ⌝ }
+    requires { ⌜ (1 ≤ width) × (start % 8 + width ≤ 64) × (start + width ≤ 8 * length (now bytes)) ⌝ }
     ensures { λ r. ⌜ r ≡ field width (bits (now (bytes .entry))) start ⌝ }
 {
-    short_word(bytes, start / 8, start % 8 + width) & ((1 << width) - 1)
+    short_word(bytes, start / 8, start % 8 + width) & (0xFFFFFFFFFFFFFFFF >> (64 - width))
 }
 
 // Four fields of 12 bits in a row.
@@ -93,6 +94,24 @@ pub fn read_four(bytes: &[u8], start: usize) -> Four
     }
 }
 
+// Two fields of 12 bits in a row.
+pub struct Two {
+    pub a: usize,
+    pub b: usize,
+}
+
+// The two fields of 12 bits in the three bytes from byte `at` on.
+pub fn read_two(bytes: &[u8], at: usize) -> Two
+    requires { ⌜ at + 3 ≤ length (now bytes) ⌝ }
+    ensures { λ r. ⌜ TwoAt (bits (now (bytes .entry))) (8 * at) (r .a) (r .b) ⌝ }
+{
+    let x = join(join(join(0, bytes[at]), bytes[at + 1]), bytes[at + 2]);
+    Two {
+        a: cut12(x, 12),
+        b: cut12(x, 0),
+    }
+}
+
 // x with v in the `width` bits above its `low` lowest.
 fn replaced(x: u64, width: usize, low: usize, v: u64) -> u64
     requires { ⌜ (width + low ≤ 24) × (x < 2 ^ 24) × (v < 2 ^ width) ⌝ }
@@ -105,16 +124,27 @@ fn replaced(x: u64, width: usize, low: usize, v: u64) -> u64
 // The bit `index` becomes a one, and nothing else changes.
 pub fn set_bit(bytes: &mut [u8], index: usize)
     requires { ⌜ index < 8 * length (now bytes) ⌝ }
-    ensures { λ _. ⌜ (bits (now (bytes .exit)) ≡ set (bits (now (bytes .entry))) index true) × (length (now (bytes .exit)) ≡ length (now (bytes .entry))) ⌝ }
+    ensures { λ _. ⌜ (bits (now (bytes .exit)) ≡ set (bits (now (bytes .entry))) index true)
+        × (length (now (bytes .exit)) ≡ length (now (bytes .entry))) ⌝ }
 {
     let at = index / 8;
     bytes[at] = bytes[at] | (128 >> (index % 8));
 }
 
+// The first bit becomes a zero, and nothing else changes.
+pub fn clear_first(bytes: &mut [u8])
+    requires { ⌜ 0 < length (now bytes) ⌝ }
+    ensures { λ _. ⌜ (bits (now (bytes .exit)) ≡ set (bits (now (bytes .entry))) 0 false)
+        × (length (now (bytes .exit)) ≡ length (now (bytes .entry))) ⌝ }
+{
+    bytes[0] = bytes[0] & 0x7F;
+}
+
 // The field of 12 bits from bit `start` on becomes v, and nothing else changes.
 pub fn write12(bytes: &mut [u8], start: usize, v: usize)
     requires { ⌜ (start + 12 ≤ 8 * length (now bytes)) × (v < 4096) ⌝ }
-    ensures { λ _. ⌜ (bits (now (bytes .exit)) ≡ put 12 v (bits (now (bytes .entry))) start) × (length (now (bytes .exit)) ≡ length (now (bytes .entry))) ⌝ }
+    ensures { λ _. ⌜ (bits (now (bytes .exit)) ≡ put 12 v (bits (now (bytes .entry))) start)
+        × (length (now (bytes .exit)) ≡ length (now (bytes .entry))) ⌝ }
 {
     let first = start / 8;
     let off = start % 8;
@@ -131,4 +161,16 @@ pub fn write12(bytes: &mut [u8], start: usize, v: usize)
         bytes[next] = low_byte(y >> 8);
         bytes[last] = low_byte(y);
     }
+}
+
+// The two fields of 12 bits in the three bytes from byte `at` on become a and b, and nothing else changes.
+pub fn write_two(bytes: &mut [u8], at: usize, a: usize, b: usize)
+    requires { ⌜ (at + 3 ≤ length (now bytes)) × (a < 4096) × (b < 4096) ⌝ }
+    ensures { λ _. ⌜ (bits (now (bytes .exit)) ≡ put 12 b (put 12 a (bits (now (bytes .entry))) (8 * at)) (8 * at + 12))
+        × (length (now (bytes .exit)) ≡ length (now (bytes .entry))) ⌝ }
+{
+    let x = (a as u64) << 12 | (b as u64);
+    bytes[at] = low_byte(x >> 16);
+    bytes[at + 1] = low_byte(x >> 8);
+    bytes[at + 2] = low_byte(x);
 }

@@ -8,7 +8,8 @@ use native.Mathlib.Numerals.{add-one}
 use native.Mathlib.Omega.{arith}
 use lib.ListN.{length, take, drop, set, length-append, length-drop, take-append-drop}
 use lib.Pow.{pow-pos, high, low, shr-shr}
-use lib.Seq.{take-at, drop-at, take-add, take-take, drop-drop, drop-append-le, length-take-le, set-split}
+use lib.Seq.{take-at, drop-at, take-add, take-take, length-take-le}
+use lib.Seq.{drop-drop, drop-append-le, drop-append-add, set-split}
 use Rattle.bits.specs.Bits.{toBits, bit, value, field, put}
 use Rattle.bits.specs.Steps.{replace}
 use Rattle.bits.specs.Laws.Digits.{length-toBits, toBits-agree, toBits-append}
@@ -51,6 +52,27 @@ module _ (w v : ℕ) (s : List Bool) (start : ℕ) (h : start + w ≤ length s) 
       ∙ ap (drop (i - (start + w))) (drop-at a (drop (start + w) s) (start + w) la)
       ∙ drop-drop (i - (start + w)) (start + w) s
       ∙ ap (λ (n : ℕ). drop n s) (sym e))
+
+-- two fields put side by side
+pub put-beside : (w a u b : ℕ) (s : List Bool) (p : ℕ) → p + (w + u) ≤ length s
+    → put u b (put w a s p) (p + w) ≡ take p s ++ ((toBits w a ++ toBits u b) ++ drop (p + (w + u)) s)
+unfolding put
+put-beside w a u b s p h =
+    let front : List Bool = take p s ++ toBits w a in
+    let rest : List Bool = drop (p + w) s in
+    let lf : length front ≡ p + w =
+    rw (length-append (take p s) (toBits w a), length-take-le p s (omega arith), length-toBits w a) in
+    let e : p + w + u ≡ length front + u = omega arith in
+    let tail : drop (p + w + u) (front ++ rest) ≡ drop (p + (w + u)) s =
+    ap (λ (n : ℕ). drop n (front ++ rest)) e ∙ drop-append-add front rest u ∙ drop-drop u (p + w) s
+    ∙ ap (λ (n : ℕ). drop n s) (add-assoc p w u) in
+    rw (
+      ← append-assoc (take p s) (toBits w a) rest,
+      take-at front rest (p + w) lf,
+      tail,
+      append-assoc (take p s) (toBits w a) (toBits u b ++ drop (p + (w + u)) s),
+      append-assoc (toBits w a) (toBits u b) (drop (p + (w + u)) s),
+    )
 
 -- a field of one bit
 pub put-one : (b : Bool) (s : List Bool) (i : ℕ) → i < length s → put 1 (bit b) s i ≡ set s i b

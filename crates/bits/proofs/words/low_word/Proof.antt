@@ -1,5 +1,4 @@
 -- `words::low_word` meets its contract: the eight bytes from byte `at` on, joined from the last.
-use mathlib.Core.Path.{_∙_}
 use native.Mathlib.Omega.{arith}
 use Rattle.bits.proofs.Turned.{low-word}
 use borrow.Author.Needs.{needs}
@@ -57,7 +56,7 @@ join8-requires c κs = search needs
 returns : tie.Need-returns
 returns c =
     let args = c .before .before .before .before .before .before .before .before .before .before .args in
-    c .join8 .ensures ∙ low-word (args .bytes .now) (args .at) (omega arith)
+    low-word (args .bytes .now) (args .at) (omega arith) (c .join8 .ensures)
 
 pub low-word-spec : {M : Type 1} → statement M
 low-word-spec =

@@ -1,5 +1,4 @@
 -- `words::turned` meets its contract: its lowest bytes, joined from the lowest.
-use mathlib.Core.Path.{_∙_}
 use Rattle.bits.proofs.Turned.{turned-bytes}
 use borrow.Author.Needs.{needs}
 use Rattle.bits.proofs.words.turned.Statement.{statement}
@@ -43,7 +42,7 @@ returns c =
     let b7 = c .before .before .low-byte7 .ensures in
     let b8 = c .before .low-byte8 .ensures in
     let args = c .before .before .before .before .before .before .before .before .before .args in
-    c .join8 .ensures ∙ turned-bytes (args .x) b1 b2 b3 b4 b5 b6 b7 b8
+    turned-bytes (args .x) b1 b2 b3 b4 b5 b6 b7 b8 (c .join8 .ensures)
 
 pub turned-spec : {M : Type 1} → statement M
 turned-spec =
