@@ -1,3 +1,5 @@
 -- Laws that the answers of several functions share.
 pub mod Zeros
+pub mod Lowest
+pub mod Lifted
 pub mod Marked

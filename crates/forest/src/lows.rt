@@ -1,5 +1,6 @@
-// Lowpoints: for each vertex the least visit number that it and the vertices below it reach by a wire other than the way back to the parent.
-// On the way the way back itself is found: the first mention of the parent. All of it holds for any forest that the work slice shows.
+// Lowpoints: for each vertex the least visit number that it and the vertices below it reach by a wire other than the
+// way back to the parent. On the way the way back itself is found: the first mention of the parent. All of it holds for
+// any forest that the work slice shows.
 ghost use mathlib.Core.Path.{_≡_};
 ghost use Prim.Native.Nat.{_+_, _*_, _<_, _≤_, min};
 ghost use lib.ListN.{length, getD};
@@ -34,11 +35,13 @@ fn next_low(
     low: usize,
     back: usize,
 ) -> Low
-    requires { ⌜ (Room n s (now work)) × (Known n (now nbrs)) × (p < length (now nbrs)) × (length (now nbrs) ≤ 32768) ⌝ }
+    requires { ⌜
+        (Room n s (now work)) × (Known n (now nbrs)) × (p < length (now nbrs)) × (length (now nbrs) ≤ 32768)
+        ⌝ }
     requires { ⌜ (c < n) × (low < 65536) × (back < 65536) ⌝ }
     ensures { λ r. ⌜
-        LowStep c up p (getD (now (nbrs .entry)) p 0) (getD (now (work .entry)) (2 * s + getD (now (nbrs .entry)) p 0) 0)
-        low back (r .low) (r .back)
+        LowStep c up p (getD (now (nbrs .entry)) p 0)
+        (getD (now (work .entry)) (2 * s + getD (now (nbrs .entry)) p 0) 0) low back (r .low) (r .back)
         ⌝ }
     ensures { λ r. ⌜ (r .low < 65536) × (r .back < 65536) ⌝ }
 {
