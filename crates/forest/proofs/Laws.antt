@@ -3,3 +3,6 @@ pub mod Zeros
 pub mod Lowest
 pub mod Lifted
 pub mod Marked
+pub mod Listed
+pub mod Owned
+pub mod Bridged
