@@ -6,3 +6,4 @@ pub mod Marked
 pub mod Listed
 pub mod Owned
 pub mod Bridged
+pub mod Numbers
