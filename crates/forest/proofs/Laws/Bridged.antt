@@ -11,7 +11,7 @@ use Prim.Native.Nat.{ℕ, suc, _+_, _*_, _≤_, _<_}
 use native.Mathlib.Omega.{arith}
 use borrow.Author.Tests.{eq-eqb, eqb-true}
 use lib.Dec.{eqb}
-use lib.ListN.{length, getD, set, replicate, length-replicate}
+use lib.ListN.{length, getD, set, replicate}
 use Rattle.bits.specs.Bits.{bits, pack}
 use Rattle.bits.specs.Laws.Bytes.{AreBytes}
 use Rattle.bits.specs.Laws.Packing.{zero-bits}
@@ -30,10 +30,10 @@ use Rattle.graph.specs.Laws.Bridges.Lowpoints.{Lows, bridge-at-child, bridge-at
 use Rattle.forest.specs.Index.{sectionB}
 use Rattle.forest.specs.Steps.{Room}
 use Rattle.forest.specs.Lows.{Lifting, Lifts}
-use Rattle.forest.specs.Marks.{upTo, childEnd, bridgeMarks, marked, BridgeStep, parts, stays}
+use Rattle.forest.specs.Marks.{childEnd, bridgeMarks, marked, BridgeStep, parts, stays}
 use Rattle.forest.specs.Laws.Marking.{also}
 use Rattle.forest.proofs.Laws.Marked.{Sized, no-marks, bits-also, same-bits}
-use Rattle.forest.proofs.Laws.Marked.{Same, Own, owns-none, owns-two, upto-none, upto-all}
+use Rattle.forest.proofs.Laws.Marked.{Own, owns-none, owns-two, upto-none, upto-all}
 use Rattle.forest.proofs.Laws.Listed.{Owns, nothing, one, owns-below}
 use Rattle.forest.proofs.Laws.Owned.{entry-at, child-own, children-own, back-at, parent-own, parents-own}
 

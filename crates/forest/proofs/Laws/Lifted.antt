@@ -5,7 +5,7 @@
 --   lift-root, lift-child   the vertex of visit number k, where it has no parent and where it has one
 --   Swept         the vertices of visit number k and more are lifted
 --   swept-begin, swept-asks, swept-more, swept-end   before the last, before and after the next, and past the first
-use mathlib.Core.Path.{_≡_, refl, sym, ap, ap₂, subst, _∙_}
+use mathlib.Core.Path.{_≡_, refl, ap, subst, _∙_}
 use mathlib.Core.List.{List}
 use Prim.Native.Nat.{ℕ, zero, suc, _+_, _-_, _*_, _≤_, _<_, min}
 use native.Mathlib.Numerals.{add-one}
@@ -18,12 +18,12 @@ use Rattle.graph.specs.Forest.{vertexAt, parent}
 use Rattle.graph.specs.Laws.Tree.Entries.{parent-entered}
 use Rattle.graph.specs.Laws.Tree.Numbers.{vertex-entered}
 use Rattle.graph.specs.Laws.Tree.Climbs.{child-entry}
-use Rattle.graph.specs.Laws.Joined.Spanning.{Spanning, forest-length}
+use Rattle.graph.specs.Laws.Joined.Spanning.{forest-length}
 use Rattle.graph.specs.Laws.Bridges.Lowpoints.{Lows}
 use Rattle.graph.specs.Laws.Bridges.Sweep.{Least, sweep-begin, sweep-root, sweep-child}
 use Rattle.record.specs.Laws.Stores.{cell-same, cell-other}
 use Rattle.forest.specs.Steps.{Room, Searched}
-use Rattle.forest.specs.Lows.{Passed, LowAt, OwnLow, Lifting, Searches, Lifts, Lowers, LiftsOne}
+use Rattle.forest.specs.Lows.{LowAt, OwnLow, Lifting, Searches, Lifts, Lowers, LiftsOne}
 
 -- ---- the parts of the forest stay
 
@@ -31,20 +31,22 @@ record Stays (s : ℕ) (work next : List ℕ) : Type 0 where
   same-size : length next ≡ length work
   same-cells : (i : ℕ) → s ≤ i → i < 5 * s → getD next i 0 ≡ getD work i 0
 
+room-stays : {n s : ℕ} {work next : List ℕ} → length next ≡ length work → Room n s work → Room n s next
+room-stays e r = record {
+  some = r .some;
+  few = r .few;
+  apart = r .apart;
+  near = r .near;
+  size = let z = r .size in omega arith;
+}
+
 stays-searched : {g : Blocks} {F : Forest} {n s : ℕ} {work next : List ℕ} → Stays s work next → Searched g F n s work
     → Searched g F n s next
 stays-searched {n = n} {s = s} t a =
     let o = a .room .apart in
-    let b = t .same-size in
     record {
       spans = a .spans;
-      room = record {
-        some = a .room .some;
-        few = a .room .few;
-        apart = o;
-        near = a .room .near;
-        size = let z = a .room .size in omega arith;
-      };
+      room = room-stays (t .same-size) (a .room);
       visits = λ v h. t .same-cells (2 * s + v) (omega arith) (omega arith) ∙ a .visits v h;
       parents = λ v h. t .same-cells (s + v) (omega arith) (omega arith) ∙ a .parents v h;
       order = λ v h. t .same-cells (3 * s + v) (omega arith) (omega arith) ∙ a .order v h;
@@ -87,10 +89,7 @@ filled-begin g n s work =
 
 module _ {g : Blocks} {n s : ℕ} {work₀ work : List ℕ} {c : ℕ} (f : Filled g n s work₀ work c) where
   pub filled-room : Room n s work₀ → Room n s work
-  filled-room r =
-      let l = f .same-size in
-      let z = r .size in
-      record { some = r .some; few = r .few; apart = r .apart; near = r .near; size = omega arith }
+  filled-room r = room-stays (f .same-size) r
 
   -- its two cells are there
   pub filled-cells : Room n s work₀ → c < n → (5 * s + c < length work) × (c < length work)

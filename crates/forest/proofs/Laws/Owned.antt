@@ -3,10 +3,11 @@
 --   back-at, parent-own     a mark of P that c owns is the way back from c
 --   children-own, parents-own         the bit of the one that c owns, or 0
 --   children-listed, parents-listed   a list of those bits
+--   part-size, part-cell    a part of a list
 --   listed-children, listed-parents   the bytes that it leads to, where the list is a part of the work slice
 --   children-below, parents-below     and its bits are there
 use mathlib.Core.Path.{_≡_, refl, sym, ap, subst, _∙_}
-use mathlib.Core.Bool.{true, false}
+use mathlib.Core.Bool.{false}
 use mathlib.Core.List.{List, List·Memᴰ}
 use Prim.Native.Nat.{ℕ, zero, suc, _+_, _*_, _≤_, _<_}
 use native.Mathlib.Omega.{arith}

@@ -1,7 +1,6 @@
 -- `lows::own_low` meets its contract: before p every place is looked at.
 use Prim.Native.Nat.{_-_}
 use native.Mathlib.Omega.{arith}
-use borrow.Author.Needs.{needs}
 use Rattle.forest.proofs.Laws.Lowest.{LowTo, looked-begin, looked-asks, looked-more, looked-end}
 use Rattle.forest.proofs.lows.own_low.Statement.{statement}
 use Rattle.forest.proofs.lows.own_low.Tie as tie
