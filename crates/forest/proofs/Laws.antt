@@ -1,6 +1,4 @@
--- Laws that the answers of several functions share.
-pub mod Zeros
-pub mod Marked
+-- Laws about what the code computes: the search over the work slice, the lowpoints, the sections.
 pub mod Graphs
 pub mod Stores
 pub mod Entering
@@ -9,3 +7,12 @@ pub mod Passing
 pub mod Stepping
 pub mod Starting
 pub mod Begins
+pub mod Lowest
+pub mod Lifted
+pub mod Marked
+pub mod Listed
+pub mod Owned
+pub mod Bridged
+pub mod Numbers
+pub mod Fronts
+pub mod Building

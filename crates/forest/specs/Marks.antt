@@ -1,5 +1,6 @@
 -- What contracts say of a section of marks while it is written.
 --   markAll              bits with a one at each place of a list
+--   Below                each number of a list is below this
 --   upTo                 of the marks that have owners, those whose owner is below k
 --   childEnd             the owner of a mark of B: the child of the tree edge
 --   bridgeMarks, marked  B's marks of the vertices below k; the bytes of a section
@@ -9,7 +10,7 @@ use mathlib.Core.Bool.{Bool, true, false, _&&_}
 use mathlib.Core.List.{List, [], _∷_}
 use Prim.Native.Nat.{ℕ, _<_}
 use lib.Dec.{ltb}
-use lib.ListN.{set}
+use lib.ListN.{length, getD, set}
 use Rattle.bits.specs.Bits.{pack}
 use Rattle.graph.specs.Graph.{Blocks, target}
 use Rattle.graph.specs.Search.{Forest, PlaceTest}
@@ -21,6 +22,9 @@ use Rattle.forest.specs.Index.{section}
 unfoldable pub markAll : List ℕ → List Bool → List Bool
 markAll [] s = s
 markAll (i ∷ l) s = markAll l (set s i true)
+
+abbrev pub Below : ℕ → List ℕ → Type 0
+Below k list = (c : ℕ) → c < length list → getD list c 0 < k
 
 unfoldable pub upTo : PlaceTest → (ℕ → ℕ → ℕ) → ℕ → PlaceTest
 upTo mark owner k u j = mark u j && ltb (owner u j) k

@@ -1,4 +1,5 @@
 -- What Build answers, and the index buffer that it leaves (document 01, "Operations and their answers").
+use mathlib.Core.Path.{_≡_}
 use mathlib.Core.List.{List, [], _∷_, _++_}
 use Prim.Native.Nat.{ℕ, _*_}
 use lib.Dec.{ltb}
@@ -20,3 +21,8 @@ build bytes work index = tried (buildRules bytes work index) tt
 -- the index buffer afterwards
 unfoldable pub built : List ℕ → List ℕ → List ℕ → List ℕ
 built bytes work index = bufferAfter (buildRules bytes work index) (indexOf (blocks bytes)) index
+
+-- Build's answer, and the buffer that it leaves
+pub record BuildDone (bytes work index after : List ℕ) (answer : Answer (Unit {0})) : Type 0 where
+  pub told : answer ≡ build bytes work index
+  pub left : after ≡ built bytes work index

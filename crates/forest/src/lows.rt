@@ -1,13 +1,13 @@
-// Lowpoints: for each vertex the least visit number that it and the vertices below it reach by a wire other than the way back to the parent.
-// On the way the way back itself is found: the first mention of the parent. All of it holds for any forest that the work slice shows.
+// Lowpoints: for each vertex the least visit number that it and the vertices below it reach by a wire other than the
+// way back to the parent. On the way the way back itself is found: the first mention of the parent. All of it holds for
+// any forest that the work slice shows.
 ghost use mathlib.Core.Path.{_≡_};
 ghost use Prim.Native.Nat.{_+_, _*_, _<_, _≤_, min};
 ghost use lib.ListN.{length, getD};
-ghost use Rattle.graph.specs.Graph.{Blocks, block, WellFormed};
-ghost use Rattle.graph.specs.Search.{Forest};
+ghost use Rattle.graph.specs.Graph.{Blocks, WellFormed};
 ghost use Rattle.record.specs.Arrays.{cut, Arrays};
-ghost use Rattle.forest.specs.Steps.{Room, Known, Searched};
-ghost use Rattle.forest.specs.Lows.{LowStep, LowAt, Lifting, Searches, Lifts};
+ghost use Rattle.forest.specs.Steps.{Room, Known};
+ghost use Rattle.forest.specs.Lows.{LowStep, OwnLow, Lowers, LiftsOne, Searches, Lifts};
 use record::cells::get;
 use record::cells::put;
 
@@ -35,11 +35,13 @@ fn next_low(
     low: usize,
     back: usize,
 ) -> Low
-    requires { ⌜ (Room n s (now work)) × (Known n (now nbrs)) × (p < length (now nbrs)) × (length (now nbrs) ≤ 32768) ⌝ }
+    requires { ⌜
+        (Room n s (now work)) × (Known n (now nbrs)) × (p < length (now nbrs)) × (length (now nbrs) ≤ 32768)
+        ⌝ }
     requires { ⌜ (c < n) × (low < 65536) × (back < 65536) ⌝ }
     ensures { λ r. ⌜
-        LowStep c up p (getD (now (nbrs .entry)) p 0) (getD (now (work .entry)) (2 * s + getD (now (nbrs .entry)) p 0) 0)
-        low back (r .low) (r .back)
+        LowStep c up p (getD (now (nbrs .entry)) p 0)
+        (getD (now (work .entry)) (2 * s + getD (now (nbrs .entry)) p 0) 0) low back (r .low) (r .back)
         ⌝ }
     ensures { λ r. ⌜ (r .low < 65536) × (r .back < 65536) ⌝ }
 {
@@ -63,9 +65,7 @@ fn own_low(starts: &[u16], nbrs: &[u16], n: usize, s: usize, work: &[u16], c: us
     requires { λ g. ⌜ cut (now starts) (now nbrs) ≡ g ⌝ }
     requires { λ g. ⌜ (Arrays (now starts) (now nbrs)) × (WellFormed g) × (n + 1 ≡ length (now starts)) × (c < n) ⌝ }
     requires { λ g. ⌜ Room n s (now work) ⌝ }
-    ensures { λ g r. ⌜
-        (F : Forest) → Searched g F n s (now (work .entry)) → LowAt g F c (length (block g c)) (r .low) (r .back)
-        ⌝ }
+    ensures { λ g r. ⌜ OwnLow g n s (now (work .entry)) c (r .low) (r .back) ⌝ }
     ensures { λ g r. ⌜ (r .low < 65536) × (r .back < 65536) ⌝ }
 {
     let end = get(starts, c + 1);
@@ -88,9 +88,7 @@ fn own_lows(starts: &[u16], nbrs: &[u16], n: usize, s: usize, work: &mut [u16])
     requires { λ g. ⌜ cut (now starts) (now nbrs) ≡ g ⌝ }
     requires { λ g. ⌜ (Arrays (now starts) (now nbrs)) × (WellFormed g) × (n + 1 ≡ length (now starts)) ⌝ }
     requires { λ g. ⌜ Room n s (now work) ⌝ }
-    ensures { λ g _. ⌜
-        (F : Forest) → Searched g F n s (now (work .entry)) → Lifting g F n s (now (work .exit)) n
-        ⌝ }
+    ensures { λ g _. ⌜ Lowers g n s (now (work .entry)) (now (work .exit)) n ⌝ }
     ensures { λ g _. ⌜ length (now (work .exit)) ≡ length (now (work .entry)) ⌝ }
 {
     let mut c = 0;
@@ -107,9 +105,7 @@ fn lift(starts: &[u16], nbrs: &[u16], n: usize, s: usize, work: &mut [u16], k: u
     ghost { Blocks }
     requires { λ g. ⌜ cut (now starts) (now nbrs) ≡ g ⌝ }
     requires { λ g. ⌜ (length g ≡ n) × (k < n) × (Lifts g n s (now work) (k + 1)) ⌝ }
-    ensures { λ g _. ⌜
-        (F : Forest) → Lifting g F n s (now (work .entry)) (k + 1) → Lifting g F n s (now (work .exit)) k
-        ⌝ }
+    ensures { λ g _. ⌜ LiftsOne g n s (now (work .entry)) (now (work .exit)) k ⌝ }
     ensures { λ g _. ⌜ length (now (work .exit)) ≡ length (now (work .entry)) ⌝ }
 {
     let v = get(work, 3 * s + k);
@@ -127,9 +123,7 @@ pub fn lowpoints(starts: &[u16], nbrs: &[u16], n: usize, s: usize, work: &mut [u
     requires { λ g. ⌜ cut (now starts) (now nbrs) ≡ g ⌝ }
     requires { λ g. ⌜ (Arrays (now starts) (now nbrs)) × (WellFormed g) × (n + 1 ≡ length (now starts)) ⌝ }
     requires { λ g. ⌜ Searches g n s (now work) ⌝ }
-    ensures { λ g _. ⌜
-        (F : Forest) → Searched g F n s (now (work .entry)) → Lifting g F n s (now (work .exit)) 0
-        ⌝ }
+    ensures { λ g _. ⌜ Lowers g n s (now (work .entry)) (now (work .exit)) 0 ⌝ }
 {
     own_lows(starts, nbrs, n, s, work);
     let mut k = n;

@@ -1,9 +1,19 @@
--- The bytes of a section of marks: cleared, and with the marks of one more owner.
+-- The bits of a section of marks: without a mark, and with the marks of one more owner.
+--   Sized        k bytes are a section of marks of g, which has n vertices and 2·m places
+--   sized-cut    so it is for a graph in two arrays
+--   sized-bytes, sized-bits   that is, by the vertices and the places themselves
+--   bit-fits     the bit of a place is one of the section's
+--   no-marks     a section without marks is zeros
+--   bits-also    the bit of a place is set
+--   same-bits    bytes are the section where their bits are
+--   Same, Own    one place; a place has a mark that c owns
+--   owns-none, owns-one, owns-two   c owns no mark, one, or two
+--   upto-none, upto-all   no owner, and all
 use mathlib.Core.Path.{_≡_, refl, sym, ap, ap₂, _∙_}
 use mathlib.Core.Logic.{_⊎_, inl, inr, _↔_}
 use mathlib.Core.Bool.{Bool, true, false, _&&_, _||_}
 use mathlib.Core.List.{List, _++_, flatten}
-use Prim.Native.Nat.{ℕ, suc, _+_, _-_, _*_, _/_, _<_}
+use Prim.Native.Nat.{ℕ, suc, _+_, _-_, _*_, _/_, _≤_, _<_}
 use native.Mathlib.Decide.{ℕ-discrete}
 use native.Mathlib.Omega.{arith}
 use borrow.Author.Tests.{eq-eqb, eqb-true, ltb-true, lt-ltb}
@@ -12,67 +22,86 @@ use lib.ListN.{length, set, replicate, replicate-append-replicate}
 use lib.Seq.{set-append-left}
 use Rattle.bits.specs.Bits.{bits, pack}
 use Rattle.bits.specs.Laws.Bytes.{AreBytes}
-use Rattle.bits.specs.Laws.Packing.{length-pack, bits-pack, zero-bits, pack-bytes, bits-injective}
-use Rattle.graph.specs.Graph.{Blocks, block, Place}
+use Rattle.bits.specs.Laws.Packing.{bits-pack, pack-bytes, bits-injective}
+use Rattle.graph.specs.Graph.{Blocks, block}
 use Rattle.graph.specs.Search.{PlaceTest}
 use Rattle.graph.specs.Laws.Places.Basics.{same-outcome, or-cases, or-left, or-right, and-parts, and-both, clash}
-use Rattle.graph.specs.Laws.Places.Pairing.{source}
+use Rattle.graph.specs.Laws.Places.Pairing.{place-at, source}
+use Rattle.record.specs.Arrays.{cut, Divided}
+use Rattle.record.specs.Laws.Parts.{length-cut}
 use Rattle.forest.specs.Index.{section, markBytes}
 use Rattle.forest.specs.Marks.{upTo, marked}
 use Rattle.forest.specs.Laws.Sections.{placeBit, start-more, start-most, length-section, section-same}
+use Rattle.forest.specs.Laws.Starts.{places-cut}
 use Rattle.forest.specs.Laws.Marking.{none, section-none, also, section-also}
 
--- ---- where the bit of a place stands
+-- ---- bits
 
-module _ {g : Blocks} {u j v : ℕ} (p : Place g u j v) where
-  bit-fits : placeBit g u j < length g + length (flatten g)
-  bit-fits = let h = source p in let k = p .fits in let a = start-more g u h in let b = start-most g (suc u) in omega arith
+pub bit-fits : (g : Blocks) (u j : ℕ) → j < length (block g u) → placeBit g u j < length g + length (flatten g)
+bit-fits g u j h =
+    let i = source (place-at {g = g} {u = u} h) in
+    let a = start-more g u i in
+    let b = start-most g (suc u) in
+    omega arith
 
-  in-section : (test : PlaceTest) → placeBit g u j < length (section test g)
-  in-section test = let e = length-section test g in let f = bit-fits in omega arith
-
-  pub in-bytes : {bit : ℕ} {bytes : List ℕ} (test : PlaceTest) → bytes ≡ marked g test → bit ≡ placeBit g u j → bit < 8 * length bytes
-  in-bytes test is at = let l = length-pack (section test g) in let f = in-section test in let e = ap length is in omega arith
-
--- the zero bits after s in its last byte
+-- the zero bits after k others in the last byte
 abbrev fill : ℕ → List Bool
 fill k = replicate (8 * ((k + 7) / 8) - k) false
 
--- ---- bytes without marks, and with one mark more
+pub record Sized (g : Blocks) (n m k : ℕ) : Type 0 where
+  pub vertices : length g ≡ n
+  pub places : length (flatten g) ≡ 2 * m
+  pub bytes : k ≡ markBytes n m
 
-pub cleared : (g : Blocks) (m : ℕ) {bytes : List ℕ} → length (flatten g) ≡ 2 * m → AreBytes bytes → bytes ≡ replicate (markBytes (length g) m) 0 → bytes ≡ marked g none
-unfolding markBytes
-cleared g m {bytes} even are e =
-    let k : ℕ = length g + 2 * m in
-    let l : length (section none g) ≡ k = length-section none g ∙ ap (λ (x : ℕ). length g + x) even in
-    let s : section none g ≡ replicate k false = section-none g ∙ ap (λ (x : ℕ). replicate (length g + x) false) even in
-    let r : 8 * ((k + 7) / 8) ≡ k + (8 * ((k + 7) / 8) - k) = omega arith in
-    bits-injective bytes (marked g none) are (pack-bytes (section none g))
-    (ap bits e ∙ zero-bits ((k + 7) / 8) ∙ ap (λ (x : ℕ). replicate x false) r
-    ∙ sym (replicate-append-replicate k (8 * ((k + 7) / 8) - k) false)
-    ∙ sym (bits-pack (section none g) ∙ ap₂ (λ (x : List Bool) (y : ℕ). x ++ fill y) s l))
+module _ {g : Blocks} {n m k : ℕ} (z : Sized g n m k) where
+  pub sized-bytes : k ≡ (length g + length (flatten g) + 7) / 8
+  unfolding markBytes
+  sized-bytes = let a = z .vertices in let b = z .places in z .bytes ∙ ap (λ (x : ℕ). (x + 7) / 8) (omega arith)
 
--- the bit of a place is set
-put-bits : {g : Blocks} {u j v : ℕ} (test : PlaceTest) → Place g u j v → set (bits (marked g test)) (placeBit g u j) true ≡ bits (marked g (also test u j))
-put-bits {g} {u} {j} test p =
-    let l : length (section test g) ≡ length (section (also test u j) g) = length-section test g ∙ sym (length-section (also test u j) g) in
+  -- there is room for all bits
+  pub sized-bits : length g + length (flatten g) ≤ 8 * k
+  sized-bits = let e = sized-bytes in omega arith
+
+-- as a graph in two arrays has it
+pub sized-cut : (starts nbrs : List ℕ) {n m k : ℕ}
+    → Divided starts nbrs × (n + 1 ≡ length starts) × (length nbrs ≡ 2 * m) → k ≡ markBytes n m
+    → Sized (cut starts nbrs) n m k
+sized-cut starts nbrs d e = record {
+  vertices = let l = length-cut starts nbrs in let q = d .1 in omega arith;
+  places = places-cut (d .0) ∙ d .2;
+  bytes = e;
+}
+
+pub no-marks : {g : Blocks} {n m k : ℕ} → Sized g n m k → replicate (8 * k) false ≡ bits (marked g none)
+no-marks {g} {k = k} z =
+    let e = sized-bytes z in
+    let l : ℕ = length g + length (flatten g) in
+    let r : 8 * k ≡ l + (8 * ((l + 7) / 8) - l) = omega arith in
+    ap (λ (x : ℕ). replicate x false) r
+    ∙ sym (replicate-append-replicate l (8 * ((l + 7) / 8) - l) false)
+    ∙ sym (bits-pack (section none g)
+    ∙ ap₂ (λ (x : List Bool) (y : ℕ). x ++ fill y) (section-none g) (length-section none g))
+
+pub bits-also : (g : Blocks) (test : PlaceTest) (u j : ℕ) → j < length (block g u)
+    → set (bits (marked g test)) (placeBit g u j) true ≡ bits (marked g (also test u j))
+bits-also g test u j h =
+    let l : length (section test g) ≡ length (section (also test u j) g) =
+    length-section test g ∙ sym (length-section (also test u j) g) in
+    let f : placeBit g u j < length (section test g) =
+    let b = bit-fits g u j h in let e = length-section test g in omega arith in
     ap (λ (x : List Bool). set x (placeBit g u j) true) (bits-pack (section test g))
-    ∙ set-append-left (section test g) (fill (length (section test g))) (placeBit g u j) true (in-section p test)
-    ∙ ap₂ (λ (x : List Bool) (y : ℕ). x ++ fill y) (section-also test g u j (source p) (p .fits)) l
+    ∙ set-append-left (section test g) (fill (length (section test g))) (placeBit g u j) true f
+    ∙ ap₂ (λ (x : List Bool) (y : ℕ). x ++ fill y) (section-also test g u j (source (place-at {g = g} {u = u} h)) h) l
     ∙ sym (bits-pack (section (also test u j) g))
 
-pub mark-put : {g : Blocks} {u j v bit : ℕ} {bytes next : List ℕ} (test : PlaceTest) → Place g u j v → bytes ≡ marked g test → bit ≡ placeBit g u j
-    → AreBytes next → bits next ≡ set (bits bytes) bit true → next ≡ marked g (also test u j)
-mark-put {g} {u} {j} {v} {bit} {bytes} {next} test p is at are e =
-    bits-injective next (marked g (also test u j)) are (pack-bytes (section (also test u j) g))
-    (e ∙ ap₂ (λ (x : List ℕ) (y : ℕ). set (bits x) y true) is at ∙ put-bits test p)
+pub same-bits : (g : Blocks) (test : PlaceTest) {bytes : List ℕ} → AreBytes bytes → bits bytes ≡ bits (marked g test)
+    → bytes ≡ marked g test
+same-bits g test {bytes} are e = bits-injective bytes (marked g test) are (pack-bytes (section test g)) e
 
-pub mark-two : {g : Blocks} {u j v w k y d b : ℕ} {bytes next : List ℕ} (test : PlaceTest) → Place g u j v → Place g w k y → bytes ≡ marked g test
-    → d ≡ placeBit g u j → b ≡ placeBit g w k → AreBytes next → bits next ≡ set (set (bits bytes) d true) b true → next ≡ marked g (also (also test u j) w k)
-mark-two {g} {u} {j} {v} {w} {k} {y} {d} {b} {bytes} {next} test p q is at at-2 are e =
-    let first : set (bits bytes) d true ≡ bits (marked g (also test u j)) = ap₂ (λ (x : List ℕ) (i : ℕ). set (bits x) i true) is at ∙ put-bits test p in
-    bits-injective next (marked g (also (also test u j) w k)) are (pack-bytes (section (also (also test u j) w k) g))
-    (e ∙ ap₂ (λ (x : List Bool) (i : ℕ). set x i true) first at-2 ∙ put-bits (also test u j) q)
+-- two tests that pass at the same places
+same-marks : (g : Blocks) (a b : PlaceTest)
+    → ((x i : ℕ) → x < length g → i < length (block g x) → (a x i ≡ true) ↔ (b x i ≡ true)) → marked g a ≡ marked g b
+same-marks g a b h = ap pack (section-same a b g (λ x i k l. same-outcome (a x i) (b x i) (h x i k l)))
 
 -- ---- the marks of one more owner
 
@@ -87,7 +116,10 @@ also-true test u j x i = (there, back)
   where
     there : ((eqb x u && eqb i j) || test x i) ≡ true → Same x i u j ⊎ (test x i ≡ true)
     there e = elim (or-cases (eqb x u && eqb i j) (test x i) e) [
-      | inl a ↦ inl (let (p, q) = and-parts (eqb x u) (eqb i j) a in record { vertex = eqb-true x u p; position = eqb-true i j q })
+      | inl a ↦ inl (
+          let (p, q) = and-parts (eqb x u) (eqb i j) a in
+          record { vertex = eqb-true x u p; position = eqb-true i j q }
+          )
       | inr b ↦ inr b
     ]
 
@@ -100,73 +132,95 @@ pub record Own (mark : PlaceTest) (owner : ℕ → ℕ → ℕ) (c x i : ℕ) : 
   pub is-marked : mark x i ≡ true
   pub owned : owner x i ≡ c
 
-upto-true : (mark : PlaceTest) (owner : ℕ → ℕ → ℕ) (k x i : ℕ) → (upTo mark owner k x i ≡ true) ↔ ((mark x i ≡ true) × (owner x i < k))
+upto-true : (mark : PlaceTest) (owner : ℕ → ℕ → ℕ) (k x i : ℕ)
+    → (upTo mark owner k x i ≡ true) ↔ ((mark x i ≡ true) × (owner x i < k))
 unfolding upTo
 upto-true mark owner k x i = (
   λ e. (let (a, b) = and-parts (mark x i) (ltb (owner x i) k) e in (a, ltb-true (owner x i) k b)),
   λ h. and-both (h .0) (lt-ltb (owner x i) k (h .1)),
 )
 
+-- c owns it, or an owner before c
+abbrev Upto : PlaceTest → (ℕ → ℕ → ℕ) → ℕ → ℕ → ℕ → Type 0
+Upto mark owner c x i = Own mark owner c x i ⊎ (upTo mark owner c x i ≡ true)
+
 module _ (g : Blocks) (mark : PlaceTest) (owner : ℕ → ℕ → ℕ) (c : ℕ) where
   -- a test that passes at those places too
-  upto-more : (test : PlaceTest) → ((x i : ℕ) → x < length g → i < length (block g x) → (test x i ≡ true) ↔ (Own mark owner c x i ⊎ (upTo mark owner c x i ≡ true)))
+  upto-more : (test : PlaceTest)
+      → ((x i : ℕ) → x < length g → i < length (block g x) → (test x i ≡ true) ↔ Upto mark owner c x i)
       → marked g test ≡ marked g (upTo mark owner (c + 1))
-  upto-more test h = ap pack (section-same test (upTo mark owner (c + 1)) g (λ x i a b. same-outcome (test x i) (upTo mark owner (c + 1) x i) (
+  upto-more test h = same-marks g test (upTo mark owner (c + 1)) (λ x i a b. (
     λ e. there x i (h x i a b .0 e),
     λ e. h x i a b .1 (back x i e (ℕ-discrete (owner x i) c)),
-  )))
-    where
-      there : (x i : ℕ) → Own mark owner c x i ⊎ (upTo mark owner c x i ≡ true) → upTo mark owner (c + 1) x i ≡ true
-      there x i (inl o) = let q = o .owned in upto-true mark owner (c + 1) x i .1 (o .is-marked, omega arith)
-      there x i (inr e) = let (a, b) = upto-true mark owner c x i .0 e in upto-true mark owner (c + 1) x i .1 (a, omega arith)
-
-      back : (x i : ℕ) → upTo mark owner (c + 1) x i ≡ true → Dec (owner x i ≡ c) → Own mark owner c x i ⊎ (upTo mark owner c x i ≡ true)
-      back x i e (yes q) = inl (record { is-marked = upto-true mark owner (c + 1) x i .0 e .0; owned = q })
-      back x i e (no d) = let (a, b) = upto-true mark owner (c + 1) x i .0 e in inr (upto-true mark owner c x i .1 (a, omega arith))
-
-  -- c owns no mark, one, or two
-  pub owns-none : ((x i : ℕ) → i < length (block g x) → Own mark owner c x i → ⊥) → marked g (upTo mark owner c) ≡ marked g (upTo mark owner (c + 1))
-  owns-none h = upto-more (upTo mark owner c) (λ x i a b. (λ e. inr e, λ s. elim s [ inl o ↦ absurd (h x i b o) | inr e ↦ e ]))
-
-  pub owns-one : {u j : ℕ} → Own mark owner c u j → ((x i : ℕ) → i < length (block g x) → Own mark owner c x i → Same x i u j)
-      → marked g (also (upTo mark owner c) u j) ≡ marked g (upTo mark owner (c + 1))
-  owns-one {u} {j} o h = upto-more (also (upTo mark owner c) u j) (λ x i a b. (
-    λ e. elim (also-true (upTo mark owner c) u j x i .0 e) [ inl s ↦ inl (rw (s .vertex, s .position) o) | inr q ↦ inr q ],
-    λ s. also-true (upTo mark owner c) u j x i .1 (elim s [ inl q ↦ inl (h x i b q) | inr e ↦ inr e ]),
   ))
+    where
+      there : (x i : ℕ) → Upto mark owner c x i → upTo mark owner (c + 1) x i ≡ true
+      there x i (inl o) = let q = o .owned in upto-true mark owner (c + 1) x i .1 (o .is-marked, omega arith)
+      there x i (inr e) =
+          let (a, b) = upto-true mark owner c x i .0 e in
+          upto-true mark owner (c + 1) x i .1 (a, omega arith)
+
+      back : (x i : ℕ) → upTo mark owner (c + 1) x i ≡ true → Dec (owner x i ≡ c) → Upto mark owner c x i
+      back x i e (yes q) = inl (record { is-marked = upto-true mark owner (c + 1) x i .0 e .0; owned = q })
+      back x i e (no d) =
+          let (a, b) = upto-true mark owner (c + 1) x i .0 e in
+          inr (upto-true mark owner c x i .1 (a, omega arith))
+
+  pub owns-none : ((x i : ℕ) → i < length (block g x) → Own mark owner c x i → ⊥)
+      → marked g (upTo mark owner c) ≡ marked g (upTo mark owner (c + 1))
+  owns-none h =
+      upto-more (upTo mark owner c) (λ x i a b. (λ e. inr e, λ s. elim s [ inl o ↦ absurd (h x i b o) | inr e ↦ e ]))
+
+  pub owns-one : {u j : ℕ} → Own mark owner c u j
+      → ((x i : ℕ) → i < length (block g x) → Own mark owner c x i → Same x i u j)
+      → marked g (also (upTo mark owner c) u j) ≡ marked g (upTo mark owner (c + 1))
+  owns-one {u} {j} o h = upto-more (also (upTo mark owner c) u j) (λ x i a b. (there x i, λ s. back x i b s))
+    where
+      there : (x i : ℕ) → also (upTo mark owner c) u j x i ≡ true → Upto mark owner c x i
+      there x i e = elim (also-true (upTo mark owner c) u j x i .0 e) [
+        | inl s ↦ inl (rw (s .vertex, s .position) o)
+        | inr q ↦ inr q
+      ]
+
+      back : (x i : ℕ) → i < length (block g x) → Upto mark owner c x i → also (upTo mark owner c) u j x i ≡ true
+      back x i b s = also-true (upTo mark owner c) u j x i .1 (elim s [ inl q ↦ inl (h x i b q) | inr e ↦ inr e ])
 
   pub owns-two : {u j w k : ℕ} → Own mark owner c u j → Own mark owner c w k
       → ((x i : ℕ) → i < length (block g x) → Own mark owner c x i → Same x i u j ⊎ Same x i w k)
       → marked g (also (also (upTo mark owner c) u j) w k) ≡ marked g (upTo mark owner (c + 1))
-  owns-two {u} {j} {w} {k} o p h = upto-more test (λ x i a b. (there x i, λ s. back x i b s))
+  owns-two {u} {j} {w} {k} o p h = upto-more (also first w k) (λ x i a b. (there x i, λ s. back x i b s))
     where
-      test : PlaceTest
-      test = also (also (upTo mark owner c) u j) w k
+      first : PlaceTest
+      first = also (upTo mark owner c) u j
 
-      there : (x i : ℕ) → test x i ≡ true → Own mark owner c x i ⊎ (upTo mark owner c x i ≡ true)
-      there x i e = elim (also-true (also (upTo mark owner c) u j) w k x i .0 e) [
+      there : (x i : ℕ) → also first w k x i ≡ true → Upto mark owner c x i
+      there x i e = elim (also-true first w k x i .0 e) [
         | inl s ↦ inl (rw (s .vertex, s .position) p)
-        | inr q ↦ elim (also-true (upTo mark owner c) u j x i .0 q) [ inl s ↦ inl (rw (s .vertex, s .position) o) | inr t ↦ inr t ]
+        | inr q ↦ elim (also-true (upTo mark owner c) u j x i .0 q) [
+          | inl s ↦ inl (rw (s .vertex, s .position) o)
+          | inr t ↦ inr t
+        ]
       ]
 
-      back : (x i : ℕ) → i < length (block g x) → Own mark owner c x i ⊎ (upTo mark owner c x i ≡ true) → test x i ≡ true
-      back x i b (inr e) = also-true (also (upTo mark owner c) u j) w k x i .1 (inr (also-true (upTo mark owner c) u j x i .1 (inr e)))
-      back x i b (inl q) = also-true (also (upTo mark owner c) u j) w k x i .1 (elim (h x i b q) [
+      back : (x i : ℕ) → i < length (block g x) → Upto mark owner c x i → also first w k x i ≡ true
+      back x i b (inr e) = also-true first w k x i .1 (inr (also-true (upTo mark owner c) u j x i .1 (inr e)))
+      back x i b (inl q) = also-true first w k x i .1 (elim (h x i b q) [
         | inl s ↦ inr (also-true (upTo mark owner c) u j x i .1 (inl s))
         | inr s ↦ inl s
       ])
 
 -- ---- no owner, and all
 
-pub upto-none : (g : Blocks) (mark : PlaceTest) (owner : ℕ → ℕ → ℕ) → marked g none ≡ marked g (upTo mark owner 0)
-upto-none g mark owner = ap pack (section-same none (upTo mark owner 0) g (λ x i a b. same-outcome (none x i) (upTo mark owner 0 x i) (
-  λ e. absurd (clash e refl),
-  λ e. (let (p, q) = upto-true mark owner 0 x i .0 e in absurd (omega arith)),
-)))
+module _ (g : Blocks) (mark : PlaceTest) (owner : ℕ → ℕ → ℕ) where
+  pub upto-none : marked g none ≡ marked g (upTo mark owner 0)
+  upto-none = same-marks g none (upTo mark owner 0) (λ x i a b. (
+    λ e. absurd (clash e refl),
+    λ e. (let (p, q) = upto-true mark owner 0 x i .0 e in absurd (omega arith)),
+  ))
 
-pub upto-all : (g : Blocks) (mark : PlaceTest) (owner : ℕ → ℕ → ℕ) {k : ℕ} → ((x i : ℕ) → x < length g → i < length (block g x) → owner x i < k)
-    → marked g (upTo mark owner k) ≡ marked g mark
-upto-all g mark owner {k} h = ap pack (section-same (upTo mark owner k) mark g (λ x i a b. same-outcome (upTo mark owner k x i) (mark x i) (
-  λ e. upto-true mark owner k x i .0 e .0,
-  λ e. upto-true mark owner k x i .1 (e, h x i a b),
-)))
+  pub upto-all : {k : ℕ} → ((x i : ℕ) → x < length g → i < length (block g x) → owner x i < k)
+      → marked g (upTo mark owner k) ≡ marked g mark
+  upto-all {k} h = same-marks g (upTo mark owner k) mark (λ x i a b. (
+    λ e. upto-true mark owner k x i .0 e .0,
+    λ e. upto-true mark owner k x i .1 (e, h x i a b),
+  ))

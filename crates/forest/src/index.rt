@@ -1,0 +1,97 @@
+// The index of a graph in two arrays: search, lowpoints, and the sections, written one after the other.
+ghost use mathlib.Core.Path.{_≡_};
+ghost use Prim.Native.Nat.{_+_, _*_, _≤_, _<_};
+ghost use lib.ListN.{length};
+ghost use Rattle.graph.specs.Graph.{Blocks, WellFormed};
+ghost use Rattle.record.specs.Arrays.{cut, Arrays, Divided};
+ghost use Rattle.forest.specs.Index.{indexOf, indexBy, numberBytes, indexLength};
+ghost use Rattle.forest.specs.Steps.{stride as strideOf};
+ghost use Rattle.forest.specs.Lows.{Lifting};
+ghost use Rattle.forest.specs.Fronts.{forestOf, Ready, Begins, upToE, upToP, upToB};
+use super::marks::mark_bridges;
+use super::marks::mark_listed;
+use super::numbers::write_numbers;
+
+// Section E, in the front of the buffer. The arrays stand here for the contract only.
+fn write_e(starts: &[u16], nbrs: &[u16], n: usize, m: usize, s: usize, work: &[u16], index: &mut [u8], k: usize)
+    ghost { Blocks }
+    requires { λ g. ⌜ cut (now starts) (now nbrs) ≡ g ⌝ }
+    requires { λ g. ⌜ (Ready g (forestOf g n) n m s (now work) k) × (k ≤ length (now index)) ⌝ }
+    ensures { λ g _. ⌜ (Begins (upToE g (forestOf g n)) (now (index .exit))) × (length (now (index .exit)) ≡ length (now (index .entry))) ⌝ }
+{
+    let from = 4 * s;
+    let to = from + n;
+    mark_listed(&work[from..to], &mut index[..k]);
+}
+
+// Section P, behind E. The arrays stand here for the contract only.
+fn write_p(starts: &[u16], nbrs: &[u16], n: usize, m: usize, s: usize, work: &[u16], index: &mut [u8], k: usize)
+    ghost { Blocks }
+    requires { λ g. ⌜ cut (now starts) (now nbrs) ≡ g ⌝ }
+    requires { λ g. ⌜ (Ready g (forestOf g n) n m s (now work) k) × (2 * k ≤ length (now index)) ⌝ }
+    requires { λ g. ⌜ Begins (upToE g (forestOf g n)) (now index) ⌝ }
+    ensures { λ g _. ⌜ (Begins (upToP g (forestOf g n)) (now (index .exit))) × (length (now (index .exit)) ≡ length (now (index .entry))) ⌝ }
+{
+    mark_listed(&work[..n], &mut index[k..2 * k]);
+}
+
+// Section B, behind P.
+fn write_b(starts: &[u16], nbrs: &[u16], n: usize, m: usize, s: usize, work: &[u16], index: &mut [u8], k: usize)
+    ghost { Blocks }
+    requires { λ g. ⌜ cut (now starts) (now nbrs) ≡ g ⌝ }
+    requires { λ g. ⌜ (Ready g (forestOf g n) n m s (now work) k) × (3 * k ≤ length (now index)) ⌝ }
+    requires { λ g. ⌜ (Divided (now starts) (now nbrs)) × (Begins (upToP g (forestOf g n)) (now index)) ⌝ }
+    ensures { λ g _. ⌜ (Begins (upToB g (forestOf g n)) (now (index .exit))) × (length (now (index .exit)) ≡ length (now (index .entry))) ⌝ }
+{
+    mark_bridges(starts, nbrs, n, m, s, work, &mut index[2 * k..3 * k]);
+}
+
+// The visit numbers, to the end. The arrays stand here for the contract only.
+fn write_rest(starts: &[u16], nbrs: &[u16], n: usize, m: usize, s: usize, work: &[u16], index: &mut [u8], k: usize)
+    ghost { Blocks }
+    requires { λ g. ⌜ cut (now starts) (now nbrs) ≡ g ⌝ }
+    requires { λ g. ⌜ (Ready g (forestOf g n) n m s (now work) k) × (length (now index) ≡ 3 * k + numberBytes n) ⌝ }
+    requires { λ g. ⌜ Begins (upToB g (forestOf g n)) (now index) ⌝ }
+    ensures { λ g _. ⌜ now (index .exit) ≡ indexBy g (forestOf g n) ⌝ }
+{
+    let from = 2 * s;
+    let to = from + n;
+    write_numbers(&work[from..to], &mut index[3 * k..]);
+}
+
+// The four sections, each in the part of the buffer that is its own.
+fn write_sections(starts: &[u16], nbrs: &[u16], n: usize, m: usize, s: usize, work: &[u16], index: &mut [u8])
+    ghost { Blocks }
+    requires { λ g. ⌜ cut (now starts) (now nbrs) ≡ g ⌝ }
+    requires { λ g. ⌜ (Divided (now starts) (now nbrs)) × (n + 1 ≡ length (now starts)) × (length (now nbrs) ≡ 2 * m) ⌝ }
+    requires { λ g. ⌜ (WellFormed g) × (Lifting g (forestOf g n) n s (now work) 0) × (length (now index) ≡ indexLength n m) ⌝ }
+    ensures { λ g _. ⌜ now (index .exit) ≡ indexBy g (forestOf g n) ⌝ }
+{
+    let k = super::lengths::mark_bytes(n, m);
+    write_e(starts, nbrs, n, m, s, work, index, k);
+    write_p(starts, nbrs, n, m, s, work, index, k);
+    write_b(starts, nbrs, n, m, s, work, index, k);
+    write_rest(starts, nbrs, n, m, s, work, index, k);
+}
+
+// How far one part of the work slice stands behind the other.
+fn stride(n: usize) -> usize
+    requires { ⌜ n ≤ 4096 ⌝ }
+    ensures { λ r. ⌜ r ≡ strideOf n ⌝ }
+{
+    n + n / 16
+}
+
+// Searches the graph and writes its index. What the work slice and the buffer hold before does not matter.
+pub fn write_index(starts: &[u16], nbrs: &[u16], n: usize, m: usize, work: &mut [u16], index: &mut [u8])
+    ghost { Blocks }
+    requires { λ g. ⌜ cut (now starts) (now nbrs) ≡ g ⌝ }
+    requires { λ g. ⌜ (Arrays (now starts) (now nbrs)) × (n + 1 ≡ length (now starts)) × (length (now nbrs) ≡ 2 * m) ⌝ }
+    requires { λ g. ⌜ (WellFormed g) × (0 < n) × (8 * n ≤ length (now work)) × (length (now index) ≡ indexLength n m) ⌝ }
+    ensures { λ g _. ⌜ now (index .exit) ≡ indexOf g ⌝ }
+{
+    let s = stride(n);
+    super::search::search(starts, nbrs, n, s, work);
+    super::lows::lowpoints(starts, nbrs, n, s, work);
+    write_sections(starts, nbrs, n, m, s, work, index);
+}
