@@ -13,7 +13,16 @@ use super::marks::mark_listed;
 use super::numbers::write_numbers;
 
 // Section E, in the front of the buffer. The arrays stand here for the contract only.
-fn write_e(starts: &[u16], nbrs: &[u16], n: usize, m: usize, s: usize, work: &[u16], index: &mut [u8], k: usize)
+fn write_e(
+    starts: &[u16],
+    nbrs: &[u16],
+    n: usize,
+    m: usize,
+    s: usize,
+    work: &[u16],
+    index: &mut [u8],
+    k: usize,
+)
     ghost { Blocks }
     requires { λ g. ⌜ cut (now starts) (now nbrs) ≡ g ⌝ }
     requires { λ g. ⌜ (Ready g (forestOf g n) n m s (now work) k) × (k ≤ length (now index)) ⌝ }
@@ -25,7 +34,16 @@ fn write_e(starts: &[u16], nbrs: &[u16], n: usize, m: usize, s: usize, work: &[u
 }
 
 // Section P, behind E. The arrays stand here for the contract only.
-fn write_p(starts: &[u16], nbrs: &[u16], n: usize, m: usize, s: usize, work: &[u16], index: &mut [u8], k: usize)
+fn write_p(
+    starts: &[u16],
+    nbrs: &[u16],
+    n: usize,
+    m: usize,
+    s: usize,
+    work: &[u16],
+    index: &mut [u8],
+    k: usize,
+)
     ghost { Blocks }
     requires { λ g. ⌜ cut (now starts) (now nbrs) ≡ g ⌝ }
     requires { λ g. ⌜ (Ready g (forestOf g n) n m s (now work) k) × (2 * k ≤ length (now index)) ⌝ }
@@ -36,7 +54,16 @@ fn write_p(starts: &[u16], nbrs: &[u16], n: usize, m: usize, s: usize, work: &[u
 }
 
 // Section B, behind P.
-fn write_b(starts: &[u16], nbrs: &[u16], n: usize, m: usize, s: usize, work: &[u16], index: &mut [u8], k: usize)
+fn write_b(
+    starts: &[u16],
+    nbrs: &[u16],
+    n: usize,
+    m: usize,
+    s: usize,
+    work: &[u16],
+    index: &mut [u8],
+    k: usize,
+)
     ghost { Blocks }
     requires { λ g. ⌜ cut (now starts) (now nbrs) ≡ g ⌝ }
     requires { λ g. ⌜ (Ready g (forestOf g n) n m s (now work) k) × (3 * k ≤ length (now index)) ⌝ }
@@ -47,7 +74,16 @@ fn write_b(starts: &[u16], nbrs: &[u16], n: usize, m: usize, s: usize, work: &[u
 }
 
 // The visit numbers, to the end. The arrays stand here for the contract only.
-fn write_rest(starts: &[u16], nbrs: &[u16], n: usize, m: usize, s: usize, work: &[u16], index: &mut [u8], k: usize)
+fn write_rest(
+    starts: &[u16],
+    nbrs: &[u16],
+    n: usize,
+    m: usize,
+    s: usize,
+    work: &[u16],
+    index: &mut [u8],
+    k: usize,
+)
     ghost { Blocks }
     requires { λ g. ⌜ cut (now starts) (now nbrs) ≡ g ⌝ }
     requires { λ g. ⌜ (Ready g (forestOf g n) n m s (now work) k) × (length (now index) ≡ 3 * k + numberBytes n) ⌝ }
@@ -60,7 +96,15 @@ fn write_rest(starts: &[u16], nbrs: &[u16], n: usize, m: usize, s: usize, work: 
 }
 
 // The four sections, each in the part of the buffer that is its own.
-fn write_sections(starts: &[u16], nbrs: &[u16], n: usize, m: usize, s: usize, work: &[u16], index: &mut [u8])
+fn write_sections(
+    starts: &[u16],
+    nbrs: &[u16],
+    n: usize,
+    m: usize,
+    s: usize,
+    work: &[u16],
+    index: &mut [u8],
+)
     ghost { Blocks }
     requires { λ g. ⌜ cut (now starts) (now nbrs) ≡ g ⌝ }
     requires { λ g. ⌜ (Divided (now starts) (now nbrs)) × (n + 1 ≡ length (now starts)) × (length (now nbrs) ≡ 2 * m) ⌝ }
@@ -83,7 +127,14 @@ fn stride(n: usize) -> usize
 }
 
 // Searches the graph and writes its index. What the work slice and the buffer hold before does not matter.
-pub fn write_index(starts: &[u16], nbrs: &[u16], n: usize, m: usize, work: &mut [u16], index: &mut [u8])
+pub fn write_index(
+    starts: &[u16],
+    nbrs: &[u16],
+    n: usize,
+    m: usize,
+    work: &mut [u16],
+    index: &mut [u8],
+)
     ghost { Blocks }
     requires { λ g. ⌜ cut (now starts) (now nbrs) ≡ g ⌝ }
     requires { λ g. ⌜ (Arrays (now starts) (now nbrs)) × (n + 1 ≡ length (now starts)) × (length (now nbrs) ≡ 2 * m) ⌝ }

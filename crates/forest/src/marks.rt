@@ -4,6 +4,7 @@ ghost use mathlib.Core.Bool.{false};
 ghost use Prim.Native.Nat.{_+_, _*_, _<_};
 ghost use lib.ListN.{length, getD, set, replicate};
 ghost use Rattle.bits.specs.Bits.{bits, pack};
+ghost use Rattle.bits.specs.Laws.Bytes.{AreBytes};
 ghost use Rattle.graph.specs.Graph.{Blocks, WellFormed};
 ghost use Rattle.record.specs.Arrays.{cut, Divided};
 ghost use Rattle.forest.specs.Index.{sectionB, markBytes};
@@ -24,6 +25,7 @@ pub fn mark_listed(list: &[u16], section: &mut [u8])
         ≡ set (markAll (now (list .entry)) (replicate (8 * length (now (section .entry))) false)) 0 false
         ⌝ }
     ensures { λ _. ⌜ length (now (section .exit)) ≡ length (now (section .entry)) ⌝ }
+    ensures { λ _. ⌜ AreBytes (now (section .exit)) ⌝ }
 {
     clear(section);
     let mut c = 0;

@@ -10,7 +10,15 @@ use record::Verdict;
 use record::arrays::check_arrays;
 
 // The lengths of the work slice and of the buffer, and then the index, for an accepted record and its two arrays.
-fn build_from(bytes: &[u8], n: usize, m: usize, work: &mut [u16], index: &mut [u8], starts: &[u16], nbrs: &[u16]) -> Verdict
+fn build_from(
+    bytes: &[u8],
+    n: usize,
+    m: usize,
+    work: &mut [u16],
+    index: &mut [u8],
+    starts: &[u16],
+    nbrs: &[u16],
+) -> Verdict
     requires { ⌜ (Accepted (now bytes)) × (ArraysOf (now bytes) (now starts) (now nbrs) n m) ⌝ }
     ensures { λ r. ⌜ BuildDone (now (bytes .entry)) (now (work .entry)) (now (index .entry)) (now (index .exit)) (verdict r) ⌝ }
 {
@@ -164,7 +172,14 @@ fn in_full(bytes: &[u8], n: usize, m: usize, work: &mut [u16], index: &mut [u8])
 }
 
 // The room for the record's size, tried from room k on. The function calls itself, so that the rooms are not laid out in its own frame.
-pub fn in_room(bytes: &[u8], n: usize, m: usize, work: &mut [u16], index: &mut [u8], k: usize) -> Verdict
+pub fn in_room(
+    bytes: &[u8],
+    n: usize,
+    m: usize,
+    work: &mut [u16],
+    index: &mut [u8],
+    k: usize,
+) -> Verdict
     requires { ⌜ Laid (now bytes) n m ⌝ }
     ensures { λ r. ⌜ BuildDone (now (bytes .entry)) (now (work .entry)) (now (index .entry)) (now (index .exit)) (verdict r) ⌝ }
 {

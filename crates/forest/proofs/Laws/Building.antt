@@ -2,23 +2,26 @@
 use mathlib.Core.Path.{_≡_, refl, sym, ap, ap₂, _∙_}
 use mathlib.Core.Bool.{not}
 use mathlib.Core.List.{List, [], _∷_, flatten}
-use Prim.Native.Nat.{ℕ, suc, _*_, _≤_, _<_}
+use Prim.Native.Nat.{ℕ, suc, _+_, _*_, _≤_, _<_}
 use native.Mathlib.Omega.{arith}
 use borrow.Author.Tests.{eq-eqb, ne-eqb, lt-ltb, le-ltb}
 use lib.Dec.{ltb}
 use lib.ListN.{length}
-use Rattle.graph.specs.Graph.{Blocks}
+use Rattle.graph.specs.Graph.{Blocks, WellFormed}
 use Rattle.graph.specs.Search.{forest}
 use Rattle.record.specs.Record.{terminals, wires, blocks}
-use Rattle.record.specs.Rules.{Rule, firstBroken, checkRules}
-use Rattle.record.specs.Answers.{refused, answered, tried, sizesOf}
-use Rattle.record.specs.Operations.{otherLength}
-use Rattle.record.specs.Steps.{Sound}
+use Rattle.record.specs.Rules.{Rule, firstBroken, layoutRules, checkRules}
+use Rattle.record.specs.Answers.{refused, answered, tried}
+use Rattle.record.specs.Arrays.{cut, Arrays}
+use Rattle.record.specs.Operations.{otherLength, Accepted}
+use Rattle.record.specs.Steps.{Sound, ArraysOf}
 use Rattle.record.specs.Laws.First.{first-broken, first-kept, append-kept, append-broken, check-numbered}
 use Rattle.record.specs.Laws.Sounded.{sound-vertices, sound-all}
-use Rattle.record.specs.Laws.Told.{told, untold, told-back, buffer-kept, buffer-written}
+use Rattle.record.specs.Laws.Told.{told, untold, told-back, told-append, buffer-kept, buffer-written}
+use Rattle.record.specs.Laws.Sound.{accepted-well-formed}
+use Rattle.record.specs.Laws.Unpacked.{graph-of, starts-of, nbrs-of, arrays-of}
 use Rattle.forest.specs.Index.{markBytes, numberBytes, indexOf, indexLength}
-use Rattle.forest.specs.Operations.{buildRules, build, built}
+use Rattle.forest.specs.Operations.{buildRules, build, built, BuildDone}
 use Rattle.forest.specs.Laws.Bytes.{length-index}
 
 -- ---- the empty record
@@ -96,3 +99,43 @@ module _ (bytes work index : List ℕ) where
           let f : firstBroken (buildRules bytes work index) ≡ 0 =
           index-told ∙ first-kept 10 [] (ap not (eq-eqb (length index) (indexLength (terminals bytes) (wires bytes)) (h ∙ same-length))) in
           (untold tt f, e ∙ buffer-written (buildRules bytes work index) (indexOf (blocks bytes)) index f)
+
+-- ---- in the words of the code
+
+module _ {bytes work index : List ℕ} where
+  pub done-refused : {A : Type 0} (a : A) {k : ℕ} → refused k ≡ tried (checkRules bytes) a → BuildDone bytes work index index (refused k)
+  done-refused a e = let (t, l) = build-refused bytes work index a e in record { told = t; left = l }
+
+  -- order R or rule 5 refuses
+  pub done-unread : {A : Type 0} (a : A) {k : ℕ} → refused k ≡ tried (layoutRules bytes) a → BuildDone bytes work index index (refused k)
+  unfolding checkRules
+  done-unread a e = done-refused a (told-append (layoutRules bytes) _ a a e)
+
+  module _ {starts nbrs : List ℕ} {n m : ℕ} (a : Accepted bytes) (r : ArraysOf bytes starts nbrs n m) where
+    pub done-short : length work < 8 * n → BuildDone bytes work index index (refused 9)
+    done-short h =
+        let (t, l) = build-short bytes work index (a .unbroken) (r .sound .is-n) (r .sound .is-m) h in
+        record { told = t; left = l }
+
+    module _ (enough : 8 * n ≤ length work) where
+      pub done-misfit : (length index ≡ indexLength n m → ⊥) → BuildDone bytes work index index (refused 10)
+      done-misfit h =
+          let (t, l) = build-misfit bytes work index (a .unbroken) (r .sound .is-n) (r .sound .is-m) enough h in
+          record { told = t; left = l }
+
+      module _ (sized : length index ≡ indexLength n m) where
+        done : {next : List ℕ} → next ≡ indexOf (blocks bytes) → BuildDone bytes work index next (answered tt)
+        done e =
+            let (t, l) = build-done bytes work index (a .unbroken) (r .sound .is-n) (r .sound .is-m) enough sized e in
+            record { told = t; left = l }
+
+        pub done-empty : n ≡ 0 → BuildDone bytes work index index (answered tt)
+        done-empty z = done (empty-index (r .sound) z sized)
+
+        pub done-written : {next : List ℕ} → next ≡ indexOf (cut starts nbrs) → BuildDone bytes work index next (answered tt)
+        done-written e = done (e ∙ ap indexOf (graph-of r))
+
+-- what the index is written from
+pub write-asked : {bytes starts nbrs : List ℕ} {n m : ℕ} → Accepted bytes → ArraysOf bytes starts nbrs n m
+    → ((Arrays starts nbrs) × (n + 1 ≡ length starts) × (length nbrs ≡ 2 * m)) × WellFormed (cut starts nbrs)
+write-asked a r = ((arrays-of r a, sym (starts-of r), nbrs-of r), rw (graph-of r) (accepted-well-formed a))

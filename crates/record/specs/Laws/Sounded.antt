@@ -16,7 +16,7 @@ use Rattle.record.specs.Record.{terminals, wires, usedBits, recordLength
 use Rattle.record.specs.Starts.{startsOf}
 use Rattle.record.specs.Rules.{firstBroken, orderR, spareSet, layoutRules, checkRules}
 use Rattle.record.specs.Answers.{answered, tried, sizesOf}
-use Rattle.record.specs.Operations.{Accepted}
+use Rattle.record.specs.Operations.{Accepted, check}
 use Rattle.record.specs.Steps.{Sound, Laid}
 use Rattle.record.specs.declared.Sizes.{Sizes}
 use Rattle.record.specs.Laws.First.{Shaped, shaped, both-kept, rule-kept, order-numbered, layout-numbered}
@@ -56,6 +56,11 @@ unfolding checkRules layoutRules
 accepted-sound {bytes} a =
     let (l, _) = both-kept (layout-numbered bytes) _ (a .unbroken) in
     sound-of bytes (both-kept (order-numbered bytes) _ l .0) refl refl
+
+-- Check lets the record pass
+pub check-accepted : {bytes : List ℕ} → answered tt ≡ check bytes → Accepted bytes
+unfolding check
+check-accepted {bytes} e = record { unbroken = untold-back (firstBroken (checkRules bytes)) tt e .0 }
 
 -- the sizes that Check hands on
 module _ (bytes : List ℕ) {s : Sizes} (e : answered s ≡ tried (checkRules bytes) (sizesOf bytes)) where

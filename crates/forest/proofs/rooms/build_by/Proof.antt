@@ -1,0 +1,95 @@
+-- `rooms::build_by` meets its contract: Check first.
+use borrow.Author.Needs.{needs}
+use mathlib.Core.Path.{sym, ap, _∙_}
+use Rattle.record.specs.Answers.{verdict}
+use Rattle.record.specs.Operations.{check}
+use Rattle.record.specs.Laws.Sounded.{check-accepted}
+use Rattle.forest.proofs.Laws.Building.{done-refused}
+use Rattle.forest.proofs.rooms.build_by.Statement.{statement}
+use Rattle.forest.proofs.rooms.build_by.Tie as tie
+
+check-arrays-requires : tie.Need-check-arrays-requires
+check-arrays-requires c κs = search needs
+
+enum-known-r : tie.Need-enum-known-r
+enum-known-r c = search needs
+
+enum-told : tie.Need-enum-told
+enum-told c = search needs
+
+build-from-requires : tie.Need-build-from-requires
+build-from-requires c κs = (check-accepted (sym (ap verdict (c .before .before .before .before .enum-told .given .1)) ∙ c .before .before .before .before .before .before .before .before .before .before .before .before .before .before .before .before .before .before .check-arrays .ensures .0), c .before .before .before .before .before .before .before .before .before .before .before .before .before .before .before .before .before .before .check-arrays .ensures .1)
+
+same-length : tie.Need-same-length
+same-length c = search needs
+
+same-length-2 : tie.Need-same-length-2
+same-length-2 c = search needs
+
+same-length-3 : tie.Need-same-length-3
+same-length-3 c = search needs
+
+same-length-4 : tie.Need-same-length-4
+same-length-4 c = search needs
+
+same-length-5 : tie.Need-same-length-5
+same-length-5 c = search needs
+
+same-length-6 : tie.Need-same-length-6
+same-length-6 c = search needs
+
+returns : tie.Need-returns
+unfolding check
+returns c = done-refused tt (sym (ap verdict (c .before .r .given .1)) ∙ c .before .before .before .before .before .before .before .before .before .before .before .before .before .before .before .check-arrays .ensures .0)
+
+same-length-7 : tie.Need-same-length-7
+same-length-7 c = search needs
+
+same-length-8 : tie.Need-same-length-8
+same-length-8 c = search needs
+
+same-length-9 : tie.Need-same-length-9
+same-length-9 c = search needs
+
+same-length-10 : tie.Need-same-length-10
+same-length-10 c = search needs
+
+same-length-11 : tie.Need-same-length-11
+same-length-11 c = search needs
+
+same-length-12 : tie.Need-same-length-12
+same-length-12 c = search needs
+
+same-length-13 : tie.Need-same-length-13
+same-length-13 c = search needs
+
+same-length-14 : tie.Need-same-length-14
+same-length-14 c = search needs
+
+returns-2 : tie.Need-returns-2
+returns-2 c = search needs
+
+pub build-by-spec : {M : Type 1} → statement M
+build-by-spec =
+    tie.close
+    (tie.spec
+    check-arrays-requires
+    enum-known-r
+    enum-told
+    build-from-requires
+    same-length
+    same-length-2
+    same-length-3
+    same-length-4
+    same-length-5
+    same-length-6
+    returns
+    same-length-7
+    same-length-8
+    same-length-9
+    same-length-10
+    same-length-11
+    same-length-12
+    same-length-13
+    same-length-14
+    returns-2)
