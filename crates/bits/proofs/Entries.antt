@@ -8,11 +8,11 @@ use lib.ListN.{getD}
 use Rattle.bits.specs.Bits.{toBits, onesAt, select}
 
 -- f at each number from i on, n of them
-abbrev tabulate : (ℕ → ℕ) → ℕ → ℕ → List ℕ
+abbrev pub tabulate : (ℕ → ℕ) → ℕ → ℕ → List ℕ
 tabulate f i zero = []
 tabulate f i (suc n) = f i ∷ tabulate f (suc i) n
 
-tabulate-at : (f : ℕ → ℕ) (i n k : ℕ) → k < n → getD (tabulate f i n) k 0 ≡ f (i + k)
+pub tabulate-at : (f : ℕ → ℕ) (i n k : ℕ) → k < n → getD (tabulate f i n) k 0 ≡ f (i + k)
 tabulate-at f i zero k h = absurd (not-suc-le-zero h)
 tabulate-at f i (suc n) zero h = ap f (sym (add-zero i))
 tabulate-at f i (suc n) (suc k) h =

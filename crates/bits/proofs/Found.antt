@@ -77,14 +77,17 @@ module _ {bytes : List ℕ} {at b : ℕ} (byte : IsByte bytes at b) where
     pub found-within : (limit t : ℕ) → t ≡ select (toBits 8 b) left → within limit (8 * at + t) ≡ select (take limit (bits bytes)) k
     found-within limit t e = rw (e, ← found) (sym (select-take (bits bytes) limit k))
 
--- the k-th one of a string inside a byte, with zeros before it
-pub found-inside : (s : List Bool) (off k : ℕ) → off + length s ≡ 8 → 1 ≤ k → k ≤ count s → select (toBits 8 (value s)) k ≡ off + select s k
+-- the k-th one of a string inside n bits, with zeros before it
+pub found-inside : (n : ℕ) (s : List Bool) (off k : ℕ) → off + length s ≡ n → 1 ≤ k → k ≤ count s
+    → select (toBits n (value s)) k ≡ off + select s k
 unfolding ones
-found-inside s off k e h l =
+found-inside n s off k e h l =
     let z : toBits off (value s / 2 ^ length s) ≡ toBits off 0 = ap (toBits off) (div-eq-of-lt (value-lt s)) in
-    let c : count (toBits off 0) ≡ 0 = sym (ones-value (toBits off 0)) ∙ ap ones (value-toBits off 0 ∙ zero-mod (2 ^ off)) in
+    let c : count (toBits off 0) ≡ 0 =
+    sym (ones-value (toBits off 0)) ∙ ap ones (value-toBits off 0 ∙ zero-mod (2 ^ off)) in
     let d : k - count (toBits off 0) ≡ k = omega arith in
-    let w : toBits 8 (value s) ≡ toBits off 0 ++ s = rw (← e, toBits-append off (length s) (value s), z, toBits-value (length s) s refl) in
+    let w : toBits n (value s) ≡ toBits off 0 ++ s =
+    rw (← e, toBits-append off (length s) (value s), z, toBits-value (length s) s refl) in
     let r : select (toBits off 0 ++ s) k ≡ length (toBits off 0) + select s (k - count (toBits off 0)) =
     select-right (toBits off 0) s k (omega arith) (omega arith) in
     ap (λ (t : List Bool). select t k) w ∙ r ∙ rw (d, length-toBits off 0)

@@ -70,7 +70,8 @@ module _ {bytes : List ℕ} {start b : ℕ} (rest : IsRest bytes start b) where
     unfolding own field
     place =
         let l = length-own in
-        table ∙ ap (λ (x : ℕ). select (toBits 8 x) k) (rest .same) ∙ found-inside own (start % 8) k (omega arith) some (rw ones-own at few)
+        table ∙ ap (λ (x : ℕ). select (toBits 8 x) k) (rest .same)
+        ∙ found-inside 8 own (start % 8) k (omega arith) some (rw ones-own at few)
 
     pub rest-bounds : (start % 8 < t) × (t ≤ 8)
     rest-bounds =

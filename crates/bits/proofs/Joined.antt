@@ -7,6 +7,7 @@ use native.Mathlib.Decide.{decLe}
 use native.Mathlib.Nat.{add-mul, add-zero, mul-assoc, mod-eq-of-lt, one-mul}
 use native.Mathlib.Numerals.{add-one, add-two, towards-suc}
 use native.Mathlib.Omega.{arith}
+use lib.Bits.{bitAnd, and-mask}
 use lib.Dec.{lit<}
 use lib.ListN.{length, take, drop, getD, replicate, length-append}
 use lib.Pow.{pow-lt, pow-add, high, shr-shr, ones-split, ones-lt}
@@ -122,6 +123,10 @@ short-field bytes f n k e h l =
 -- the mask (1 << w) - 1, at 64 bits
 pub shifted-one : (w : ℕ) → w < 64 → 1 * 2 ^ w % 2 ^ 64 ≡ 2 ^ w
 shifted-one w h = rw (one-mul (2 ^ w)) (mod-eq-of-lt (pow-lt h))
+
+-- and a number masked by it
+pub masked : (x w : ℕ) → w < 64 → bitAnd x (1 * 2 ^ w % 2 ^ 64 - 1) ≡ x % 2 ^ w
+masked x w h = rw (shifted-one w h) (and-mask x w)
 
 -- a field at the end of bits that start with its first byte
 pub field-masked : (bytes : List ℕ) (start w : ℕ) → start + w ≤ 8 * length bytes

@@ -5,4 +5,7 @@ pub mod Tops
 pub mod Stored
 pub mod Entries
 pub mod Found
+pub mod Halves
+pub mod Windows
+pub mod Passes
 pub mod FromBit

@@ -6,3 +6,4 @@ pub mod Puts
 pub mod Packing
 pub mod Rank
 pub mod Select
+pub mod Spans

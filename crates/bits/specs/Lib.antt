@@ -1,5 +1,6 @@
 -- Bit strings: the definitions that the contracts cite, the laws about them, and worked examples.
 pub mod Bits
 pub mod Steps
+pub mod Spans
 pub mod Laws
 mod Examples

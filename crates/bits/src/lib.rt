@@ -11,6 +11,7 @@ mod table; // table.rt: the place of the k-th one of a byte
 mod search; // search.rt: the place of the k-th one of a string that its bytes hold
 pub mod fields; // fields.rt: bits and fields, read and written
 pub mod ones; // ones.rt: the highest one of a number
+pub mod spans; // spans.rt: the k-th one of a string, what lies between it and the next, and the only one
 
 // Whether `len` bytes hold `places` bits from bit `start` on.
 fn holds(len: usize, start: usize, places: usize) -> bool
