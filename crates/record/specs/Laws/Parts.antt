@@ -1,13 +1,32 @@
 -- D cuts a list into blocks: where the blocks start, and what stands in each.
+--   length-starts  a start for each one of D, and the end
+--   length-parts   a part for each one of D
+--   starts-first   the first start is past the zeros before the first one
+--   starts-rise    no start is past the next
+--   starts-fit     no start is past the zeros
+--   starts-last    all zeros stand before the last
+--   start-last     the same of D's starts
+--   start-select   a start, by the place of its one in D
+--   start-next     the next start, by the place of the next one in D
+--   length-cut     a part for each start but the last
+--   cut-block      the part between a start and the next
+--   zeros-none     no zero stands before the first one
+--   start-first    so the first start is 0
+--   cut-parts      the parts by D are those between its starts
+--   part-block     a block stands from its start up to the next
+--   length-block   and has as many numbers
 use mathlib.Core.Path.{_≡_, refl, sym, ap, _∙_}
 use mathlib.Core.Bool.{Bool, true, false}
 use mathlib.Core.List.{List, [], _∷_}
 use Prim.Native.Nat.{ℕ, zero, suc, _+_, _-_, _≤_, _<_}
+use native.Mathlib.Decide.{decLt}
 use native.Mathlib.Numerals.{add-one}
 use native.Mathlib.Omega.{arith}
+use borrow.Author.Tests.{lt-ltb, le-ltb}
 use lib.ListN.{length, take, drop, getD, length-drop}
 use lib.Seq.{drop-drop, length-take-le}
 use Rattle.bits.specs.Bits.{count, onesAt, select}
+use Rattle.bits.specs.Spans.{nextOne}
 use Rattle.bits.specs.Laws.Rank.{count-le}
 use Rattle.graph.specs.Graph.{Blocks, block}
 use Rattle.graph.specs.Laws.Places.Basics.{clash}
@@ -81,6 +100,23 @@ start-last d = omega (arith, starts-last 0 d)
 pub start-select : (d : List Bool) (u : ℕ) → u < count d → getD (startsOf d) u 0 + (u + 1) ≡ select d (u + 1)
 unfolding select
 start-select d u h = rw (add-one u) (let r = starts-onesAt 0 1 d u h in omega arith)
+
+-- the next start stands before the next one, or at the end
+pub start-next : (d : List Bool) (u : ℕ) → u < count d → getD (startsOf d) (u + 1) 0 + (u + 1) ≡ nextOne d (u + 1)
+unfolding nextOne
+start-next d u h = go (decLt (u + 1) (count d))
+  where
+    go : Dec (u + 1 < count d) → getD (startsOf d) (u + 1) 0 + (u + 1) ≡ nextOne d (u + 1)
+    go (yes l) =
+        let e = start-select d (u + 1) l in
+        let f : nextOne d (u + 1) ≡ select d (u + 1 + 1) - 1 =
+        rw (lt-ltb (u + 1) (count d) l, nextOne, add-one (u + 1)) in
+        omega arith
+    go (no l) =
+        let e : u + 1 ≡ count d = omega arith in
+        let f : nextOne d (u + 1) ≡ length d = rw (le-ltb (u + 1) (count d) (omega arith), nextOne) in
+        let g = ap (λ (k : ℕ). getD (startsOf d) k 0) e in
+        omega (arith, start-last d)
 
 -- ---- the parts between the starts
 

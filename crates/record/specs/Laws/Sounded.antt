@@ -9,6 +9,7 @@ use lib.ListN.{length, take, drop, getD, length-drop}
 use lib.Seq.{take-all}
 use borrow.Author.Tests.{le-leb}
 use Rattle.bits.specs.Bits.{bits, field, string, count, rank, select}
+use Rattle.bits.specs.Spans.{nextOne, SpanOf}
 use Rattle.bits.specs.Laws.Rank.{held, rank-inside}
 use Rattle.bits.specs.Laws.Bytes.{length-bits}
 use Rattle.bits.specs.Laws.Fields.{field-part}
@@ -20,7 +21,7 @@ use Rattle.record.specs.Operations.{Accepted}
 use Rattle.record.specs.Steps.{Sound}
 use Rattle.record.specs.declared.Sizes.{Sizes}
 use Rattle.record.specs.Laws.First.{Shaped, shaped, both-kept, order-numbered}
-use Rattle.record.specs.Laws.Parts.{start-select}
+use Rattle.record.specs.Laws.Parts.{start-select, start-next}
 use Rattle.record.specs.Laws.Told.{untold-back}
 use Rattle.record.specs.Laws.Layout.{length-fields, fields-at, used-held, length-unary, length-blocks, starts-end}
 use Rattle.record.specs.Laws.RoundTrip.{flatten-blocks}
@@ -82,11 +83,29 @@ module _ {bytes : List ℕ} {n m : ℕ} (s : Sound bytes n m) where
   pub sound-all : length (flatten (blocks bytes)) ≡ 2 * m
   sound-all = ap length (flatten-blocks sound-shaped) ∙ length-fields bytes ∙ ap (λ (x : ℕ). 2 * x) (sym (s .is-m))
 
+  -- D stands from bit 28 on
+  unary-held : unary bytes ≡ take (n + 2 * m) (drop 28 (bits bytes))
+  unary-held =
+      let f = s .held in
+      unary-is ∙ held bytes 28 (n + 2 * m) (le-leb (28 + (n + 2 * m)) (8 * length bytes) (omega arith))
+
   -- a part of D
   pub sound-part : (w i : ℕ) → i + w ≤ n + 2 * m → field w (bits bytes) (28 + i) ≡ field w (unary bytes) i
-  sound-part w i h =
-      let d = unary-is ∙ held bytes 28 (n + 2 * m) (le-leb (28 + (n + 2 * m)) (8 * length bytes) (let f = s .held in omega arith)) in
-      rw d (sym (field-part w i (n + 2 * m) 28 (bits bytes) h))
+  sound-part w i h = rw unary-held (sym (field-part w i (n + 2 * m) 28 (bits bytes) h))
+
+  -- the one of a block
+  pub sound-one : {v : ℕ} → v < n → v + 1 ≤ count (take (n + 2 * m) (drop 28 (bits bytes)))
+  sound-one h = let e = ap count unary-held in omega (arith, sound-ones)
+
+  -- what lies between it and the next
+  pub sound-span : {v from to : ℕ} → v < n → SpanOf (take (n + 2 * m) (drop 28 (bits bytes))) (v + 1) from to
+      → (from ≡ getD (startsOf (unary bytes)) v 0 + (v + 1)) × (to ≡ getD (startsOf (unary bytes)) (v + 1) 0 + (v + 1))
+  sound-span {v} h e =
+      let d = unary-held in
+      let c : v < count (unary bytes) = omega (arith, sound-ones) in
+      let from = e .begins ∙ ap (λ t. select t (v + 1)) (sym d) ∙ sym (start-select (unary bytes) v c) in
+      let to = e .ends ∙ ap (λ t. nextOne t (v + 1)) (sym d) ∙ sym (start-next (unary bytes) v c) in
+      (from, to)
 
   -- the end of the last block, and where another starts
   pub sound-end : {v : ℕ} → v ≡ n → 2 * m ≡ getD (startsOf (unary bytes)) v 0
