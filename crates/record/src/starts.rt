@@ -59,17 +59,6 @@ pub fn fill_starts(bytes: &[u8], n: usize, m: usize, starts: &mut [u16])
     put(starts, k, i - k);
 }
 
-// Where block v starts, v counted from 0 and up to n for the end of the last block.
-pub fn start_of(bytes: &[u8], n: usize, m: usize, v: usize) -> usize
-    requires { ⌜ (Sound (now bytes) n m) × (v ≤ n) ⌝ }
-    ensures { λ r. ⌜ r ≡ getD (startsOf (unary (now (bytes .entry)))) v 0 ⌝ }
-{
-    if v == n {
-        return 2 * m;
-    }
-    bits::select(bytes, 28, n + 2 * m, v + 1) - (v + 1)
-}
-
 // The places of D between the one of block v, v counted from 0, and the next.
 pub fn span_of(bytes: &[u8], n: usize, m: usize, v: usize) -> bits::spans::Span
     requires { ⌜ (Sound (now bytes) n m) × (v < n) ⌝ }

@@ -136,6 +136,10 @@ module _ (w : View) where
 
 -- ---- the block of u, whose fields are those from a up to b
 
+-- a start, by the place of its one in D
+pub start-less : (k : ℕ) {x s : ℕ} → x ≡ s + k → x - k ≡ s
+start-less k e = omega arith
+
 -- its numbers are small
 pub block-room : {bytes index : List ℕ} {n m v a b : ℕ} → Beside bytes index n m → Ranged n v
     → a ≡ getD (startsOf (unary bytes)) (v - 1) 0 → b ≡ getD (startsOf (unary bytes)) (v - 1 + 1) 0

@@ -23,7 +23,7 @@ use Rattle.record.specs.declared.Sizes.{Sizes}
 use Rattle.record.specs.Laws.First.{Shaped, shaped, both-kept, order-numbered}
 use Rattle.record.specs.Laws.Parts.{start-select, start-next}
 use Rattle.record.specs.Laws.Told.{untold-back}
-use Rattle.record.specs.Laws.Layout.{length-fields, fields-at, used-held, length-unary, length-blocks, starts-end}
+use Rattle.record.specs.Laws.Layout.{length-fields, fields-at, used-held, length-unary, length-blocks}
 use Rattle.record.specs.Laws.RoundTrip.{flatten-blocks}
 
 pub sound-of : (bytes : List ℕ) {n m : ℕ} → firstBroken (orderR bytes) ≡ 0 → n ≡ terminals bytes → m ≡ wires bytes → Sound bytes n m
@@ -106,17 +106,6 @@ module _ {bytes : List ℕ} {n m : ℕ} (s : Sound bytes n m) where
       let from = e .begins ∙ ap (λ t. select t (v + 1)) (sym d) ∙ sym (start-select (unary bytes) v c) in
       let to = e .ends ∙ ap (λ t. nextOne t (v + 1)) (sym d) ∙ sym (start-next (unary bytes) v c) in
       (from, to)
-
-  -- the end of the last block, and where another starts
-  pub sound-end : {v : ℕ} → v ≡ n → 2 * m ≡ getD (startsOf (unary bytes)) v 0
-  sound-end e =
-      let f = s .is-m in
-      let g = ap (λ (k : ℕ). getD (startsOf (unary bytes)) k 0) (e ∙ s .is-n) in
-      omega (arith, starts-end sound-shaped)
-
-  pub sound-start : {v r : ℕ} → v < n → r ≡ select (string bytes 28 (n + 2 * m)) (v + 1) → r ≡ getD (startsOf (unary bytes)) v 0 + (v + 1)
-  sound-start {v} h e =
-      e ∙ ap (λ t. select t (v + 1)) (sym unary-is) ∙ sym (start-select (unary bytes) v (omega (arith, sound-ones)))
 
   -- a field
   pub sound-field : (p : ℕ) → p < 2 * m → field 12 (bits bytes) (28 + (n + 2 * m) + 12 * p) ≡ getD (fields bytes) p 0
