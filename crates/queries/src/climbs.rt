@@ -51,7 +51,8 @@ pub fn step_up(bytes: &[u8], index: &[u8], n: usize, m: usize, u: usize, a: usiz
         × (b ≡ getD (startsOf (unary (now bytes))) (u + 1) 0) ⌝ }
     ensures { λ r. ⌜
         stepOf r
-        ≡ stepUp (blocks (now (bytes .entry))) (blockMarks (now (bytes .entry)) (sectionOf n m (now (index .entry)) 1)) u
+        ≡ stepUp (blocks (now (bytes .entry)))
+        (blockMarks (now (bytes .entry)) (sectionOf n m (now (index .entry)) 1)) u
         ⌝ }
 {
     let from = a + u + 1;

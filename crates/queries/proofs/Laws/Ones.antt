@@ -31,17 +31,20 @@ module _ (s : List Bool) (from k : ℕ) (h : from + k ≤ length s) where
   part-bit i l = getD-take k (drop from s) i false l ∙ getD-drop from s i false
 
 -- one bit further
-pub count-next : (t : List Bool) (i : ℕ) → i < length t → count (take (i + 1) t) ≡ count (take i t) + bit (getD t i false)
+pub count-next : (t : List Bool) (i : ℕ) → i < length t
+    → count (take (i + 1) t) ≡ count (take i t) + bit (getD t i false)
 unfolding count
 count-next t i h =
-    ap (λ (x : ℕ). count (take x t)) (add-one i) ∙ ap count (take-suc t i false h) ∙ count-append (take i t) (getD t i false ∷ [])
+    ap (λ (x : ℕ). count (take x t)) (add-one i) ∙ ap count (take-suc t i false h)
+    ∙ count-append (take i t) (getD t i false ∷ [])
     ∙ ap (λ (x : ℕ). count (take i t) + x) (count-cons (getD t i false) [] ∙ omega arith)
 
 count-whole : (t : List Bool) {i : ℕ} → length t ≤ i → count (take i t) ≡ count t
 count-whole t {i} h = ap count (take-all i t h)
 
 -- the one that makes j of them is the j-th
-pub found-here : (t : List Bool) (i : ℕ) {j : ℕ} → getD t i false ≡ true → count (take (i + 1) t) ≡ j → i + 1 ≡ select t j
+pub found-here : (t : List Bool) (i : ℕ) {j : ℕ} → getD t i false ≡ true → count (take (i + 1) t) ≡ j
+    → i + 1 ≡ select t j
 unfolding rank
 found-here t i e c = sym (select-rank t i e) ∙ ap (select t) c
 

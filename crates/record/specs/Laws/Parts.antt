@@ -61,11 +61,14 @@ starts-head z (false ∷ d) =
 pub starts-first : (z : ℕ) (d : List Bool) → getD (startsFrom z d) 0 0 ≡ z + zeros d
 starts-first z d = ap (λ (l : List ℕ). getD l 0 0) (starts-head z d)
 
-pub starts-rise : (z : ℕ) (d : List Bool) (u : ℕ) → u < count d → getD (startsFrom z d) u 0 ≤ getD (startsFrom z d) (u + 1) 0
+pub starts-rise : (z : ℕ) (d : List Bool) (u : ℕ) → u < count d
+    → getD (startsFrom z d) u 0 ≤ getD (startsFrom z d) (u + 1) 0
 unfolding startsFrom count
 starts-rise z [] u h = absurd (omega arith)
 starts-rise z (true ∷ d) zero h = omega (arith, starts-first z d)
-starts-rise z (true ∷ d) (suc u) h = let e : suc u + 1 ≡ suc (u + 1) = omega arith in rw e (starts-rise z d u (omega arith))
+starts-rise z (true ∷ d) (suc u) h =
+    let e : suc u + 1 ≡ suc (u + 1) = omega arith in
+    rw e (starts-rise z d u (omega arith))
 starts-rise z (false ∷ d) u h = starts-rise (suc z) d u h
 
 -- no start is past the zeros
@@ -84,7 +87,8 @@ starts-last z [] = omega arith
 starts-last z (true ∷ d) = let r = starts-last z d in omega arith
 starts-last z (false ∷ d) = let r = starts-last (suc z) d in omega arith
 
-starts-onesAt : (z p : ℕ) (d : List Bool) (u : ℕ) → u < count d → getD (startsFrom z d) u 0 + u + p ≡ z + getD (onesAt p d) u 0
+starts-onesAt : (z p : ℕ) (d : List Bool) (u : ℕ) → u < count d
+    → getD (startsFrom z d) u 0 + u + p ≡ z + getD (onesAt p d) u 0
 unfolding startsFrom count onesAt
 starts-onesAt z p [] u h = absurd (omega arith)
 starts-onesAt z p (true ∷ d) zero h = omega arith
@@ -132,11 +136,14 @@ unfolding cut
 cut-block [] l u h = absurd (omega arith)
 cut-block (a ∷ []) l u h = absurd (omega arith)
 cut-block (a ∷ b ∷ starts) l zero h = refl
-cut-block (a ∷ b ∷ starts) l (suc u) h = let e : suc u + 1 ≡ suc (u + 1) = omega arith in rw e (cut-block (b ∷ starts) l u (omega arith))
+cut-block (a ∷ b ∷ starts) l (suc u) h =
+    let e : suc u + 1 ≡ suc (u + 1) = omega arith in
+    rw e (cut-block (b ∷ starts) l u (omega arith))
 
 -- ---- the parts by D and by its starts
 
-cut-cons : (a b : ℕ) (starts rest l : List ℕ) → starts ≡ b ∷ rest → cut (a ∷ starts) l ≡ take (b - a) (drop a l) ∷ cut starts l
+cut-cons : (a b : ℕ) (starts rest l : List ℕ) → starts ≡ b ∷ rest
+    → cut (a ∷ starts) l ≡ take (b - a) (drop a l) ∷ cut starts l
 unfolding cut
 cut-cons a b starts rest l e = rw e
 
@@ -172,9 +179,11 @@ module _ (d : List Bool) (begins : beginsWithZero d ≡ false) where
 
   -- a block stands from its start up to the next
   pub part-block : (l : List ℕ) (u : ℕ) → u < count d
-      → block (parts d l) u ≡ take (getD (startsOf d) (u + 1) 0 - getD (startsOf d) u 0) (drop (getD (startsOf d) u 0) l)
+      → block (parts d l) u
+      ≡ take (getD (startsOf d) (u + 1) 0 - getD (startsOf d) u 0) (drop (getD (startsOf d) u 0) l)
   part-block l u h =
-      ap (λ (g : Blocks). block g u) (sym (cut-parts l)) ∙ cut-block (startsOf d) l u (let e = length-starts 0 d in omega arith)
+      let e = length-starts 0 d in
+      ap (λ (g : Blocks). block g u) (sym (cut-parts l)) ∙ cut-block (startsOf d) l u (omega arith)
 
   -- where D has a zero for each number of the list, it reaches the next start
   pub length-block : (l : List ℕ) → length d ≡ count d + length l → (u : ℕ) → u < count d

@@ -1,4 +1,19 @@
 -- A record that order R lets pass, by the n and m that the code holds.
+--   sound-of        such a record, by its rules
+--   told-sound      by the sizes that order R hands on
+--   accepted-sound  an accepted record
+--   check-kept      Check hands sizes on where no rule is broken
+--   check-sound     and the record is such a one
+--   sound-shaped    it has its shape
+--   sound-places    D has n + 2·m places
+--   sound-ones      n of them are ones
+--   sound-vertices  the graph has n vertices
+--   sound-all       and 2·m places
+--   sound-part      a part of D
+--   sound-one       the one of a block
+--   sound-span      what lies between it and the next
+--   sound-field     a field
+--   spare-counted   rule 5, by the ones of the bits after the used ones
 use mathlib.Core.Path.{_≡_, refl, sym, ap, _∙_}
 use mathlib.Core.Bool.{not}
 use mathlib.Core.List.{List, flatten}
@@ -26,7 +41,8 @@ use Rattle.record.specs.Laws.Told.{untold-back}
 use Rattle.record.specs.Laws.Layout.{length-fields, fields-at, used-held, length-unary, length-blocks}
 use Rattle.record.specs.Laws.RoundTrip.{flatten-blocks}
 
-pub sound-of : (bytes : List ℕ) {n m : ℕ} → firstBroken (orderR bytes) ≡ 0 → n ≡ terminals bytes → m ≡ wires bytes → Sound bytes n m
+pub sound-of : (bytes : List ℕ) {n m : ℕ} → firstBroken (orderR bytes) ≡ 0 → n ≡ terminals bytes → m ≡ wires bytes
+    → Sound bytes n m
 unfolding usedBits recordLength
 sound-of bytes f n m =
     let h = shaped bytes f in
@@ -34,10 +50,19 @@ sound-of bytes f n m =
     let b = h .wires-fit in
     let c = used-held h in
     let d = h .sized in
-    record { kept = f; is-n = n; is-m = m; n-fits = omega arith; m-fits = omega arith; held = omega arith; short = omega arith }
+    record {
+      kept = f;
+      is-n = n;
+      is-m = m;
+      n-fits = omega arith;
+      m-fits = omega arith;
+      held = omega arith;
+      short = omega arith;
+    }
 
 -- the sizes that order R hands on
-pub told-sound : (bytes : List ℕ) {s : Sizes} → answered s ≡ tried (orderR bytes) (sizesOf bytes) → Sound bytes (s .n) (s .m)
+pub told-sound : (bytes : List ℕ) {s : Sizes} → answered s ≡ tried (orderR bytes) (sizesOf bytes)
+    → Sound bytes (s .n) (s .m)
 told-sound bytes e =
     let (f, g) = untold-back (firstBroken (orderR bytes)) (sizesOf bytes) e in
     sound-of bytes f (ap (λ (x : Sizes). x .n) g) (ap (λ (x : Sizes). x .m) g)
@@ -123,5 +148,6 @@ module _ {bytes : List ℕ} {n m : ℕ} (s : Sound bytes n m) where
       let u : usedBits (terminals bytes) (wires bytes) ≡ used = let f = s .is-n in let g = s .is-m in omega arith in
       let a : rank (string bytes used spare) spare ≡ count (take spare (drop used (bits bytes))) =
       rank-inside bytes used spare spare (le-leb (used + spare) (8 * length bytes) (omega arith)) (omega arith) in
-      let b : take spare (drop used (bits bytes)) ≡ drop used (bits bytes) = take-all spare (drop used (bits bytes)) (simp length-drop (omega (arith, length-bits bytes))) in
+      let b : take spare (drop used (bits bytes)) ≡ drop used (bits bytes) =
+      take-all spare (drop used (bits bytes)) (simp length-drop (omega (arith, length-bits bytes))) in
       rw (er, a, b, u)

@@ -8,8 +8,8 @@ use Rattle.record.specs.Record.{unary}
 use Rattle.record.specs.Starts.{startsOf}
 use Rattle.queries.specs.View.{viewBy}
 use Rattle.queries.proofs.Laws.Ones.{positive}
-use Rattle.queries.proofs.Laws.Singles.{start-less, block-room, no-first, Chosen, few-told, child-room, there-told}
-use Rattle.queries.proofs.Laws.Singles.{stray-told}
+use Rattle.queries.proofs.Laws.Singles.{start-less, block-room, no-first, Chosen, few-told, child-room}
+use Rattle.queries.proofs.Laws.Singles.{there-told, stray-told}
 use Rattle.queries.proofs.single.child_in.Statement.{statement}
 use Rattle.queries.proofs.single.child_in.Tie as tie
 

@@ -13,7 +13,7 @@ Inv-loop bytes index n m k u₀ at₀ u at = Passing bytes index n m k u at
 abbrev μ-loop : tie.MeasureT-loop
 μ-loop bytes index n m k u₀ at₀ u at = n - u
 
--- the loop's place
+-- what the loop began with
 abbrev begin : tie.At-loop Inv-loop μ-loop → tie.Start Inv-loop μ-loop
 begin c = c .before .before .before .before .before
 
@@ -56,8 +56,8 @@ returns-2 : tie.Need-returns-2 Inv-loop μ-loop
 returns-2 c =
     let at = c .before .before .before .before .before .before in
     let two = c .before .before .before .before .read-two .ensures in
-    second-met (begin at .pre .0) (at .loop .inv) (c .before .before .before .before .before .loop-test .taken) two (c .before .before .if1 .left)
-    (c .if2 .taken)
+    let more = c .before .before .before .before .before .loop-test .taken in
+    second-met (begin at .pre .0) (at .loop .inv) more two (c .before .before .if1 .left) (c .if2 .taken)
 
 add-u : tie.Need-add-u Inv-loop μ-loop
 add-u c = let f = begin (c .before .before .before .before .before .before) .pre .0 .framed .n-fits in omega arith
@@ -65,7 +65,8 @@ add-u c = let f = begin (c .before .before .before .before .before .before) .pre
 add-at : tie.Need-add-at Inv-loop μ-loop
 add-at c =
     let at = c .before .before .before .before .before .before in
-    let (l, n) = two-fit (begin at .pre .0) (at .loop .inv) (c .before .before .before .before .before .loop-test .taken) in
+    let more = c .before .before .before .before .before .loop-test .taken in
+    let (l, n) = two-fit (begin at .pre .0) (at .loop .inv) more in
     omega arith
 
 loop-less : tie.Need-loop-less Inv-loop μ-loop
@@ -75,8 +76,8 @@ loop-again : tie.Need-loop-again Inv-loop μ-loop
 loop-again c =
     let at = c .before .before .before .before .before .before in
     let two = c .before .before .before .before .read-two .ensures in
-    two-passed (begin at .pre .0) (at .loop .inv) (c .before .before .before .before .before .loop-test .taken) two (c .before .before .if1 .left)
-    (c .if2 .left)
+    let more = c .before .before .before .before .before .loop-test .taken in
+    two-passed (begin at .pre .0) (at .loop .inv) more two (c .before .before .if1 .left) (c .if2 .left)
 
 stored-requires : tie.Need-stored-requires Inv-loop μ-loop
 stored-requires c κs = (begin (c .before .before) .pre .0 .framed, c .if3 .taken)
