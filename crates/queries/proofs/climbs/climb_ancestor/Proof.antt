@@ -134,7 +134,8 @@ returns-6 c =
 returns-7 : tie.Need-returns-7 Inv-loop μ-loop
 returns-7 c =
     let at = c .before .before .before .before in
-    late at (c .before .before .before .loop-test .left) (sym (ap turnOf (c .enum-told7 .given .1)) ∙ c .before .before .ancestor-turn2 .ensures)
+    late at (c .before .before .before .loop-test .left)
+    (sym (ap turnOf (c .enum-told7 .given .1)) ∙ c .before .before .ancestor-turn2 .ensures)
 
 sub-left-2 : tie.Need-sub-left-2 Inv-loop μ-loop
 sub-left-2 c = omega arith

@@ -103,7 +103,8 @@ returns c =
 returns-2 : tie.Need-returns-2 Inv-loop μ-loop
 returns-2 c =
     let at = c .before .before .before .before in
-    ap answered (add-one (at .loop .u)) ∙ stop at (sym (ap (moveOf (at .loop .u)) (c .enum-told2 .given .1)) ∙ c .before .before .head-move .ensures)
+    ap answered (add-one (at .loop .u))
+    ∙ stop at (sym (ap (moveOf (at .loop .u)) (c .enum-told2 .given .1)) ∙ c .before .before .head-move .ensures)
 
 returns-3 : tie.Need-returns-3 Inv-loop μ-loop
 returns-3 c =
@@ -113,12 +114,14 @@ returns-3 c =
 returns-4 : tie.Need-returns-4 Inv-loop μ-loop
 returns-4 c =
     let at = c .before .before .before .before in
-    ap answered (add-one (at .loop .u)) ∙ stop at (sym (ap (moveOf (at .loop .u)) (c .enum-told4 .given .1)) ∙ c .before .before .head-move2 .ensures)
+    ap answered (add-one (at .loop .u))
+    ∙ stop at (sym (ap (moveOf (at .loop .u)) (c .enum-told4 .given .1)) ∙ c .before .before .head-move2 .ensures)
 
 returns-5 : tie.Need-returns-5 Inv-loop μ-loop
 returns-5 c =
     let at = c .before .before .before .before in
-    late at (c .before .before .before .loop-test .left) (sym (ap (moveOf (at .loop .u)) (c .enum-told5 .given .1)) ∙ c .before .before .head-move2 .ensures)
+    late at (c .before .before .before .loop-test .left)
+    (sym (ap (moveOf (at .loop .u)) (c .enum-told5 .given .1)) ∙ c .before .before .head-move2 .ensures)
 
 add-t13 : tie.Need-add-t13 Inv-loop μ-loop
 add-t13 c =

@@ -76,13 +76,15 @@ add-bridge-mark-3 c =
 bridge-mark-requires : tie.Need-bridge-mark-requires
 bridge-mark-requires c κs =
     let at = c .before .before .before .before in
-    (start at .pre .0 .framed, room at (sym (ap stepOf (c .before .r .given .1)) ∙ c .before .before .before .step-up .ensures))
+    let e = sym (ap stepOf (c .before .r .given .1)) ∙ c .before .before .before .step-up .ensures in
+    (start at .pre .0 .framed, room at e)
 
 returns : tie.Need-returns
 returns c =
     let at = c .before .before .before .before .before .before in
     let pre = start at .pre in
-    let e = sym (ap stepOf (c .before .before .before .r .given .1)) ∙ c .before .before .before .before .before .step-up .ensures in
+    let up = c .before .before .before .before .before .step-up in
+    let e = sym (ap stepOf (c .before .before .before .r .given .1)) ∙ up .ensures in
     head-stops (pre .0) (pre .1) (pre .2) (at .before .get .ensures .0) (at .get2 .ensures .0) e
     (c .before .bridge-mark .ensures) (c .if1 .taken)
 
@@ -90,7 +92,8 @@ returns-4 : tie.Need-returns-4
 returns-4 c =
     let at = c .before .before .before .before .before .before in
     let pre = start at .pre in
-    let e = sym (ap stepOf (c .before .before .before .r .given .1)) ∙ c .before .before .before .before .before .step-up .ensures in
+    let up = c .before .before .before .before .before .step-up in
+    let e = sym (ap stepOf (c .before .before .before .r .given .1)) ∙ up .ensures in
     head-rises (pre .0) (pre .1) (pre .2) (at .before .get .ensures .0) (at .get2 .ensures .0) e
     (c .before .bridge-mark .ensures) (c .if1 .left)
 
