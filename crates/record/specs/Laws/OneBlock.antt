@@ -1,4 +1,15 @@
 -- Degree and Neighbours of one terminal by two starts, where order R lets the record pass; and where a part stands.
+--   outside         a number that is no terminal's breaks rule 11
+--   places-rise     the places of D between a block's one and the next
+--   degree-spanned  Degree, by these places
+--   part-spanned    where the terminal's part of a list stands, by these places
+--   part-outside    no part, for a number that is no terminal's
+--   part-misfit     none of a list of another length
+--   part-unread     none where order R refuses
+--   part-fits       a part ends within its list
+--   part-listed     and is what Neighbours returns
+--   part-near       it ends within the longest list
+--   part-settles    no other numbers would do
 use mathlib.Core.Path.{_≡_, refl, sym, ap, ap₂, subst, _∙_}
 use mathlib.Core.Bool.{true, false, not}
 use mathlib.Core.List.{List, [], _∷_}
