@@ -2,31 +2,19 @@
 ghost use mathlib.Core.Path.{_≡_};
 ghost use Prim.Native.Nat.{_+_, _*_, _≤_};
 ghost use lib.ListN.{take, drop};
-ghost use Rattle.bits.specs.Bits.{bit, count, select};
+ghost use Rattle.bits.specs.Bits.{count, select};
+ghost use Rattle.bits.specs.Spans.{LoneOf};
 ghost use Rattle.queries.specs.View.{sectionOf};
 ghost use Rattle.queries.specs.Steps.{Framed};
-use super::marks::child_mark;
-use super::marks::parent_mark;
-
-fn tally(c: usize, on: bool) -> usize
-    requires { ⌜ c ≤ 65536 ⌝ }
-    ensures { λ r. ⌜ r ≡ c + bit on ⌝ }
-{
-    if on { c + 1 } else { c }
-}
+use bits::spans::Lone;
+use forest::lengths::mark_bytes;
 
 // How many ones E has in the block.
 pub fn count_children(index: &[u8], n: usize, m: usize, from: usize, k: usize) -> usize
     requires { ⌜ (Framed (now index) n m) × (from + k ≤ n + 2 * m) ⌝ }
     ensures { λ r. ⌜ r ≡ count (take k (drop from (sectionOf n m (now (index .entry)) 0))) ⌝ }
 {
-    let mut c: usize = 0;
-    let mut i = 0;
-    while i < k {
-        c = tally(c, child_mark(index, n, m, from + i));
-        i += 1;
-    }
-    c
+    bits::rank(index, from, k, k)
 }
 
 // The place in the block, from 1, of E's j-th one; 0 where there are fewer.
@@ -34,29 +22,13 @@ pub fn nth_child(index: &[u8], n: usize, m: usize, from: usize, k: usize, j: usi
     requires { ⌜ (Framed (now index) n m) × (from + k ≤ n + 2 * m) × (1 ≤ j) ⌝ }
     ensures { λ r. ⌜ r ≡ select (take k (drop from (sectionOf n m (now (index .entry)) 0))) j ⌝ }
 {
-    let mut c: usize = 0;
-    let mut i = 0;
-    while i < k {
-        c = tally(c, child_mark(index, n, m, from + i));
-        if c == j {
-            return i + 1;
-        }
-        i += 1;
-    }
-    0
+    bits::spans::nth_from(index, from, k, j)
 }
 
-// The place in the block, from 1, of P's first one; 0 where there is none.
-pub fn first_parent(index: &[u8], n: usize, m: usize, from: usize, k: usize) -> usize
+// P's only one in the block.
+pub fn lone_parent(index: &[u8], n: usize, m: usize, from: usize, k: usize) -> Lone
     requires { ⌜ (Framed (now index) n m) × (from + k ≤ n + 2 * m) ⌝ }
-    ensures { λ r. ⌜ r ≡ select (take k (drop from (sectionOf n m (now (index .entry)) 1))) 1 ⌝ }
+    ensures { λ r. ⌜ LoneOf (take k (drop from (sectionOf n m (now (index .entry)) 1))) r ⌝ }
 {
-    let mut i = 0;
-    while i < k {
-        if parent_mark(index, n, m, from + i) {
-            return i + 1;
-        }
-        i += 1;
-    }
-    0
+    bits::spans::lone_from(index, 8 * mark_bytes(n, m) + from, k)
 }

@@ -10,8 +10,9 @@ ghost use Rattle.queries.specs.Answers.{terminal, related};
 ghost use Rattle.queries.specs.Steps.{Beside, stepOf, moveOf, turnOf};
 use super::Found;
 use super::Related;
-use super::blocks::first_parent;
+use super::blocks::lone_parent;
 use super::marks::bridge_mark;
+use bits::spans::Lone;
 use record::Refusal;
 use record::Vertex;
 use record::cells::get;
@@ -46,23 +47,27 @@ pub enum Turn {
 
 // The step up from vertex u, whose block has the fields from a up to b.
 pub fn step_up(bytes: &[u8], index: &[u8], n: usize, m: usize, u: usize, a: usize, b: usize) -> Step
-    requires { ⌜ (Beside (now bytes) (now index) n m) × (u < n) × (a ≡ getD (startsOf (unary (now bytes))) u 0) × (b ≡ getD (startsOf (unary (now bytes))) (u + 1) 0) ⌝ }
-    ensures { λ r. ⌜ stepOf r ≡ stepUp (blocks (now (bytes .entry))) (blockMarks (now (bytes .entry)) (sectionOf n m (now (index .entry)) 1)) u ⌝ }
+    requires { ⌜ (Beside (now bytes) (now index) n m) × (u < n) × (a ≡ getD (startsOf (unary (now bytes))) u 0)
+        × (b ≡ getD (startsOf (unary (now bytes))) (u + 1) 0) ⌝ }
+    ensures { λ r. ⌜
+        stepOf r
+        ≡ stepUp (blocks (now (bytes .entry)))
+        (blockMarks (now (bytes .entry)) (sectionOf n m (now (index .entry)) 1)) u
+        ⌝ }
 {
     let from = a + u + 1;
     let k = b - a;
-    let p = first_parent(index, n, m, from, k);
-    if p == 0 {
-        return Step::Top;
+    match lone_parent(index, n, m, from, k) {
+        Lone::None => Step::Top,
+        Lone::More => Step::Stuck,
+        Lone::At(p) => {
+            let t = record::fields::field(bytes, n, m, a + p);
+            if t < n {
+                return Step::Rise(Rise { at: p, to: t });
+            }
+            Step::Stuck
+        }
     }
-    if 0 < first_parent(index, n, m, from + p, k - p) {
-        return Step::Stuck;
-    }
-    let t = record::fields::field(bytes, n, m, a + (p - 1));
-    if t < n {
-        return Step::Rise(Rise { at: p - 1, to: t });
-    }
-    Step::Stuck
 }
 
 // The step of Head from vertex u.

@@ -1,4 +1,4 @@
-// One mark of each kind, and a stored number: the only functions that know where the index has them.
+// A mark of B, and a stored number.
 ghost use mathlib.Core.Path.{_≡_};
 ghost use mathlib.Core.Bool.{false};
 ghost use Prim.Native.Nat.{_+_, _*_, _≤_, _<_};
@@ -10,26 +10,11 @@ use forest::lengths::mark_bytes;
 
 // Bit `bit` of the section that starts at byte `at`.
 fn mark(index: &[u8], n: usize, m: usize, at: usize, bit: usize) -> bool
-    requires { ⌜ (n ≤ 4096) × (m ≤ 16384) × (at ≤ 65536) × (8 * at + (n + 2 * m) ≤ 8 * length (now index)) × (bit < n + 2 * m) ⌝ }
+    requires { ⌜ (n ≤ 4096) × (m ≤ 16384) × (at ≤ 65536) × (8 * at + (n + 2 * m) ≤ 8 * length (now index))
+        × (bit < n + 2 * m) ⌝ }
     ensures { λ r. ⌜ r ≡ getD (string (now (index .entry)) (8 * at) (n + 2 * m)) bit false ⌝ }
 {
     bits::fields::read_bit(index, 8 * at + bit)
-}
-
-// A mark of E.
-pub fn child_mark(index: &[u8], n: usize, m: usize, bit: usize) -> bool
-    requires { ⌜ (Framed (now index) n m) × (bit < n + 2 * m) ⌝ }
-    ensures { λ r. ⌜ r ≡ getD (sectionOf n m (now (index .entry)) 0) bit false ⌝ }
-{
-    mark(index, n, m, 0, bit)
-}
-
-// A mark of P.
-pub fn parent_mark(index: &[u8], n: usize, m: usize, bit: usize) -> bool
-    requires { ⌜ (Framed (now index) n m) × (bit < n + 2 * m) ⌝ }
-    ensures { λ r. ⌜ r ≡ getD (sectionOf n m (now (index .entry)) 1) bit false ⌝ }
-{
-    mark(index, n, m, mark_bytes(n, m), bit)
 }
 
 // A mark of B.

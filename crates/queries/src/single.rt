@@ -12,7 +12,7 @@ use super::Found;
 use super::climbs::Step;
 use record::Refusal;
 use record::Vertex;
-use record::starts::start_of;
+use record::starts::span_of;
 
 // Its parent.
 pub fn parent_in(bytes: &[u8], index: &[u8], n: usize, m: usize, v: Vertex) -> Above
@@ -20,8 +20,9 @@ pub fn parent_in(bytes: &[u8], index: &[u8], n: usize, m: usize, v: Vertex) -> A
     ensures { λ r. ⌜ above r ≡ parentOf (viewBy n m (now (bytes .entry)) (now (index .entry))) (v .0 - 1) ⌝ }
 {
     let u = v.0 - 1;
-    let a = start_of(bytes, n, m, u);
-    let b = start_of(bytes, n, m, u + 1);
+    let s = span_of(bytes, n, m, u);
+    let a = s.from - (u + 1);
+    let b = s.to - (u + 1);
     match super::climbs::step_up(bytes, index, n, m, u, a, b) {
         Step::Stuck => Above::Refused(Refusal::BadIndex),
         Step::Top => Above::Root,
@@ -38,8 +39,9 @@ pub fn children_in(bytes: &[u8], index: &[u8], n: usize, m: usize, v: Vertex) ->
     ensures { λ r. ⌜ r ≡ childCount (viewBy n m (now (bytes .entry)) (now (index .entry))) (v .0 - 1) ⌝ }
 {
     let u = v.0 - 1;
-    let a = start_of(bytes, n, m, u);
-    let b = start_of(bytes, n, m, u + 1);
+    let s = span_of(bytes, n, m, u);
+    let a = s.from - (u + 1);
+    let b = s.to - (u + 1);
     super::blocks::count_children(index, n, m, a + u + 1, b - a)
 }
 
@@ -57,8 +59,9 @@ pub fn child_in(bytes: &[u8], index: &[u8], n: usize, m: usize, v: Vertex, j: us
         return Found::Refused(Refusal::NoChild);
     }
     let u = v.0 - 1;
-    let a = start_of(bytes, n, m, u);
-    let b = start_of(bytes, n, m, u + 1);
+    let s = span_of(bytes, n, m, u);
+    let a = s.from - (u + 1);
+    let b = s.to - (u + 1);
     let p = super::blocks::nth_child(index, n, m, a + u + 1, b - a, j);
     if p == 0 {
         return Found::Refused(Refusal::NoChild);

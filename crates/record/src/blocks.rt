@@ -8,7 +8,7 @@ use super::Part;
 use super::Refusal;
 use super::Vertex;
 use super::range::out_of_range;
-use super::starts::start_of;
+use super::starts::span_of;
 
 // Degree, where order R lets the record pass.
 pub fn degree_in(bytes: &[u8], n: usize, m: usize, v: Vertex) -> Counted
@@ -19,7 +19,8 @@ pub fn degree_in(bytes: &[u8], n: usize, m: usize, v: Vertex) -> Counted
     if out_of_range(n, t) {
         return Counted::Refused(Refusal::NoTerminal);
     }
-    Counted::Count(start_of(bytes, n, m, t) - start_of(bytes, n, m, t - 1))
+    let s = span_of(bytes, n, m, t - 1);
+    Counted::Count(s.to - s.from)
 }
 
 // Where terminal v's part of a list of len numbers stands, where order R lets the record pass.
@@ -34,10 +35,10 @@ pub fn part_in(bytes: &[u8], n: usize, m: usize, len: usize, v: Vertex) -> Part
     if len != 2 * m {
         return Part { from: 0, size: 0 };
     }
-    let from = start_of(bytes, n, m, t - 1);
-    let to = start_of(bytes, n, m, t);
+    let s = span_of(bytes, n, m, t - 1);
+    let from = s.from - t;
     Part {
         from,
-        size: to - from,
+        size: s.to - s.from,
     }
 }

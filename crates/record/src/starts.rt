@@ -1,14 +1,14 @@
 // Where the blocks start in the list of fields.
 ghost use mathlib.Core.Path.{_≡_};
-ghost use Prim.Native.Nat.{_+_, _≤_, _<_};
+ghost use Prim.Native.Nat.{_+_, _-_, _%_, _≤_, _<_};
 ghost use lib.ListN.{length, getD};
 ghost use Rattle.record.specs.Record.{unary};
 ghost use Rattle.record.specs.Starts.{startsOf};
 ghost use Rattle.record.specs.Steps.{Sound, Filling, Entering};
 use super::cells::put;
 
-// The ones of w, the bits of D before place `end` that are still to be read: each enters the zeros before it as the next start. Returns how
-// many starts are entered. The record's bytes are here for the contract alone.
+// The ones of w, the bits of D before place `end` that are still to be read: each enters the zeros before it as the
+// next start. Returns how many starts are entered. The record's bytes are here for the contract alone.
 fn enter_ones(bytes: &[u8], starts: &mut [u16], w: u64, end: usize, k: usize) -> usize
     requires { ⌜ (end ≤ 65536) × (Entering (unary (now bytes)) (now starts) w end k) ⌝ }
     ensures { λ r. ⌜ Filling (unary (now (bytes .entry))) (now (starts .exit)) end r ⌝ }
@@ -24,18 +24,20 @@ fn enter_ones(bytes: &[u8], starts: &mut [u16], w: u64, end: usize, k: usize) ->
     next
 }
 
-// Where the next part of D ends, of at most 56 bits from place i on.
+// Where the next part of D ends: with the 64 bits that begin with its first byte, or with D.
 fn part_end(i: usize, places: usize) -> usize
     requires { ⌜ (i < places) × (places ≤ 65536) ⌝ }
-    ensures { λ r. ⌜ (i < r) × (r ≤ i + 56) × (r ≤ places) ⌝ }
+    ensures { λ r. ⌜ (i < r) × ((28 + i) % 8 + (r - i) ≤ 64) × (r ≤ places) ⌝ }
 {
-    if places - i < 56 {
-        return places;
+    let to = 8 * ((28 + i) / 8) + 36;
+    if to < places {
+        return to;
     }
-    i + 56
+    places
 }
 
-// The starts of all blocks, and the end of the last one, by one pass over D: part by part, and in each part from one to one.
+// The starts of all blocks, and the end of the last one, by one pass over D: part by part, and in each part from one to
+// one.
 pub fn fill_starts(bytes: &[u8], n: usize, m: usize, starts: &mut [u16])
     requires { ⌜ (Sound (now bytes) n m) × (length (now starts) ≡ n + 1) ⌝ }
     ensures { λ _. ⌜ now (starts .exit) ≡ startsOf (unary (now (bytes .entry))) ⌝ }
@@ -57,13 +59,11 @@ pub fn fill_starts(bytes: &[u8], n: usize, m: usize, starts: &mut [u16])
     put(starts, k, i - k);
 }
 
-// Where block v starts, v counted from 0 and up to n for the end of the last block.
-pub fn start_of(bytes: &[u8], n: usize, m: usize, v: usize) -> usize
-    requires { ⌜ (Sound (now bytes) n m) × (v ≤ n) ⌝ }
-    ensures { λ r. ⌜ r ≡ getD (startsOf (unary (now (bytes .entry)))) v 0 ⌝ }
+// The places of D between the one of block v, v counted from 0, and the next.
+pub fn span_of(bytes: &[u8], n: usize, m: usize, v: usize) -> bits::spans::Span
+    requires { ⌜ (Sound (now bytes) n m) × (v < n) ⌝ }
+    ensures { λ r. ⌜ (r .from ≡ getD (startsOf (unary (now (bytes .entry)))) v 0 + (v + 1))
+        × (r .to ≡ getD (startsOf (unary (now (bytes .entry)))) (v + 1) 0 + (v + 1)) ⌝ }
 {
-    if v == n {
-        return 2 * m;
-    }
-    bits::select(bytes, 28, n + 2 * m, v + 1) - (v + 1)
+    bits::spans::span_from(bytes, 28, n + 2 * m, v + 1)
 }

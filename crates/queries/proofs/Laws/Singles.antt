@@ -1,4 +1,20 @@
 -- Answers about one vertex: its parent, its children, its number.
+--   no-first          child 0 is refused
+--   visit-told        a stored number that is a vertex's
+--   visit-stray       one that is none
+--   Unmet             the vertices before u have other numbers than k
+--   unmet-begin       there are none before vertex 0
+--   unmet-more        so has u
+--   met               u has it
+--   unmet-end         no vertex has it
+--   start-less        a start, by the place of its one in D
+--   block-room        the numbers of a block are small
+--   children-counted  Children
+--   Chosen            what Child reads
+--   few-told          a child past the count is refused
+--   child-room        the child's field is one of the record's
+--   there-told        it is a vertex
+--   stray-told        it is none
 use mathlib.Core.Path.{_≡_, refl, sym, ap, ap₂, _∙_}
 use mathlib.Core.Bool.{Bool, true, false}
 use mathlib.Core.List.{List, [], _∷_, map}
@@ -52,7 +68,8 @@ module _ (w : View) where
       unfolding childCount
       too-few z =
           let l : count (w .marksE u) < j = few (decLt (count (w .marksE u)) j) in
-          then-told ((13, rule) ∷ []) (childOf w u j) (first-broken 13 [] (rw (ne-eqb j 0 nz, lt-ltb (count (w .marksE u)) j l)))
+          then-told ((13, rule) ∷ []) (childOf w u j)
+          (first-broken 13 [] (rw (ne-eqb j 0 nz, lt-ltb (count (w .marksE u)) j l)))
         where
           few : Dec (count (w .marksE u) < j) → count (w .marksE u) < j
           few (yes l) = l
@@ -103,7 +120,9 @@ module _ (w : View) where
 
     hit-at : (u : ℕ) → u < length (w .graph) → getD hits u false ≡ eqb (w .stored u) k
     unfolding hits
-    hit-at u h = let z : 0 + u ≡ u = omega arith in each-at (λ u. eqb (w .stored u) k) false 0 (length (w .graph)) u h ∙ ap (λ (x : ℕ). eqb (w .stored x) k) z
+    hit-at u h =
+        let z : 0 + u ≡ u = omega arith in
+        each-at (λ u. eqb (w .stored u) k) false 0 (length (w .graph)) u h ∙ ap (λ (x : ℕ). eqb (w .stored x) k) z
 
     pub Unmet : ℕ → Type 0
     Unmet u = 0 ≡ count (take u hits)
@@ -136,6 +155,10 @@ module _ (w : View) where
 
 -- ---- the block of u, whose fields are those from a up to b
 
+-- a start, by the place of its one in D
+pub start-less : (k : ℕ) {x s : ℕ} → x ≡ s + k → x - k ≡ s
+start-less k e = omega arith
+
 -- its numbers are small
 pub block-room : {bytes index : List ℕ} {n m v a b : ℕ} → Beside bytes index n m → Ranged n v
     → a ≡ getD (startsOf (unary bytes)) (v - 1) 0 → b ≡ getD (startsOf (unary bytes)) (v - 1 + 1) 0
@@ -145,8 +168,10 @@ block-room o r ea eb =
     let (x, y) = block-bounds (o .sound) h ea eb in
     (x, y, h, o .framed .n-fits, o .framed .m-fits)
 
-module _ {bytes : List ℕ} {n m u a b : ℕ} (index : List ℕ) (o : Sound bytes n m) (h : u < n) (ea : a ≡ getD (startsOf (unary bytes)) u 0) (eb : b ≡ getD (startsOf (unary bytes)) (u + 1) 0) where
-  pub children-counted : {r : ℕ} → r ≡ count (take (b - a) (drop (a + u + 1) (sectionOf n m index 0))) → r ≡ childCount (viewBy n m bytes index) u
+module _ {bytes : List ℕ} {n m u a b : ℕ} (index : List ℕ) (o : Sound bytes n m) (h : u < n)
+    (ea : a ≡ getD (startsOf (unary bytes)) u 0) (eb : b ≡ getD (startsOf (unary bytes)) (u + 1) 0) where
+  pub children-counted : {r : ℕ} → r ≡ count (take (b - a) (drop (a + u + 1) (sectionOf n m index 0)))
+      → r ≡ childCount (viewBy n m bytes index) u
   unfolding childCount
   children-counted e = e ∙ ap count (sym (block-marks o h ea eb (sectionOf n m index 0)))
 

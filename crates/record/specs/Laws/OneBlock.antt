@@ -1,4 +1,15 @@
 -- Degree and Neighbours of one terminal by two starts, where order R lets the record pass; and where a part stands.
+--   outside         a number that is no terminal's breaks rule 11
+--   places-rise     the places of D between a block's one and the next
+--   degree-spanned  Degree, by these places
+--   part-spanned    where the terminal's part of a list stands, by these places
+--   part-outside    no part, for a number that is no terminal's
+--   part-misfit     none of a list of another length
+--   part-unread     none where order R refuses
+--   part-fits       a part ends within its list
+--   part-listed     and is what Neighbours returns
+--   part-near       it ends within the longest list
+--   part-settles    no other numbers would do
 use mathlib.Core.Path.{_≡_, refl, sym, ap, ap₂, subst, _∙_}
 use mathlib.Core.Bool.{true, false, not}
 use mathlib.Core.List.{List, [], _∷_}
@@ -76,17 +87,17 @@ module _ {bytes : List ℕ} {n m : ℕ} (s : Sound bytes n m) where
     rising : getD (startsOf (unary bytes)) (v - 1) 0 ≤ getD (startsOf (unary bytes)) v 0
     rising = rw next at (starts-rise 0 (unary bytes) (v - 1) (omega (arith, sound-ones s, some, upto)))
 
-    pub block-rises : a ≤ b
+    block-rises : a ≤ b
     block-rises = rw (ea, eb) rising
 
-    pub block-ends : b ≤ 2 * m
+    block-ends : b ≤ 2 * m
     block-ends =
         let c = sound-ones s in
         let l = sound-places s in
         let f = starts-fit 0 (unary bytes) v (omega (arith, upto)) in
         omega arith
 
-    pub degree-is : answered (b - a) ≡ degree bytes v
+    degree-is : answered (b - a) ≡ degree bytes v
     unfolding degree
     degree-is =
         let f = s .is-n in
@@ -130,8 +141,37 @@ module _ {bytes : List ℕ} {n m : ℕ} (s : Sound bytes n m) where
         is = ap₂ (λ (x y : ℕ). take x (drop y list)) (sym part-counts) (sym part-begins) ∙ part-is;
       }
 
-    pub part-given : {len : ℕ} → len ≡ 2 * m → PartOf bytes len v a (b - a)
+    part-given : {len : ℕ} → len ≡ 2 * m → PartOf bytes len v a (b - a)
     part-given e = record { begins = λ list l. part-begins list (l ∙ e); counts = λ list l. part-counts list (l ∙ e) }
+
+  -- the same by the places of D between its one and the next
+  module _ (v : ℕ) {from to : ℕ} (i : outOfRange n v ≡ false)
+      (ef : from ≡ getD (startsOf (unary bytes)) (v - 1) 0 + (v - 1 + 1))
+      (et : to ≡ getD (startsOf (unary bytes)) (v - 1 + 1) 0 + (v - 1 + 1)) where
+    first : from - v ≡ getD (startsOf (unary bytes)) (v - 1) 0
+    first = let z = range-inside n v i .0 in omega arith
+
+    last : to - v ≡ getD (startsOf (unary bytes)) v 0
+    last =
+        let z = range-inside n v i .0 in
+        let e : v - 1 + 1 ≡ v = omega arith in
+        let f = ap (λ (k : ℕ). getD (startsOf (unary bytes)) k 0) e in
+        omega arith
+
+    pub places-rise : (v ≤ from) × (from ≤ to)
+    places-rise =
+        let z = range-inside n v i .0 in
+        let r = block-rises v i first last in
+        omega arith
+
+    size : to - v - (from - v) ≡ to - from
+    size = let (f, r) = places-rise in omega arith
+
+    pub degree-spanned : answered (to - from) ≡ degree bytes v
+    degree-spanned = ap answered (sym size) ∙ degree-is v i first last
+
+    pub part-spanned : {len : ℕ} → len ≡ 2 * m → PartOf bytes len v (from - v) (to - from)
+    part-spanned {len} e = rw size at (part-given v i first last e)
 
   -- ---- no part
 

@@ -1,13 +1,32 @@
 -- D cuts a list into blocks: where the blocks start, and what stands in each.
+--   length-starts  a start for each one of D, and the end
+--   length-parts   a part for each one of D
+--   starts-first   the first start is past the zeros before the first one
+--   starts-rise    no start is past the next
+--   starts-fit     no start is past the zeros
+--   starts-last    all zeros stand before the last
+--   start-last     the same of D's starts
+--   start-select   a start, by the place of its one in D
+--   start-next     the next start, by the place of the next one in D
+--   length-cut     a part for each start but the last
+--   cut-block      the part between a start and the next
+--   zeros-none     no zero stands before the first one
+--   start-first    so the first start is 0
+--   cut-parts      the parts by D are those between its starts
+--   part-block     a block stands from its start up to the next
+--   length-block   and has as many numbers
 use mathlib.Core.Path.{_≡_, refl, sym, ap, _∙_}
 use mathlib.Core.Bool.{Bool, true, false}
 use mathlib.Core.List.{List, [], _∷_}
 use Prim.Native.Nat.{ℕ, zero, suc, _+_, _-_, _≤_, _<_}
+use native.Mathlib.Decide.{decLt}
 use native.Mathlib.Numerals.{add-one}
 use native.Mathlib.Omega.{arith}
+use borrow.Author.Tests.{lt-ltb, le-ltb}
 use lib.ListN.{length, take, drop, getD, length-drop}
 use lib.Seq.{drop-drop, length-take-le}
 use Rattle.bits.specs.Bits.{count, onesAt, select}
+use Rattle.bits.specs.Spans.{nextOne}
 use Rattle.bits.specs.Laws.Rank.{count-le}
 use Rattle.graph.specs.Graph.{Blocks, block}
 use Rattle.graph.specs.Laws.Places.Basics.{clash}
@@ -43,11 +62,14 @@ starts-head z (false ∷ d) =
 pub starts-first : (z : ℕ) (d : List Bool) → getD (startsFrom z d) 0 0 ≡ z + zeros d
 starts-first z d = ap (λ (l : List ℕ). getD l 0 0) (starts-head z d)
 
-pub starts-rise : (z : ℕ) (d : List Bool) (u : ℕ) → u < count d → getD (startsFrom z d) u 0 ≤ getD (startsFrom z d) (u + 1) 0
+pub starts-rise : (z : ℕ) (d : List Bool) (u : ℕ) → u < count d
+    → getD (startsFrom z d) u 0 ≤ getD (startsFrom z d) (u + 1) 0
 unfolding startsFrom count
 starts-rise z [] u h = absurd (omega arith)
 starts-rise z (true ∷ d) zero h = omega (arith, starts-first z d)
-starts-rise z (true ∷ d) (suc u) h = let e : suc u + 1 ≡ suc (u + 1) = omega arith in rw e (starts-rise z d u (omega arith))
+starts-rise z (true ∷ d) (suc u) h =
+    let e : suc u + 1 ≡ suc (u + 1) = omega arith in
+    rw e (starts-rise z d u (omega arith))
 starts-rise z (false ∷ d) u h = starts-rise (suc z) d u h
 
 -- no start is past the zeros
@@ -66,7 +88,8 @@ starts-last z [] = omega arith
 starts-last z (true ∷ d) = let r = starts-last z d in omega arith
 starts-last z (false ∷ d) = let r = starts-last (suc z) d in omega arith
 
-starts-onesAt : (z p : ℕ) (d : List Bool) (u : ℕ) → u < count d → getD (startsFrom z d) u 0 + u + p ≡ z + getD (onesAt p d) u 0
+starts-onesAt : (z p : ℕ) (d : List Bool) (u : ℕ) → u < count d
+    → getD (startsFrom z d) u 0 + u + p ≡ z + getD (onesAt p d) u 0
 unfolding startsFrom count onesAt
 starts-onesAt z p [] u h = absurd (omega arith)
 starts-onesAt z p (true ∷ d) zero h = omega arith
@@ -83,6 +106,23 @@ pub start-select : (d : List Bool) (u : ℕ) → u < count d → getD (startsOf 
 unfolding select
 start-select d u h = rw (add-one u) (let r = starts-onesAt 0 1 d u h in omega arith)
 
+-- the next start stands before the next one, or at the end
+pub start-next : (d : List Bool) (u : ℕ) → u < count d → getD (startsOf d) (u + 1) 0 + (u + 1) ≡ nextOne d (u + 1)
+unfolding nextOne
+start-next d u h = go (decLt (u + 1) (count d))
+  where
+    go : Dec (u + 1 < count d) → getD (startsOf d) (u + 1) 0 + (u + 1) ≡ nextOne d (u + 1)
+    go (yes l) =
+        let e = start-select d (u + 1) l in
+        let f : nextOne d (u + 1) ≡ select d (u + 1 + 1) - 1 =
+        rw (lt-ltb (u + 1) (count d) l, nextOne, add-one (u + 1)) in
+        omega arith
+    go (no l) =
+        let e : u + 1 ≡ count d = omega arith in
+        let f : nextOne d (u + 1) ≡ length d = rw (le-ltb (u + 1) (count d) (omega arith), nextOne) in
+        let g = ap (λ (k : ℕ). getD (startsOf d) k 0) e in
+        omega (arith, start-last d)
+
 -- ---- the parts between the starts
 
 pub length-cut : (starts l : List ℕ) → length (cut starts l) ≡ length starts - 1
@@ -97,11 +137,14 @@ unfolding cut
 cut-block [] l u h = absurd (omega arith)
 cut-block (a ∷ []) l u h = absurd (omega arith)
 cut-block (a ∷ b ∷ starts) l zero h = refl
-cut-block (a ∷ b ∷ starts) l (suc u) h = let e : suc u + 1 ≡ suc (u + 1) = omega arith in rw e (cut-block (b ∷ starts) l u (omega arith))
+cut-block (a ∷ b ∷ starts) l (suc u) h =
+    let e : suc u + 1 ≡ suc (u + 1) = omega arith in
+    rw e (cut-block (b ∷ starts) l u (omega arith))
 
 -- ---- the parts by D and by its starts
 
-cut-cons : (a b : ℕ) (starts rest l : List ℕ) → starts ≡ b ∷ rest → cut (a ∷ starts) l ≡ take (b - a) (drop a l) ∷ cut starts l
+cut-cons : (a b : ℕ) (starts rest l : List ℕ) → starts ≡ b ∷ rest
+    → cut (a ∷ starts) l ≡ take (b - a) (drop a l) ∷ cut starts l
 unfolding cut
 cut-cons a b starts rest l e = rw e
 
@@ -137,9 +180,11 @@ module _ (d : List Bool) (begins : beginsWithZero d ≡ false) where
 
   -- a block stands from its start up to the next
   pub part-block : (l : List ℕ) (u : ℕ) → u < count d
-      → block (parts d l) u ≡ take (getD (startsOf d) (u + 1) 0 - getD (startsOf d) u 0) (drop (getD (startsOf d) u 0) l)
+      → block (parts d l) u
+      ≡ take (getD (startsOf d) (u + 1) 0 - getD (startsOf d) u 0) (drop (getD (startsOf d) u 0) l)
   part-block l u h =
-      ap (λ (g : Blocks). block g u) (sym (cut-parts l)) ∙ cut-block (startsOf d) l u (let e = length-starts 0 d in omega arith)
+      let e = length-starts 0 d in
+      ap (λ (g : Blocks). block g u) (sym (cut-parts l)) ∙ cut-block (startsOf d) l u (omega arith)
 
   -- where D has a zero for each number of the list, it reaches the next start
   pub length-block : (l : List ℕ) → length d ≡ count d + length l → (u : ℕ) → u < count d

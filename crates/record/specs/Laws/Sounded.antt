@@ -1,4 +1,19 @@
 -- A record that order R lets pass, by the n and m that the code holds.
+--   sound-of        such a record, by its rules
+--   told-sound      by the sizes that order R hands on
+--   accepted-sound  an accepted record
+--   check-kept      Check hands sizes on where no rule is broken
+--   check-sound     and the record is such a one
+--   sound-shaped    it has its shape
+--   sound-places    D has n + 2·m places
+--   sound-ones      n of them are ones
+--   sound-vertices  the graph has n vertices
+--   sound-all       and 2·m places
+--   sound-part      a part of D
+--   sound-one       the one of a block
+--   sound-span      what lies between it and the next
+--   sound-field     a field
+--   spare-counted   rule 5, by the ones of the bits after the used ones
 use mathlib.Core.Path.{_≡_, refl, sym, ap, _∙_}
 use mathlib.Core.Bool.{not}
 use mathlib.Core.List.{List, flatten}
@@ -9,6 +24,7 @@ use lib.ListN.{length, take, drop, getD, length-drop}
 use lib.Seq.{take-all}
 use borrow.Author.Tests.{le-leb}
 use Rattle.bits.specs.Bits.{bits, field, string, count, rank, select}
+use Rattle.bits.specs.Spans.{nextOne, SpanOf}
 use Rattle.bits.specs.Laws.Rank.{held, rank-inside}
 use Rattle.bits.specs.Laws.Bytes.{length-bits}
 use Rattle.bits.specs.Laws.Fields.{field-part}
@@ -20,12 +36,13 @@ use Rattle.record.specs.Operations.{Accepted, check}
 use Rattle.record.specs.Steps.{Sound, Laid}
 use Rattle.record.specs.declared.Sizes.{Sizes}
 use Rattle.record.specs.Laws.First.{Shaped, shaped, both-kept, rule-kept, order-numbered, layout-numbered}
-use Rattle.record.specs.Laws.Parts.{start-select}
+use Rattle.record.specs.Laws.Parts.{start-select, start-next}
 use Rattle.record.specs.Laws.Told.{untold-back}
-use Rattle.record.specs.Laws.Layout.{length-fields, fields-at, used-held, length-unary, length-blocks, starts-end}
+use Rattle.record.specs.Laws.Layout.{length-fields, fields-at, used-held, length-unary, length-blocks}
 use Rattle.record.specs.Laws.RoundTrip.{flatten-blocks}
 
-pub sound-of : (bytes : List ℕ) {n m : ℕ} → firstBroken (orderR bytes) ≡ 0 → n ≡ terminals bytes → m ≡ wires bytes → Sound bytes n m
+pub sound-of : (bytes : List ℕ) {n m : ℕ} → firstBroken (orderR bytes) ≡ 0 → n ≡ terminals bytes → m ≡ wires bytes
+    → Sound bytes n m
 unfolding usedBits recordLength
 sound-of bytes f n m =
     let h = shaped bytes f in
@@ -33,10 +50,19 @@ sound-of bytes f n m =
     let b = h .wires-fit in
     let c = used-held h in
     let d = h .sized in
-    record { kept = f; is-n = n; is-m = m; n-fits = omega arith; m-fits = omega arith; held = omega arith; short = omega arith }
+    record {
+      kept = f;
+      is-n = n;
+      is-m = m;
+      n-fits = omega arith;
+      m-fits = omega arith;
+      held = omega arith;
+      short = omega arith;
+    }
 
 -- the sizes that order R hands on
-pub told-sound : (bytes : List ℕ) {s : Sizes} → answered s ≡ tried (orderR bytes) (sizesOf bytes) → Sound bytes (s .n) (s .m)
+pub told-sound : (bytes : List ℕ) {s : Sizes} → answered s ≡ tried (orderR bytes) (sizesOf bytes)
+    → Sound bytes (s .n) (s .m)
 told-sound bytes e =
     let (f, g) = untold-back (firstBroken (orderR bytes)) (sizesOf bytes) e in
     sound-of bytes f (ap (λ (x : Sizes). x .n) g) (ap (λ (x : Sizes). x .m) g)
@@ -99,22 +125,29 @@ module _ {bytes : List ℕ} {n m : ℕ} (s : Sound bytes n m) where
   pub sound-all : length (flatten (blocks bytes)) ≡ 2 * m
   sound-all = ap length (flatten-blocks sound-shaped) ∙ length-fields bytes ∙ ap (λ (x : ℕ). 2 * x) (sym (s .is-m))
 
+  -- D stands from bit 28 on
+  unary-held : unary bytes ≡ take (n + 2 * m) (drop 28 (bits bytes))
+  unary-held =
+      let f = s .held in
+      unary-is ∙ held bytes 28 (n + 2 * m) (le-leb (28 + (n + 2 * m)) (8 * length bytes) (omega arith))
+
   -- a part of D
   pub sound-part : (w i : ℕ) → i + w ≤ n + 2 * m → field w (bits bytes) (28 + i) ≡ field w (unary bytes) i
-  sound-part w i h =
-      let d = unary-is ∙ held bytes 28 (n + 2 * m) (le-leb (28 + (n + 2 * m)) (8 * length bytes) (let f = s .held in omega arith)) in
-      rw d (sym (field-part w i (n + 2 * m) 28 (bits bytes) h))
+  sound-part w i h = rw unary-held (sym (field-part w i (n + 2 * m) 28 (bits bytes) h))
 
-  -- the end of the last block, and where another starts
-  pub sound-end : {v : ℕ} → v ≡ n → 2 * m ≡ getD (startsOf (unary bytes)) v 0
-  sound-end e =
-      let f = s .is-m in
-      let g = ap (λ (k : ℕ). getD (startsOf (unary bytes)) k 0) (e ∙ s .is-n) in
-      omega (arith, starts-end sound-shaped)
+  -- the one of a block
+  pub sound-one : {v : ℕ} → v < n → v + 1 ≤ count (take (n + 2 * m) (drop 28 (bits bytes)))
+  sound-one h = let e = ap count unary-held in omega (arith, sound-ones)
 
-  pub sound-start : {v r : ℕ} → v < n → r ≡ select (string bytes 28 (n + 2 * m)) (v + 1) → r ≡ getD (startsOf (unary bytes)) v 0 + (v + 1)
-  sound-start {v} h e =
-      e ∙ ap (λ t. select t (v + 1)) (sym unary-is) ∙ sym (start-select (unary bytes) v (omega (arith, sound-ones)))
+  -- what lies between it and the next
+  pub sound-span : {v from to : ℕ} → v < n → SpanOf (take (n + 2 * m) (drop 28 (bits bytes))) (v + 1) from to
+      → (from ≡ getD (startsOf (unary bytes)) v 0 + (v + 1)) × (to ≡ getD (startsOf (unary bytes)) (v + 1) 0 + (v + 1))
+  sound-span {v} h e =
+      let d = unary-held in
+      let c : v < count (unary bytes) = omega (arith, sound-ones) in
+      let from = e .begins ∙ ap (λ t. select t (v + 1)) (sym d) ∙ sym (start-select (unary bytes) v c) in
+      let to = e .ends ∙ ap (λ t. nextOne t (v + 1)) (sym d) ∙ sym (start-next (unary bytes) v c) in
+      (from, to)
 
   -- a field
   pub sound-field : (p : ℕ) → p < 2 * m → field 12 (bits bytes) (28 + (n + 2 * m) + 12 * p) ≡ getD (fields bytes) p 0
@@ -132,5 +165,6 @@ module _ {bytes : List ℕ} {n m : ℕ} (s : Sound bytes n m) where
       let u : usedBits (terminals bytes) (wires bytes) ≡ used = let f = s .is-n in let g = s .is-m in omega arith in
       let a : rank (string bytes used spare) spare ≡ count (take spare (drop used (bits bytes))) =
       rank-inside bytes used spare spare (le-leb (used + spare) (8 * length bytes) (omega arith)) (omega arith) in
-      let b : take spare (drop used (bits bytes)) ≡ drop used (bits bytes) = take-all spare (drop used (bits bytes)) (simp length-drop (omega (arith, length-bits bytes))) in
+      let b : take spare (drop used (bits bytes)) ≡ drop used (bits bytes) =
+      take-all spare (drop used (bits bytes)) (simp length-drop (omega (arith, length-bits bytes))) in
       rw (er, a, b, u)

@@ -1,21 +1,27 @@
 -- `climbs::ancestor_turn` meets its contract.
 use Rattle.queries.proofs.Laws.Climbing.{starts-long, block-from, block-to, ancestor-yes, ancestor-step}
 use Rattle.queries.specs.Steps.{stepOf}
-use Rattle.queries.specs.Queries.{ancestorBy}
-use Rattle.queries.specs.View.{viewBy}
+use Rattle.queries.specs.Queries.{stepUp, ancestorBy, ancestorNext}
+use Rattle.queries.specs.View.{View, viewBy}
 use native.Mathlib.Omega.{arith}
-use mathlib.Core.Path.{sym, ap, _∙_}
+use mathlib.Core.Path.{_≡_, sym, ap, _∙_}
 use borrow.Author.Needs.{needs}
 use Rattle.queries.proofs.climbs.ancestor_turn.Statement.{statement}
 use Rattle.queries.proofs.climbs.ancestor_turn.Tie as tie
 
+-- the view that the record and the index show
+abbrev view : tie.Start → View
+view s = viewBy (s .args .n) (s .args .m) (s .args .bytes .now) (s .args .index .now)
+
 returns : tie.Need-returns
-returns c = ancestor-yes (viewBy (c .before .before .before .before .args .n) (c .before .before .before .before .args .m) (c .before .before .before .before .args .bytes .now) (c .before .before .before .before .args .index .now)) (c .before .before .before .before .args .x) (c .before .before .before .before .args .u) (c .if1 .taken)
+returns c = let s = c .before .before .before .before in ancestor-yes (view s) (s .args .x) (s .args .u) (c .if1 .taken)
 
 get-requires : tie.Need-get-requires
 get-requires c κs =
     let pre = c .before .before .before .before .pre in
-    let l = starts-long (pre .0 .sound) (pre .1) in let h = pre .2 in omega arith
+    let l = starts-long (pre .0 .sound) (pre .1) in
+    let h = pre .2 in
+    omega arith
 
 add-get : tie.Need-add-get
 add-get c = search needs
@@ -23,7 +29,9 @@ add-get c = search needs
 get-requires-2 : tie.Need-get-requires-2
 get-requires-2 c κs =
     let pre = c .before .before .before .before .before .pre in
-    let l = starts-long (pre .0 .sound) (pre .1) in let h = pre .2 in omega arith
+    let l = starts-long (pre .0 .sound) (pre .1) in
+    let h = pre .2 in
+    omega arith
 
 step-up-requires : tie.Need-step-up-requires
 step-up-requires c κs =
@@ -41,14 +49,28 @@ enum-told-2 c = search needs
 enum-known-r : tie.Need-enum-known-r
 enum-known-r c = search needs
 
+-- x is not u, so the step up tells
+abbrev start : tie.After-get2 → tie.Start
+start c = c .before .before .before .before .before .before
+
+told : (c : tie.After-get2) → ancestorBy (stepUp (view (start c) .graph) (view (start c) .marksP) (start c .args .u))
+    ≡ ancestorNext (view (start c)) (start c .args .x) (start c .args .u)
+told c = ancestor-step (view (start c)) (start c .args .x) (start c .args .u) (c .before .before .if1 .left)
+
 returns-2 : tie.Need-returns-2
-returns-2 c = ap ancestorBy (sym (ap stepOf (c .enum-told .given .1)) ∙ c .before .before .step-up .ensures) ∙ ancestor-step (viewBy (c .before .before .before .before .before .before .before .before .before .args .n) (c .before .before .before .before .before .before .before .before .before .args .m) (c .before .before .before .before .before .before .before .before .before .args .bytes .now) (c .before .before .before .before .before .before .before .before .before .args .index .now)) (c .before .before .before .before .before .before .before .before .before .args .x) (c .before .before .before .before .before .before .before .before .before .args .u) (c .before .before .before .before .before .if1 .left)
+returns-2 c =
+    ap ancestorBy (sym (ap stepOf (c .enum-told .given .1)) ∙ c .before .before .step-up .ensures)
+    ∙ told (c .before .before .before)
 
 returns-3 : tie.Need-returns-3
-returns-3 c = ap ancestorBy (sym (ap stepOf (c .enum-told2 .given .1)) ∙ c .before .before .step-up .ensures) ∙ ancestor-step (viewBy (c .before .before .before .before .before .before .before .before .before .args .n) (c .before .before .before .before .before .before .before .before .before .args .m) (c .before .before .before .before .before .before .before .before .before .args .bytes .now) (c .before .before .before .before .before .before .before .before .before .args .index .now)) (c .before .before .before .before .before .before .before .before .before .args .x) (c .before .before .before .before .before .before .before .before .before .args .u) (c .before .before .before .before .before .if1 .left)
+returns-3 c =
+    ap ancestorBy (sym (ap stepOf (c .enum-told2 .given .1)) ∙ c .before .before .step-up .ensures)
+    ∙ told (c .before .before .before)
 
 returns-4 : tie.Need-returns-4
-returns-4 c = ap ancestorBy (sym (ap stepOf (c .before .r .given .1)) ∙ c .before .before .before .step-up .ensures) ∙ ancestor-step (viewBy (c .before .before .before .before .before .before .before .before .before .before .args .n) (c .before .before .before .before .before .before .before .before .before .before .args .m) (c .before .before .before .before .before .before .before .before .before .before .args .bytes .now) (c .before .before .before .before .before .before .before .before .before .before .args .index .now)) (c .before .before .before .before .before .before .before .before .before .before .args .x) (c .before .before .before .before .before .before .before .before .before .before .args .u) (c .before .before .before .before .before .before .if1 .left)
+returns-4 c =
+    ap ancestorBy (sym (ap stepOf (c .before .r .given .1)) ∙ c .before .before .before .step-up .ensures)
+    ∙ told (c .before .before .before .before)
 
 pub ancestor-turn-spec : {M : Type 1} → statement M
 ancestor-turn-spec =

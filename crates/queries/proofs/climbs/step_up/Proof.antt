@@ -1,111 +1,99 @@
--- `climbs::step_up` meets its contract.
-use Rattle.queries.proofs.Laws.Stepping.{block-bounds, first-fits, step-root, step-doubled, step-risen, step-stray, below-end}
-use Rattle.queries.specs.Laws.Framed.{length-P}
-use Rattle.queries.specs.View.{sectionOf}
-use Prim.Native.Nat.{_+_, _-_}
+-- `climbs::step_up` meets its contract: the only mark of the block leads to the parent.
 use native.Mathlib.Omega.{arith}
 use borrow.Author.Needs.{needs}
+use Prim.Native.Nat.{_+_, _-_, _*_, _≤_}
+use mathlib.Core.Bool.{Bool}
+use mathlib.Core.List.{List}
+use Rattle.queries.specs.Laws.Framed.{length-P}
+use Rattle.queries.specs.View.{sectionOf}
+use Rattle.queries.proofs.Laws.Stepping.{block-fits, step-root, step-doubled, lone-field, step-risen, step-stray}
 use Rattle.queries.proofs.climbs.step_up.Statement.{statement}
 use Rattle.queries.proofs.climbs.step_up.Tie as tie
 
+-- the block's marks have a place in the section
+abbrev start : tie.After-shared-slice-known2 → tie.Start
+start c = c .before .before
+
+fits : (c : tie.After-shared-slice-known2)
+    → (start c .args .a ≤ start c .args .b)
+    × (start c .args .a + start c .args .u + 1 + (start c .args .b - start c .args .a)
+    ≤ start c .args .n + 2 * start c .args .m)
+    × (start c .args .n ≤ 4096)
+    × (start c .args .m ≤ 16384)
+fits c = let pre = start c .pre in block-fits (pre .0 .sound) (pre .1) (pre .2) (pre .3)
+
 add-from : tie.Need-add-from
-add-from c =
-    let pre = c .before .before .pre in
-    let (r, e) = block-bounds (pre .0 .sound) (pre .1) (pre .2) (pre .3) in let x = pre .0 .framed .n-fits in let y = pre .0 .framed .m-fits in let z = pre .1 in omega arith
+add-from c = let (r, l, n, m) = fits c in omega arith
 
 add-from-2 : tie.Need-add-from-2
-add-from-2 c =
-    let pre = c .before .before .pre in
-    let (r, e) = block-bounds (pre .0 .sound) (pre .1) (pre .2) (pre .3) in let x = pre .0 .framed .n-fits in let y = pre .0 .framed .m-fits in let z = pre .1 in omega arith
+add-from-2 c = let (r, l, n, m) = fits c in omega arith
 
 sub-k : tie.Need-sub-k
-sub-k c =
-    let pre = c .before .before .pre in
-    let (r, e) = block-bounds (pre .0 .sound) (pre .1) (pre .2) (pre .3) in omega arith
+sub-k c = fits c .0
 
-first-parent-requires : tie.Need-first-parent-requires
-first-parent-requires c κs =
-    let pre = c .before .before .pre in
-    let (r, e) = block-bounds (pre .0 .sound) (pre .1) (pre .2) (pre .3) in let z = pre .1 in (pre .0 .framed, omega arith)
+lone-parent-requires : tie.Need-lone-parent-requires
+lone-parent-requires c κs = (start c .pre .0 .framed, fits c .1)
 
-returns : tie.Need-returns
-returns c =
-    let pre = c .before .before .before .before .pre in
-    step-root (pre .0 .sound) (pre .1) (pre .2) (pre .3) (sectionOf (c .before .before .before .before .args .n) (c .before .before .before .before .args .m) (c .before .before .before .before .args .index .now) 1) (c .before .first-parent .ensures) (c .if1 .taken)
+enum-told : tie.Need-enum-told
+enum-told c = search needs
 
-add-first-parent : tie.Need-add-first-parent
-add-first-parent c =
-    let pre = c .before .before .before .before .pre in
-    let a = c .before .before .before .before .args .a in
-    let (r, e) = block-bounds (pre .0 .sound) (pre .1) (pre .2) (pre .3) in let l = length-P (pre .0 .framed) in let z = pre .1 in
-    let f = first-fits (sectionOf (c .before .before .before .before .args .n) (c .before .before .before .before .args .m) (c .before .before .before .before .args .index .now) 1) (a + c .before .before .before .before .args .u + 1) (c .before .before .before .before .args .b - a) (omega arith) (c .before .first-parent .ensures) in
-    let x = pre .0 .framed .n-fits in let y = pre .0 .framed .m-fits in omega arith
+enum-told-2 : tie.Need-enum-told-2
+enum-told-2 c = search needs
 
-sub-first-parent : tie.Need-sub-first-parent
-sub-first-parent c =
-    let pre = c .before .before .before .before .pre in
-    let a = c .before .before .before .before .args .a in
-    let (r, e) = block-bounds (pre .0 .sound) (pre .1) (pre .2) (pre .3) in let l = length-P (pre .0 .framed) in let z = pre .1 in
-    first-fits (sectionOf (c .before .before .before .before .args .n) (c .before .before .before .before .args .m) (c .before .before .before .before .args .index .now) 1) (a + c .before .before .before .before .args .u + 1) (c .before .before .before .before .args .b - a) (omega arith) (c .before .first-parent .ensures)
+enum-known-p : tie.Need-enum-known-p
+enum-known-p c = search needs
 
-first-parent-requires-2 : tie.Need-first-parent-requires-2
-first-parent-requires-2 c κs =
-    let pre = c .before .before .before .before .pre in
-    let a = c .before .before .before .before .args .a in
-    let (r, e) = block-bounds (pre .0 .sound) (pre .1) (pre .2) (pre .3) in let l = length-P (pre .0 .framed) in let z = pre .1 in
-    let f = first-fits (sectionOf (c .before .before .before .before .args .n) (c .before .before .before .before .args .m) (c .before .before .before .before .args .index .now) 1) (a + c .before .before .before .before .args .u + 1) (c .before .before .before .before .args .b - a) (omega arith) (c .before .first-parent .ensures) in
-    (pre .0 .framed, omega arith)
+-- P's section
+abbrev section : tie.Start → List Bool
+section s = sectionOf (s .args .n) (s .args .m) (s .args .index .now) 1
 
 returns-2 : tie.Need-returns-2
 returns-2 c =
-    let pre = c .before .before .before .before .before .before .pre in
-    step-doubled (pre .0 .sound) (pre .1) (pre .2) (pre .3) (sectionOf (c .before .before .before .before .before .before .args .n) (c .before .before .before .before .before .before .args .m) (c .before .before .before .before .before .before .args .index .now) 1) (c .before .before .before .first-parent .ensures) (c .before .before .if1 .left) (c .before .first-parent2 .ensures) (c .if2 .taken)
-
-sub-field : tie.Need-sub-field
-sub-field c = search needs
-
-add-field : tie.Need-add-field
-add-field c =
-    let a = c .before .before .before .before .before .before .args .a in
-    let pre = c .before .before .before .before .before .before .pre in
-    let (r, e) = block-bounds (pre .0 .sound) (pre .1) (pre .2) (pre .3) in let l = length-P (pre .0 .framed) in let z = pre .1 in
-    let f = first-fits (sectionOf (c .before .before .before .before .before .before .args .n) (c .before .before .before .before .before .before .args .m) (c .before .before .before .before .before .before .args .index .now) 1) (a + c .before .before .before .before .before .before .args .u + 1) (c .before .before .before .before .before .before .args .b - a) (omega arith) (c .before .before .before .first-parent .ensures) in
-    let y = pre .0 .framed .m-fits in omega arith
-
-field-requires : tie.Need-field-requires
-field-requires c κs =
-    let a = c .before .before .before .before .before .before .args .a in
-    let pre = c .before .before .before .before .before .before .pre in
-    let (r, e) = block-bounds (pre .0 .sound) (pre .1) (pre .2) (pre .3) in let l = length-P (pre .0 .framed) in let z = pre .1 in
-    let f = first-fits (sectionOf (c .before .before .before .before .before .before .args .n) (c .before .before .before .before .before .before .args .m) (c .before .before .before .before .before .before .args .index .now) 1) (a + c .before .before .before .before .before .before .args .u + 1) (c .before .before .before .before .before .before .args .b - a) (omega arith) (c .before .before .before .first-parent .ensures) in
-    let w = c .before .before .if1 .left in (pre .0 .sound, below-end r e f w)
-
-sub-t16 : tie.Need-sub-t16
-sub-t16 c = search needs
+    let s = start (c .before .before .before) in
+    let pre = s .pre in
+    step-root (pre .0 .sound) (pre .1) (pre .2) (pre .3) (section s) _
+    (c .before .before .lone-parent .ensures) (c .enum-told .given .1)
 
 returns-3 : tie.Need-returns-3
 returns-3 c =
-    let n = c .before .before .before .before .before .before .before .before .args .n in
-    let pre = c .before .before .before .before .before .before .before .before .pre in
-    let first-parent = c .before .before .before .before .before .first-parent in
-    let m = c .before .before .before .before .before .before .before .before .args .m in
-    let index = c .before .before .before .before .before .before .before .before .args .index .now in
-    let a = c .before .before .before .before .before .before .before .before .args .a in
-    let (r, e) = block-bounds (pre .0 .sound) (pre .1) (pre .2) (pre .3) in let l = length-P (pre .0 .framed) in let z = pre .1 in
-    let f = first-fits (sectionOf (n) (m) (index) 1) (a + c .before .before .before .before .before .before .before .before .args .u + 1) (c .before .before .before .before .before .before .before .before .args .b - a) (omega arith) (first-parent .ensures) in
-    step-risen (pre .0 .sound) (pre .1) (pre .2) (pre .3) (sectionOf (n) (m) (index) 1) (first-parent .ensures) (c .before .before .before .before .if1 .left) (c .before .before .before .first-parent2 .ensures) (c .before .before .if2 .left) f (c .before .field .ensures .0) (c .if3 .taken)
+    let s = start (c .before .before .before) in
+    let pre = s .pre in
+    step-doubled (pre .0 .sound) (pre .1) (pre .2) (pre .3) (section s) _
+    (c .before .before .lone-parent .ensures) (c .enum-told2 .given .1)
+
+add-field : tie.Need-add-field
+add-field c =
+    let s = start (c .before .before .before .before) in
+    let pre = s .pre in
+    let (l, m) =
+    lone-field (pre .0 .sound) (pre .1) (pre .2) (pre .3) (section s) _
+    (c .before .before .before .lone-parent .ensures) (c .before .p .given .1) (length-P (pre .0 .framed)) in
+    omega arith
+
+field-requires : tie.Need-field-requires
+field-requires c κs =
+    let s = start (c .before .before .before .before) in
+    let pre = s .pre in
+    let (l, m) =
+    lone-field (pre .0 .sound) (pre .1) (pre .2) (pre .3) (section s) _
+    (c .before .before .before .lone-parent .ensures) (c .before .p .given .1) (length-P (pre .0 .framed)) in
+    (pre .0 .sound, l)
+
+returns : tie.Need-returns
+returns c =
+    let s = start (c .before .before .before .before .before .before) in
+    let pre = s .pre in
+    let lone = c .before .before .before .before .before .lone-parent .ensures in
+    step-risen (pre .0 .sound) (pre .1) (pre .2) (pre .3) (section s) _ lone (c .before .before .before .p .given .1)
+    (length-P (pre .0 .framed)) (c .before .field .ensures .0) (c .if1 .taken)
 
 returns-4 : tie.Need-returns-4
 returns-4 c =
-    let n = c .before .before .before .before .before .before .before .before .args .n in
-    let pre = c .before .before .before .before .before .before .before .before .pre in
-    let first-parent = c .before .before .before .before .before .first-parent in
-    let m = c .before .before .before .before .before .before .before .before .args .m in
-    let index = c .before .before .before .before .before .before .before .before .args .index .now in
-    let a = c .before .before .before .before .before .before .before .before .args .a in
-    let (r, e) = block-bounds (pre .0 .sound) (pre .1) (pre .2) (pre .3) in let l = length-P (pre .0 .framed) in let z = pre .1 in
-    let f = first-fits (sectionOf (n) (m) (index) 1) (a + c .before .before .before .before .before .before .before .before .args .u + 1) (c .before .before .before .before .before .before .before .before .args .b - a) (omega arith) (first-parent .ensures) in
-    step-stray (pre .0 .sound) (pre .1) (pre .2) (pre .3) (sectionOf (n) (m) (index) 1) (first-parent .ensures) (c .before .before .before .before .if1 .left) (c .before .before .before .first-parent2 .ensures) (c .before .before .if2 .left) f (c .before .field .ensures .0) (c .if3 .left)
+    let s = start (c .before .before .before .before .before .before) in
+    let pre = s .pre in
+    let lone = c .before .before .before .before .before .lone-parent .ensures in
+    step-stray (pre .0 .sound) (pre .1) (pre .2) (pre .3) (section s) _ lone (c .before .before .before .p .given .1)
+    (length-P (pre .0 .framed)) (c .before .field .ensures .0) (c .if1 .left)
 
 pub step-up-spec : {M : Type 1} → statement M
 step-up-spec =
@@ -114,15 +102,13 @@ step-up-spec =
     add-from
     add-from-2
     sub-k
-    first-parent-requires
-    returns
-    add-first-parent
-    sub-first-parent
-    first-parent-requires-2
-    returns-2
-    sub-field
+    lone-parent-requires
+    enum-told
+    enum-told-2
+    enum-known-p
     add-field
     field-requires
-    sub-t16
+    returns
+    returns-2
     returns-3
     returns-4)

@@ -1,11 +1,15 @@
 -- `single::child_in` meets its contract.
-use Rattle.queries.proofs.Laws.Singles.{block-room, no-first, Chosen, few-told, child-room, there-told}
-use Rattle.queries.proofs.Laws.Singles.{stray-told}
-use Rattle.queries.proofs.Laws.Ones.{positive}
-use Rattle.queries.specs.View.{viewBy}
-use Prim.Native.Nat.{_-_, _*_, _≤_, _<_}
+use Prim.Native.Nat.{ℕ, _+_, _-_, _*_, _≤_, _<_}
+use mathlib.Core.Path.{_≡_}
 use native.Mathlib.Omega.{arith}
 use borrow.Author.Needs.{needs}
+use lib.ListN.{getD}
+use Rattle.record.specs.Record.{unary}
+use Rattle.record.specs.Starts.{startsOf}
+use Rattle.queries.specs.View.{viewBy}
+use Rattle.queries.proofs.Laws.Ones.{positive}
+use Rattle.queries.proofs.Laws.Singles.{start-less, block-room, no-first, Chosen, few-told, child-room}
+use Rattle.queries.proofs.Laws.Singles.{there-told, stray-told}
 use Rattle.queries.proofs.single.child_in.Statement.{statement}
 use Rattle.queries.proofs.single.child_in.Tie as tie
 
@@ -16,34 +20,54 @@ returns c =
     no-first w (args .v .0 - 1) (args .j) (c .if1 .taken)
 
 sub-u : tie.Need-sub-u
-sub-u c = let z = c .before .before .before .before .pre .1 .some in omega arith
+sub-u c = search needs
 
-start-of-requires : tie.Need-start-of-requires
-start-of-requires c κs = search needs
+span-of-requires : tie.Need-span-of-requires
+span-of-requires c κs = search needs
 
-add-start-of : tie.Need-add-start-of
-add-start-of c = search needs
+add-a : tie.Need-add-a
+add-a c = search needs
 
-start-of-requires-2 : tie.Need-start-of-requires-2
-start-of-requires-2 c κs = search needs
+sub-a : tie.Need-sub-a
+sub-a c = search needs
+
+add-b : tie.Need-add-b
+add-b c = search needs
+
+sub-b : tie.Need-sub-b
+sub-b c = search needs
 
 -- the block's fields are those from a up to b
-abbrev start : tie.After-start-of2 → tie.Start
-start c = c .before .before .before .before .before .before
+abbrev start : tie.After-struct-known3 → tie.Start
+start c = c .before .before .before .before .before .before .before
 
-room : (c : tie.After-start-of2)
-    → (c .before .start-of .result ≤ c .start-of2 .result)
-    × (c .start-of2 .result ≤ 2 * start c .args .m)
+abbrev fore : tie.After-struct-known3 → ℕ
+fore c = c .before .before .span-of .result .from - (start c .args .v .0 - 1 + 1)
+
+abbrev aft : tie.After-struct-known3 → ℕ
+aft c = c .before .before .span-of .result .to - (start c .args .v .0 - 1 + 1)
+
+fore-is : (c : tie.After-struct-known3)
+    → fore c ≡ getD (startsOf (unary (start c .args .bytes .now))) (start c .args .v .0 - 1) 0
+fore-is c = start-less (start c .args .v .0 - 1 + 1) (c .before .before .span-of .ensures .0)
+
+aft-is : (c : tie.After-struct-known3)
+    → aft c ≡ getD (startsOf (unary (start c .args .bytes .now))) (start c .args .v .0 - 1 + 1) 0
+aft-is c = start-less (start c .args .v .0 - 1 + 1) (c .before .before .span-of .ensures .1)
+
+room : (c : tie.After-struct-known3)
+    → (fore c ≤ aft c)
+    × (aft c ≤ 2 * start c .args .m)
     × (start c .args .v .0 - 1 < start c .args .n)
     × (start c .args .n ≤ 4096)
     × (start c .args .m ≤ 16384)
-room c = block-room (start c .pre .0) (start c .pre .1) (c .before .start-of .ensures) (c .start-of2 .ensures)
+room c = block-room (start c .pre .0) (start c .pre .1) (fore-is c) (aft-is c)
 
 add-nth-child : tie.Need-add-nth-child
-add-nth-child c = let (r, e, h, n, m) = room c in omega arith
+add-nth-child c = search needs
 
 add-nth-child-2 : tie.Need-add-nth-child-2
-add-nth-child-2 c = let (r, e, h, n, m) = room c in omega arith
+add-nth-child-2 c = search needs
 
 sub-nth-child : tie.Need-sub-nth-child
 sub-nth-child c = room c .0
@@ -51,19 +75,18 @@ sub-nth-child c = room c .0
 nth-child-requires : tie.Need-nth-child-requires
 nth-child-requires c κs =
     let (r, e, h, n, m) = room c in
-    (start c .pre .0 .framed, omega arith, positive (c .before .before .before .if1 .left))
+    (start c .pre .0 .framed, omega arith, positive (c .before .before .before .before .if1 .left))
 
 -- the child's place in the block
 chosen : (c : tie.After-nth-child) → Chosen (start (c .before) .args .bytes .now) (start (c .before) .args .index .now)
-    (start (c .before) .args .n) (start (c .before) .args .m) (start (c .before) .args .v .0)
-    (c .before .before .start-of .result) (c .before .start-of2 .result) (start (c .before) .args .j)
-    (c .nth-child .result)
+    (start (c .before) .args .n) (start (c .before) .args .m) (start (c .before) .args .v .0) (fore (c .before))
+    (aft (c .before)) (start (c .before) .args .j) (c .nth-child .result)
 chosen c = record {
   beside = start (c .before) .pre .0;
   ranged = start (c .before) .pre .1;
-  from = c .before .before .start-of .ensures;
-  to = c .before .start-of2 .ensures;
-  asked = c .before .before .before .before .if1 .left;
+  from = fore-is (c .before);
+  to = aft-is (c .before);
+  asked = c .before .before .before .before .before .if1 .left;
   chosen = c .nth-child .ensures;
 }
 
@@ -80,8 +103,8 @@ field-requires : tie.Need-field-requires
 field-requires c κs =
     (start (c .before .before) .pre .0 .sound, child-room (chosen (c .before)) (c .if2 .left) .0)
 
-add-t18 : tie.Need-add-t18
-add-t18 c = search needs
+add-t19 : tie.Need-add-t19
+add-t19 c = search needs
 
 returns-3 : tie.Need-returns-3
 returns-3 c =
@@ -99,9 +122,11 @@ child-in-spec =
     (tie.spec
     returns
     sub-u
-    start-of-requires
-    add-start-of
-    start-of-requires-2
+    span-of-requires
+    add-a
+    sub-a
+    add-b
+    sub-b
     add-nth-child
     add-nth-child-2
     sub-nth-child
@@ -110,6 +135,6 @@ child-in-spec =
     sub-field
     add-field
     field-requires
-    add-t18
+    add-t19
     returns-3
     returns-4)

@@ -1,69 +1,104 @@
--- `visits::visited_in` meets its contract.
-use Rattle.record.specs.Laws.Sounded.{sound-vertices}
-use Rattle.queries.proofs.Laws.Singles.{Unmet, unmet-begin, unmet-more, met, unmet-end}
-use Rattle.queries.specs.View.{viewBy}
+-- `visits::visited_in` meets its contract: the numbers that were read are others.
 use native.Mathlib.Omega.{arith}
+use borrow.Author.Needs.{needs}
 use Prim.Native.Nat.{_-_}
+use Rattle.queries.proofs.Laws.Visiting.{Passing, passing, two-fit, first-met, second-met, two-passed}
+use Rattle.queries.proofs.Laws.Visiting.{last-met, last-passed, none-met}
 use Rattle.queries.proofs.visits.visited_in.Statement.{statement}
 use Rattle.queries.proofs.visits.visited_in.Tie as tie
 
 abbrev Inv-loop : tie.InvT-loop
-Inv-loop bytes index n m k u₀ u = Unmet (viewBy n m bytes index) k u
+Inv-loop bytes index n m k u₀ at₀ u at = Passing bytes index n m k u at
 
 abbrev μ-loop : tie.MeasureT-loop
-μ-loop bytes index n m k u₀ u = n - u
+μ-loop bytes index n m k u₀ at₀ u at = n - u
+
+-- what the loop began with
+abbrev begin : tie.At-loop Inv-loop μ-loop → tie.Start Inv-loop μ-loop
+begin c = c .before .before .before .before .before
 
 sub-k : tie.Need-sub-k Inv-loop μ-loop
 sub-k c = let z = c .before .before .before .pre .1 .some in omega arith
 
+mark-bytes-requires : tie.Need-mark-bytes-requires Inv-loop μ-loop
+mark-bytes-requires c κs = search needs
+
+mul-at : tie.Need-mul-at Inv-loop μ-loop
+mul-at c = search needs
+
 loop-holds : tie.Need-loop-holds Inv-loop μ-loop
 loop-holds c =
-    let args = c .before .before .before .args in
-    let w = viewBy (args .n) (args .m) (args .bytes .now) (args .index .now) in
-    unmet-begin w (args .i .0 - 1)
+    let args = c .before .before .before .before .args in
+    passing (args .bytes .now) (args .index .now) (args .n) (args .m) (args .i .0 - 1) (c .mark-bytes .ensures .0)
 
-stored-requires : tie.Need-stored-requires Inv-loop μ-loop
-stored-requires c κs = (c .before .before .before .before .before .pre .0 .framed, c .loop-test .taken)
+add-loop : tie.Need-add-loop Inv-loop μ-loop
+add-loop c =
+    let h = c .loop .inv .upto in
+    let f = begin c .pre .0 .framed .n-fits in
+    omega arith
 
-add-t10 : tie.Need-add-t10 Inv-loop μ-loop
-add-t10 c = let f = c .before .before .before .before .before .before .before .pre .0 .framed .n-fits in omega arith
+read-two-requires : tie.Need-read-two-requires Inv-loop μ-loop
+read-two-requires c κs = two-fit (begin (c .before) .pre .0) (c .before .loop .inv) (c .loop-test .taken) .0
+
+add-t13 : tie.Need-add-t13 Inv-loop μ-loop
+add-t13 c = let f = begin (c .before .before .before .before) .pre .0 .framed .n-fits in omega arith
 
 returns : tie.Need-returns Inv-loop μ-loop
 returns c =
-    let pre = c .before .before .before .before .before .before .before .pre in
-    let args = c .before .before .before .before .before .before .before .args in
-    let loop = c .before .before .before .loop in
-    let stored = c .before .stored in
-    let if1 = c .if1 in
-    let k = sound-vertices (pre .0 .sound) in
-    let w = viewBy (args .n) (args .m) (args .bytes .now) (args .index .now) in
-    met w (args .i .0 - 1) {u = loop .u} (omega arith) (stored .ensures .0) (loop .inv) (if1 .taken)
+    let at = c .before .before .before .before in
+    let two = c .before .before .read-two .ensures in
+    first-met (begin at .pre .0) (at .loop .inv) (c .before .before .before .loop-test .taken) two (c .if1 .taken)
+
+add-t15 : tie.Need-add-t15 Inv-loop μ-loop
+add-t15 c = let f = begin (c .before .before .before .before .before .before) .pre .0 .framed .n-fits in omega arith
+
+returns-2 : tie.Need-returns-2 Inv-loop μ-loop
+returns-2 c =
+    let at = c .before .before .before .before .before .before in
+    let two = c .before .before .before .before .read-two .ensures in
+    let more = c .before .before .before .before .before .loop-test .taken in
+    second-met (begin at .pre .0) (at .loop .inv) more two (c .before .before .if1 .left) (c .if2 .taken)
 
 add-u : tie.Need-add-u Inv-loop μ-loop
-add-u c = let f = c .before .before .before .before .before .before .before .pre .0 .framed .n-fits in omega arith
+add-u c = let f = begin (c .before .before .before .before .before .before) .pre .0 .framed .n-fits in omega arith
+
+add-at : tie.Need-add-at Inv-loop μ-loop
+add-at c =
+    let at = c .before .before .before .before .before .before in
+    let more = c .before .before .before .before .before .loop-test .taken in
+    let (l, n) = two-fit (begin at .pre .0) (at .loop .inv) more in
+    omega arith
 
 loop-less : tie.Need-loop-less Inv-loop μ-loop
 loop-less c = omega arith
 
 loop-again : tie.Need-loop-again Inv-loop μ-loop
 loop-again c =
-    let pre = c .before .before .before .before .before .before .before .pre in
-    let args = c .before .before .before .before .before .before .before .args in
-    let loop = c .before .before .before .loop in
-    let stored = c .before .stored in
-    let if1 = c .if1 in
-    let k = sound-vertices (pre .0 .sound) in
-    let w = viewBy (args .n) (args .m) (args .bytes .now) (args .index .now) in
-    unmet-more w (args .i .0 - 1) {u = loop .u} (omega arith) (stored .ensures .0) (loop .inv) (if1 .left)
+    let at = c .before .before .before .before .before .before in
+    let two = c .before .before .before .before .read-two .ensures in
+    let more = c .before .before .before .before .before .loop-test .taken in
+    two-passed (begin at .pre .0) (at .loop .inv) more two (c .before .before .if1 .left) (c .if2 .left)
 
-returns-2 : tie.Need-returns-2 Inv-loop μ-loop
-returns-2 c =
-    let pre = c .before .before .before .before .before .pre in
-    let args = c .before .before .before .before .before .args in
-    let loop = c .before .loop in
-    let k = sound-vertices (pre .0 .sound) in
-    let w = viewBy (args .n) (args .m) (args .bytes .now) (args .index .now) in
-    unmet-end w (args .i .0 - 1) {u = loop .u} (omega arith) (loop .inv)
+stored-requires : tie.Need-stored-requires Inv-loop μ-loop
+stored-requires c κs = (begin (c .before .before) .pre .0 .framed, c .if3 .taken)
+
+add-t20 : tie.Need-add-t20 Inv-loop μ-loop
+add-t20 c = let f = begin (c .before .before .before .before) .pre .0 .framed .n-fits in omega arith
+
+returns-3 : tie.Need-returns-3 Inv-loop μ-loop
+returns-3 c =
+    let at = c .before .before .before .before in
+    last-met (begin at .pre .0) (at .loop .inv) (c .before .before .if3 .taken) (c .before .stored .ensures .0)
+    (c .if4 .taken)
+
+returns-4 : tie.Need-returns-4 Inv-loop μ-loop
+returns-4 c =
+    let at = c .before .before .before .before in
+    last-passed (begin at .pre .0) (at .loop .inv) (c .before .before .if3 .taken) (c .before .stored .ensures .0)
+    (c .before .before .before .loop-test .left) (c .if4 .left)
+
+returns-5 : tie.Need-returns-5 Inv-loop μ-loop
+returns-5 c = none-met (begin (c .before .before) .pre .0) (c .before .before .loop .inv) (c .if3 .left)
 
 pub visited-in-spec : {M : Type 1} → statement M
 visited-in-spec =
@@ -72,11 +107,21 @@ visited-in-spec =
     Inv-loop
     μ-loop
     sub-k
+    mark-bytes-requires
+    mul-at
     loop-holds
-    stored-requires
-    add-t10
+    add-loop
+    read-two-requires
+    add-t13
     returns
+    add-t15
+    returns-2
     add-u
+    add-at
     loop-less
     loop-again
-    returns-2)
+    stored-requires
+    add-t20
+    returns-3
+    returns-4
+    returns-5)

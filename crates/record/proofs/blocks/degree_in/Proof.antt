@@ -10,7 +10,7 @@ use Rattle.record.specs.Operations.{outOfRange, degree}
 use Rattle.record.specs.Record.{blocks}
 use Rattle.record.specs.Laws.Range.{range-inside}
 use Rattle.record.specs.Laws.Told.{told}
-use Rattle.record.specs.Laws.OneBlock.{outside, block-rises, degree-is}
+use Rattle.record.specs.Laws.OneBlock.{outside, places-rise, degree-spanned}
 use Rattle.record.proofs.blocks.degree_in.Statement.{statement}
 use Rattle.record.proofs.blocks.degree_in.Tie as tie
 
@@ -35,35 +35,24 @@ inside c = sym (c .before .out-of-range .ensures) ∙ c .if1 .left
 upto : (c : tie.Else1) → (0 < start c .args .v .0) × (start c .args .v .0 ≤ start c .args .n)
 upto c = range-inside (start c .args .n) (start c .args .v .0) (inside c)
 
-start-of-requires : tie.Need-start-of-requires
-start-of-requires c κs = (start c .pre, upto c .1)
+sub-span-of : tie.Need-sub-span-of
+sub-span-of c = let z = upto c .0 in omega arith
 
-sub-start-of : tie.Need-sub-start-of
-sub-start-of c = let z = upto (c .before) .0 in omega arith
+span-of-requires : tie.Need-span-of-requires
+span-of-requires c κs = let (z, u) = upto c in (start c .pre, omega arith)
 
-start-of-requires-2 : tie.Need-start-of-requires-2
-start-of-requires-2 c κs = let z = upto (c .before) .1 in (start (c .before) .pre, omega arith)
-
-sub-t11 : tie.Need-sub-t11
-sub-t11 c =
+sub-t9 : tie.Need-sub-t9
+sub-t9 c =
     let s = start (c .before .before) in
-    block-rises (s .pre) (s .args .v .0) (inside (c .before .before)) (c .start-of2 .ensures)
-    (c .before .start-of .ensures)
+    let (f, t) = c .before .span-of .ensures in
+    places-rise (s .pre) (s .args .v .0) (inside (c .before .before)) f t .1
 
 returns-2 : tie.Need-returns-2
 returns-2 c =
     let s = start (c .before .before) in
-    degree-is (s .pre) (s .args .v .0) (inside (c .before .before)) (c .start-of2 .ensures)
-    (c .before .start-of .ensures)
+    let (f, t) = c .before .span-of .ensures in
+    degree-spanned (s .pre) (s .args .v .0) (inside (c .before .before)) f t
 
 pub degree-in-spec : {M : Type 1} → statement M
 degree-in-spec =
-    tie.close
-    (tie.spec
-    out-of-range-requires
-    returns
-    start-of-requires
-    sub-start-of
-    start-of-requires-2
-    sub-t11
-    returns-2)
+    tie.close (tie.spec out-of-range-requires returns sub-span-of span-of-requires sub-t9 returns-2)

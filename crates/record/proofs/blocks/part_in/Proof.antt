@@ -6,7 +6,7 @@ use native.Mathlib.Omega.{arith}
 use borrow.Author.Needs.{needs}
 use Rattle.record.specs.Operations.{outOfRange}
 use Rattle.record.specs.Laws.Range.{range-inside}
-use Rattle.record.specs.Laws.OneBlock.{outside, block-rises, part-outside, part-misfit, part-given}
+use Rattle.record.specs.Laws.OneBlock.{outside, places-rise, part-outside, part-misfit, part-spanned}
 use Rattle.record.proofs.blocks.part_in.Statement.{statement}
 use Rattle.record.proofs.blocks.part_in.Tie as tie
 
@@ -37,30 +37,27 @@ returns-2 c =
     let args = start (c .before) .args in
     part-misfit (start (c .before) .pre) (args .v .0) (inside (c .before)) (c .if2 .taken)
 
-sub-start-of : tie.Need-sub-start-of
-sub-start-of c = let z = upto (c .before) .0 in omega arith
+sub-span-of : tie.Need-sub-span-of
+sub-span-of c = let z = upto (c .before) .0 in omega arith
 
-start-of-requires : tie.Need-start-of-requires
-start-of-requires c κs = let z = upto (c .before) .1 in (start (c .before) .pre, omega arith)
+span-of-requires : tie.Need-span-of-requires
+span-of-requires c κs = let (z, u) = upto (c .before) in (start (c .before) .pre, omega arith)
 
-start-of-requires-2 : tie.Need-start-of-requires-2
-start-of-requires-2 c κs = (start (c .before .before) .pre, upto (c .before .before) .1)
-
--- its part is the one from a up to b
-abbrev else : tie.After-start-of2 → tie.Else1
-else c = c .before .before .before
+-- its part, by the places of D
+sub-from : tie.Need-sub-from
+sub-from c = search needs
 
 sub-t10 : tie.Need-sub-t10
 sub-t10 c =
-    let s = start (else c) in
-    block-rises (s .pre) (s .args .v .0) (inside (else c)) (c .before .start-of .ensures) (c .start-of2 .ensures)
+    let else = c .before .before .before .before in
+    let (f, t) = c .before .before .span-of .ensures in
+    places-rise (start else .pre) (start else .args .v .0) (inside else) f t .1
 
 returns-3 : tie.Need-returns-3
 returns-3 c =
-    let s = start (else c) in
-    let a = c .before .start-of .ensures in
-    let b = c .start-of2 .ensures in
-    part-given (s .pre) (s .args .v .0) (inside (else c)) a b (c .before .before .if2 .left)
+    let else = c .before .before .before .before in
+    let (f, t) = c .before .before .span-of .ensures in
+    part-spanned (start else .pre) (start else .args .v .0) (inside else) f t (c .before .before .before .if2 .left)
 
 pub part-in-spec : {M : Type 1} → statement M
 part-in-spec =
@@ -70,8 +67,8 @@ part-in-spec =
     returns
     mul-if2
     returns-2
-    sub-start-of
-    start-of-requires
-    start-of-requires-2
+    sub-span-of
+    span-of-requires
+    sub-from
     sub-t10
     returns-3)

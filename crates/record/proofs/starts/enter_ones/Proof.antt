@@ -1,5 +1,7 @@
 -- `starts::enter_ones` meets its contract: each turn enters the start of the highest one that is left.
+use Prim.Native.Nat.{_+_, _≤_, _<_}
 use native.Mathlib.Omega.{arith}
+use lib.ListN.{length}
 use lib.Pow.{pow-pos}
 use Rattle.record.specs.Record.{unary}
 use Rattle.record.specs.Steps.{Entering}
@@ -13,6 +15,12 @@ Inv-loop bytes starts₀ w end k left₀ next₀ starts left next = Entering (un
 abbrev μ-loop : tie.MeasureT-loop
 μ-loop bytes starts₀ w end k left₀ next₀ starts left next = left
 
+-- the highest one that is left has a place, and its start a cell
+bounds : (c : tie.After-top Inv-loop μ-loop)
+    → (c .before .before .loop .next + c .top .result + 1 ≤ c .before .before .before .before .before .args .end)
+    × (c .before .before .loop .next < length (c .before .before .loop .starts))
+bounds c = entering-bounds (c .before .before .loop .inv) (c .top .result) (c .top .ensures .1)
+
 loop-holds : tie.Need-loop-holds Inv-loop μ-loop
 loop-holds c = c .before .before .pre .1
 
@@ -23,13 +31,13 @@ add-put : tie.Need-add-put Inv-loop μ-loop
 add-put c = omega arith
 
 sub-put : tie.Need-sub-put Inv-loop μ-loop
-sub-put c = let b = entering-bounds (c .before .before .before .loop .inv) (c .before .top .result) (c .before .top .ensures .1) in omega arith
+sub-put c = let b = bounds (c .before) in omega arith
 
 sub-put-2 : tie.Need-sub-put-2 Inv-loop μ-loop
-sub-put-2 c = let b = entering-bounds (c .before .before .before .loop .inv) (c .before .top .result) (c .before .top .ensures .1) in omega arith
+sub-put-2 c = let b = bounds (c .before) in omega arith
 
 put-requires : tie.Need-put-requires Inv-loop μ-loop
-put-requires c κs = let b = entering-bounds (c .before .before .before .loop .inv) (c .before .top .result) (c .before .top .ensures .1) in omega arith
+put-requires c κs = let b = bounds (c .before) in omega arith
 
 without-requires : tie.Need-without-requires Inv-loop μ-loop
 without-requires c κs =
@@ -37,22 +45,28 @@ without-requires c κs =
     (top .ensures .0, top .ensures .1)
 
 add-next : tie.Need-add-next Inv-loop μ-loop
-add-next c =
-    let top = c .before .before .before .before .before .top in
-    let b = entering-bounds (c .before .before .before .before .before .before .before .loop .inv) (top .result) (top .ensures .1) in omega arith
+add-next c = let b = bounds (c .before .before .before .before .before) in omega arith
 
 loop-less : tie.Need-loop-less Inv-loop μ-loop
 loop-less c =
     let top = c .before .before .before .before .before .top in
-    let p = pow-pos (top .result) in let l = top .ensures .1 in let e = c .without .ensures in omega arith
+    let p = pow-pos (top .result) in
+    let l = top .ensures .1 in
+    let e = c .without .ensures in
+    omega arith
 
 loop-again : tie.Need-loop-again Inv-loop μ-loop
 loop-again c =
     let top = c .before .before .before .before .before .top in
-    entering-more (c .before .before .before .before .before .before .before .loop .inv) (top .result) (top .ensures .1) (top .ensures .2) (c .before .before .before .put .ensures) (c .without .ensures)
+    let inv = c .before .before .before .before .before .before .before .loop .inv in
+    let stored = c .before .before .before .put .ensures in
+    entering-more inv (top .result) (top .ensures .1) (top .ensures .2) stored (c .without .ensures)
 
 same-length : tie.Need-same-length Inv-loop μ-loop
-same-length c = let s = c .before .loop .inv .filling .size in let t = c .before .before .before .before .pre .1 .filling .size in omega arith
+same-length c =
+    let s = c .before .loop .inv .filling .size in
+    let t = c .before .before .before .before .pre .1 .filling .size in
+    omega arith
 
 returns : tie.Need-returns Inv-loop μ-loop
 returns c = entering-end (c .before .loop .inv) (c .loop-test .left)

@@ -26,7 +26,9 @@ loop-holds : tie.Need-loop-holds Inv-loop μ-loop
 loop-holds c =
     let args = c .before .before .args in
     let pre = c .before .before .pre in
-    filling-start (unary (args .bytes .now)) (args .starts .now) (let e = sound-ones (pre .0) in let f = pre .1 in omega arith)
+    let e = sound-ones (pre .0) in
+    let f = pre .1 in
+    filling-start (unary (args .bytes .now)) (args .starts .now) (omega arith)
 
 part-end-requires : tie.Need-part-end-requires Inv-loop μ-loop
 part-end-requires c κs = omega arith
@@ -46,7 +48,8 @@ enter-ones-requires c κs =
     let loop = c .before .before .before .before .loop in
     let e = sound-places (pre .0) in
     let end = c .before .before .part-end .result in
-    (omega arith, entering-start end (loop .inv) (omega arith) (omega arith) (c .read-long .ensures ∙ sound-part (pre .0) (end - loop .i) (loop .i) (omega arith)))
+    let part = c .read-long .ensures ∙ sound-part (pre .0) (end - loop .i) (loop .i) (omega arith) in
+    (omega arith, entering-start end (loop .inv) (omega arith) (omega arith) part)
 
 loop-less : tie.Need-loop-less Inv-loop μ-loop
 loop-less c = omega arith
@@ -77,7 +80,10 @@ same-length c =
     omega arith
 
 returns : tie.Need-returns Inv-loop μ-loop
-returns c = filling-end (c .before .before .before .before .before .loop .inv) (let e = sound-places (c .before .before .before .before .before .before .before .before .pre .0) in let h = c .before .before .before .before .loop-test .left in omega arith) (c .before .before .put .ensures)
+returns c =
+    let e = sound-places (c .before .before .before .before .before .before .before .before .pre .0) in
+    let h = c .before .before .before .before .loop-test .left in
+    filling-end (c .before .before .before .before .before .loop .inv) (omega arith) (c .before .before .put .ensures)
 
 pub fill-starts-spec : {M : Type 1} → statement M
 fill-starts-spec =

@@ -1,0 +1,47 @@
+-- `build` meets its contract: order R and rule 5 first, and then the rest in a room.
+use mathlib.Core.Path.{sym, ap, _∙_}
+use borrow.Author.Needs.{needs}
+use Rattle.record.specs.Answers.{shape, sizesOf}
+use Rattle.record.specs.Laws.Sounded.{told-laid}
+use Rattle.forest.proofs.Laws.Building.{done-unread}
+use Rattle.forest.proofs.build.Statement.{statement}
+use Rattle.forest.proofs.build.Tie as tie
+
+laid-out-requires : tie.Need-laid-out-requires
+laid-out-requires c κs = search needs
+
+enum-known-r : tie.Need-enum-known-r
+enum-known-r c = search needs
+
+enum-known-s : tie.Need-enum-known-s
+enum-known-s c = search needs
+
+in-room-requires : tie.Need-in-room-requires
+in-room-requires c κs = told-laid (@args .bytes .now) (sym (ap shape (@s .given .1)) ∙ @laid-out .ensures)
+
+returns : tie.Need-returns
+returns c =
+    let d = done-unread (sizesOf (@args .bytes .now)) (sym (ap shape (@r .given .1)) ∙ @laid-out .ensures) in
+    (d .told, d .left)
+
+same-length : tie.Need-same-length
+same-length c = search needs
+
+same-length-2 : tie.Need-same-length-2
+same-length-2 c = search needs
+
+returns-2 : tie.Need-returns-2
+returns-2 c = (@in-room .ensures .told, @in-room .ensures .left)
+
+pub build-spec : {M : Type 1} → statement M
+build-spec =
+    tie.close
+    (tie.spec
+    laid-out-requires
+    enum-known-r
+    enum-known-s
+    in-room-requires
+    returns
+    same-length
+    same-length-2
+    returns-2)
