@@ -17,11 +17,11 @@ enum-known-s : tie.Need-enum-known-s
 enum-known-s c = search needs
 
 in-room-requires : tie.Need-in-room-requires
-in-room-requires c κs = told-laid (@args .bytes .now) (sym (ap shape (@s .given .1)) ∙ @laid-out .ensures)
+in-room-requires c κs = told-laid (c .before .before .before .before .before .before .before .before .before .args .bytes .now) (sym (ap shape (c .before .before .before .s .given .1)) ∙ c .before .before .before .before .before .laid-out .ensures)
 
 returns : tie.Need-returns
 returns c =
-    let d = done-unread (sizesOf (@args .bytes .now)) (sym (ap shape (@r .given .1)) ∙ @laid-out .ensures) in
+    let d = done-unread (sizesOf (c .before .before .before .before .before .before .before .args .bytes .now)) (sym (ap shape (c .before .r .given .1)) ∙ c .before .before .before .laid-out .ensures) in
     (d .told, d .left)
 
 same-length : tie.Need-same-length
@@ -31,7 +31,7 @@ same-length-2 : tie.Need-same-length-2
 same-length-2 c = search needs
 
 returns-2 : tie.Need-returns-2
-returns-2 c = (@in-room .ensures .told, @in-room .ensures .left)
+returns-2 c = (c .before .before .before .before .in-room .ensures .told, c .before .before .before .before .in-room .ensures .left)
 
 pub build-spec : {M : Type 1} → statement M
 build-spec =
