@@ -11,7 +11,8 @@ use Rattle.graph.specs.Joined.{without, joined, bridge}
 use Rattle.graph.specs.Forest.{number, childMark, parentMark}
 use Rattle.graph.specs.Walk.{walk}
 use Rattle.record.specs.Record.{terminals, wires, usedBits, recordLength, unary, fieldsFrom, fields, zeros, parts, blocks, layOut, unaryOf, fieldBits, recordBits, recordOf}
-use Rattle.record.specs.Rules.{firstBroken, beginsWithZero, orderR, anyIn, anyFrom, spareSet, stray, doubled, oneSided, checkRules}
+use Rattle.record.specs.Rules.{firstBroken, beginsWithZero, orderR, anyIn, anyFrom, spareSet, stray, doubled, oneSided}
+use Rattle.record.specs.Rules.{placeRules, layoutRules, checkRules}
 use Rattle.record.specs.Answers.{Answer, refused, answered, outcome, otherwise, said}
 use Rattle.record.specs.Operations.{check, otherLength, outOfRange}
 use Rattle.forest.specs.Index.{marksFrom, section, sectionE, sectionP, sectionB, numbers, indexBy, indexOf, markBytes, numberBytes, indexLength}
@@ -96,5 +97,5 @@ lines a b c =
     ∷ []
 
 pub as-stated : (a b c : ℕ) → map computed (lines a b c) ≡ lines a b c
-unfolding toBits bits string count onesAt select value field packed pack mentions position pair entered arcs run search countUp without joined bridge number childMark parentMark walk terminals wires usedBits recordLength unary fieldsFrom fields zeros parts blocks layOut unaryOf fieldBits recordBits recordOf firstBroken beginsWithZero orderR anyIn anyFrom spareSet stray doubled oneSided checkRules outcome otherwise check otherLength outOfRange marksFrom section sectionE sectionP sectionB numbers indexBy markBytes numberBytes indexLength blockMarks sectionOf numberOf stepBy stepUp headOf orderQ head flatten visit visitOf parent parentOf children childCount said answersOf tableOf
+unfolding toBits bits string count onesAt select value field packed pack mentions position pair entered arcs run search countUp without joined bridge number childMark parentMark walk terminals wires usedBits recordLength unary fieldsFrom fields zeros parts blocks layOut unaryOf fieldBits recordBits recordOf firstBroken beginsWithZero orderR anyIn anyFrom spareSet stray doubled oneSided placeRules layoutRules checkRules outcome otherwise check otherLength outOfRange marksFrom section sectionE sectionP sectionB numbers indexBy markBytes numberBytes indexLength blockMarks sectionOf numberOf stepBy stepUp headOf orderQ head flatten visit visitOf parent parentOf children childCount said answersOf tableOf
 as-stated a b c = refl

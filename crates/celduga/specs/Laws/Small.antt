@@ -25,7 +25,7 @@ use Rattle.record.specs.Steps.{Sound}
 use Rattle.record.specs.Operations.{outOfRange, degreeRules, degree, loopFigure}
 use Rattle.record.specs.Laws.First.{both-kept, order-numbered, rule-kept}
 use Rattle.record.specs.Laws.Range.{range-inside}
-use Rattle.record.specs.Laws.Sounded.{sound-of, sound-vertices}
+use Rattle.record.specs.Laws.Sounded.{sound-of, accepted-sound, sound-vertices}
 use Rattle.record.specs.Laws.Told.{untold}
 use Rattle.record.specs.Laws.Spans.{span-ends, span-size}
 use Rattle.forest.specs.Laws.Sections.{length-each}
@@ -80,9 +80,9 @@ figure-near {m} {n} a b = go (ltb (m + 1) n)
     go false = omega arith
 
 pub figure-short : (bytes : List ℕ) → Short (loopFigure bytes)
-unfolding loopFigure checkRules
+unfolding loopFigure
 figure-short bytes = tried-small (checkRules bytes) (subℕ (wires bytes + 1) (terminals bytes)) (λ k. (
-    let s = sound-of bytes (both-kept (order-numbered bytes) _ k .0) refl refl in
+    let s = accepted-sound (record { unbroken = k }) in
     figure-near (s .m-fits) (s .n-fits)
     ))
 

@@ -8,7 +8,7 @@ use borrow.Author.Tests.{eq-eqb, ne-eqb, eqb-true, not-false}
 use lib.Dec.{eqb, ltb}
 use lib.ListN.{length}
 use Rattle.record.specs.Record.{terminals, wires}
-use Rattle.record.specs.Rules.{Rule, firstBroken, orderR, checkRules}
+use Rattle.record.specs.Rules.{Rule, firstBroken, orderR, layoutRules, checkRules}
 use Rattle.record.specs.Answers.{refused, answered, tried, sizesOf}
 use Rattle.record.specs.Operations.{otherLength}
 use Rattle.record.specs.Steps.{Sound}
@@ -48,10 +48,11 @@ module _ (bytes work : List ℕ) (lent : Columns) where
   -- order R refuses
   pub table-unread : {k : ℕ} → refused k ≡ tried (orderR bytes) (sizesOf bytes)
       → TableDone bytes work lent lent (refused k)
-  unfolding tableRules checkRules
+  unfolding tableRules checkRules layoutRules
   table-unread e =
       let (i, f, g) = told-back (firstBroken (orderR bytes)) (sizesOf bytes) e in
-      rw g (refuses (append-broken (checkRules bytes) _ i (append-broken (orderR bytes) _ i f)))
+      let l = append-broken (layoutRules bytes) _ i (append-broken (orderR bytes) _ i f) in
+      rw g (refuses (append-broken (checkRules bytes) _ i l))
 
   -- behind order R, with an index of the right length
   module _ {n m : ℕ} (s : Sound bytes n m) (index : List ℕ) (fits : length index ≡ indexLength n m) where
