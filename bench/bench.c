@@ -17,8 +17,11 @@
 #include <string.h>
 #include <time.h>
 
-enum { MOST_N = 4096, MOST_M = 16384, MOST_INDEX = 3 * 4608 + 6144, COPIES = 1 << (SIZES - 1), ARGUMENTS = 1024, ROUNDS = 40,
-       QUERY_ROUNDS = 100, STRING_ROUNDS = 400, LENGTHS = 7, COLUMNS = 4 };
+enum { MOST_N = 4096, MOST_M = 16384, MOST_INDEX = 3 * 4608 + 6144, ARGUMENTS = 1024, ROUNDS = 40, QUERY_ROUNDS = 100,
+       STRING_ROUNDS = 400, LENGTHS = 7, COLUMNS = 4 };
+
+/* The records of the smallest size, and of all sizes: as each is four times the one before, a quarter of them is made. */
+enum { COPIES = 1 << 2 * (SIZES - 1), RECORDS = (4 * COPIES - 1) / 3 };
 
 /* All operations under one name each. */
 struct side {
@@ -64,11 +67,17 @@ static size_t answers, refusals[14];
 static volatile size_t sink;
 
 /* What is asked: a record, its buffers' lengths, or a string. */
-static struct record records[2 * COPIES];
+static struct record records[RECORDS];
 static const struct record *asked;
 static size_t work_len, index_len, list_len, column_lens[COLUMNS];
 static const uint8_t *string;
 static size_t string_len, string_start, string_places;
+
+/* The records of one size. */
+static int copies(int size)
+{
+    return COPIES >> 2 * size;
+}
 
 static void ask(const struct record *r)
 {
@@ -395,7 +404,7 @@ static void print_shape(int shape)
     for (size = 0; size < SIZES; size++) {
         first[size] = &records[made];
         bits[size] = 0;
-        for (i = 0; i < COPIES >> size; i++) {
+        for (i = 0; i < copies(size); i++) {
             make_record(shape, size, i, &records[made]);
             bits[size] += 8 * (double)records[made++].len;
         }
@@ -405,7 +414,7 @@ static void print_shape(int shape)
     for (round = 0; round < ROUNDS; round++)
         for (op = 0; op < WHOLE; op++)
             for (size = 0; size < SIZES; size++)
-                try_records(&t[op][size], (enum op)op, first[size], COPIES >> size);
+                try_records(&t[op][size], (enum op)op, first[size], copies(size));
     for (size = 0; size < SIZES; size++) {
         printf("| %s | %zu | %zu | %zu |", shape_names[shape], first[size]->n, first[size]->m, 8 * first[size]->len);
         for (op = 0; op < WHOLE; op++) {
