@@ -292,6 +292,19 @@ static void compare_strings(const struct record *r, uint64_t *state)
     }
 }
 
+/* All records of a size that are timed, which are accepted; the first comes last, and stays. */
+static void compare_timed(int shape, int size, struct record *r)
+{
+    int copy;
+    for (copy = copies(size) - 1; copy >= 0; copy--) {
+        make_record(shape, size, copy, r);
+        ask(r);
+        compare_whole();
+        if (plain_check(r->bytes, r->len) != 0)
+            differ("a record of the benchmark", 0, 0, 0, plain_check(r->bytes, r->len));
+    }
+}
+
 static void compare_all(void)
 {
     static struct record r;
@@ -302,10 +315,7 @@ static void compare_all(void)
         for (size = 0; size < SIZES; size++) {
             make_record(shape, size, 0, &r);
             compare_harmed(&r, &state);
-            ask(&r);
-            compare_whole();
-            if (plain_check(r.bytes, r.len) != 0)
-                differ("a record of the benchmark", 0, 0, 0, plain_check(r.bytes, r.len));
+            compare_timed(shape, size, &r);
             for (v = 0; v <= r.n + 1; v++)
                 compare_queries(v, &state);
             compare_strings(&r, &state);
