@@ -18,9 +18,9 @@
 #include <time.h>
 
 enum { MOST_N = 4096, MOST_M = 16384, MOST_INDEX = 3 * 4608 + 6144, ARGUMENTS = 1024, ROUNDS = 40, QUERY_ROUNDS = 100,
-       STRING_ROUNDS = 400, LENGTHS = 7, COLUMNS = 4 };
+       STRING_ROUNDS = 400, LENGTHS = 7, COLUMNS = 4, SHOWN = 3 };
 
-/* The records of the smallest size, and of all sizes: as each is four times the one before, a quarter of them is made. */
+/* The records of the smallest size, and of all: each size has a quarter as many as the one before, so that they make up one volume. */
 enum { COPIES = 1 << 2 * (SIZES - 1), RECORDS = (4 * COPIES - 1) / 3 };
 
 /* All operations under one name each. */
@@ -336,15 +336,24 @@ struct times {
     double product, plain;
 };
 
-static struct times worst[OPS], best[OPS];
+/* The sizes at which queries are timed, and whose ratios are told. Dense and clique have fewer terminals, and records of like length. */
+static const int shown[SHOWN] = { 0, 1, SIZES - 1 };
+static const char *const shown_names[SHOWN] = { "n = 64", "n = 256", "largest" };
 
-/* Keeps the best and the worst ratio of each operation. */
-static void note(enum op op, struct times t)
+/* The least and the greatest ratio of each operation, by size; of Rank and Select over all lengths, at 0. */
+static struct {
+    double least, greatest;
+} ratios[OPS][SIZES];
+
+/* The ratio of the two times, which is kept where none was less or greater. */
+static double noted(enum op op, int size, struct times t)
 {
-    if (worst[op].plain == 0 || t.product / t.plain > worst[op].product / worst[op].plain)
-        worst[op] = t;
-    if (best[op].plain == 0 || t.product / t.plain < best[op].product / best[op].plain)
-        best[op] = t;
+    double ratio = t.product / t.plain;
+    if (ratios[op][size].least == 0 || ratio < ratios[op][size].least)
+        ratios[op][size].least = ratio;
+    if (ratio > ratios[op][size].greatest)
+        ratios[op][size].greatest = ratio;
+    return ratio;
 }
 
 /* The time of a call on each of the records from `first` on. */
@@ -427,10 +436,8 @@ static void print_shape(int shape)
                 try_records(&t[op][size], (enum op)op, first[size], copies(size));
     for (size = 0; size < SIZES; size++) {
         printf("| %s | %zu | %zu | %zu |", shape_names[shape], first[size]->n, first[size]->m, 8 * first[size]->len);
-        for (op = 0; op < WHOLE; op++) {
-            note((enum op)op, t[op][size]);
-            printf(" %.2f | %.2f |", t[op][size].product / bits[size], t[op][size].product / t[op][size].plain);
-        }
+        for (op = 0; op < WHOLE; op++)
+            printf(" %.2f | %.2f |", t[op][size].product / bits[size], noted((enum op)op, size, t[op][size]));
         printf("\n");
     }
     fflush(stdout);
@@ -497,18 +504,15 @@ static void print_record_queries(int shape, int size)
         for (op = DEGREE; op < RANK; op++)
             try_both(&t[op], (enum op)op, (const size_t(*)[2])arguments[op], count[op]);
     printf("| %s | %zu | %zu |", shape_names[shape], records[0].n, records[0].m);
-    for (op = DEGREE; op < RANK; op++) {
-        note((enum op)op, t[op]);
-        printf(" %.0f | %.2f |", t[op].product, t[op].product / t[op].plain);
-    }
+    for (op = DEGREE; op < RANK; op++)
+        printf(" %.0f | %.2f |", t[op].product, noted((enum op)op, size, t[op]));
     printf("\n");
     fflush(stdout);
 }
 
-/* The queries, on the smallest and on the largest record of each shape. */
 static void print_queries(void)
 {
-    int shape, op;
+    int shape, op, i;
     printf("| shape | n | m |");
     for (op = DEGREE; op < RANK; op++)
         printf(" %s | ratio |", op_names[op]);
@@ -516,10 +520,9 @@ static void print_queries(void)
     for (op = DEGREE; op < RANK; op++)
         printf("--:|--:|");
     printf("\n");
-    for (shape = 0; shape < SHAPES; shape++) {
-        print_record_queries(shape, 0);
-        print_record_queries(shape, SIZES - 1);
-    }
+    for (shape = 0; shape < SHAPES; shape++)
+        for (i = 0; i < SHOWN; i++)
+            print_record_queries(shape, shown[i]);
 }
 
 /* Rank and select in strings of drawn bytes that start inside a byte. Half the bits are ones, and on average half the string is read. */
@@ -558,21 +561,36 @@ static void print_strings(void)
     for (i = 0; i < LENGTHS; i++) {
         double words = (double)lengths[i] / 2 / 64;
         printf("| %zu |", lengths[i]);
-        for (o = 0; o < 2; o++) {
-            note((enum op)(RANK + o), t[i][o]);
-            printf(" %.1f | %.2f | %.2f |", t[i][o].product, t[i][o].product / words, t[i][o].product / t[i][o].plain);
-        }
+        for (o = 0; o < 2; o++)
+            printf(" %.1f | %.2f | %.2f |", t[i][o].product, t[i][o].product / words, noted((enum op)(RANK + o), 0, t[i][o]));
         printf("\n");
     }
 }
 
 static void print_ratios(void)
 {
+    int op, i;
+    printf("| operation |");
+    for (i = 0; i < SHOWN; i++)
+        printf(" %s, least | greatest |", shown_names[i]);
+    printf("\n|---|");
+    for (i = 0; i < SHOWN; i++)
+        printf("--:|--:|");
+    printf("\n");
+    for (op = 0; op < RANK; op++) {
+        printf("| %s |", op_names[op]);
+        for (i = 0; i < SHOWN; i++)
+            printf(" %.2f | %.2f |", ratios[op][shown[i]].least, ratios[op][shown[i]].greatest);
+        printf("\n");
+    }
+}
+
+static void print_string_ratios(void)
+{
     int op;
-    printf("| operation | least ratio | greatest ratio |\n|---|--:|--:|\n");
-    for (op = 0; op < OPS; op++)
-        if (worst[op].plain > 0)
-            printf("| %s | %.2f | %.2f |\n", op_names[op], best[op].product / best[op].plain, worst[op].product / worst[op].plain);
+    printf("| operation | least | greatest |\n|---|--:|--:|\n");
+    for (op = RANK; op < OPS; op++)
+        printf("| %s | %.2f | %.2f |\n", op_names[op], ratios[op][0].least, ratios[op][0].greatest);
 }
 
 /* The largest record of a shape; 0 where there is no such shape. */
@@ -618,7 +636,9 @@ int main(int argc, char **argv)
     print_queries();
     printf("\n### Strings: nanoseconds of the product per call and per word read, and product / plain\n\n");
     print_strings();
-    printf("\n### Ratios\n\n");
+    printf("\n### Ratios: product / plain, the least and the greatest over the shapes\n\n");
     print_ratios();
+    printf("\n### Ratios of Rank and Select: the least and the greatest over the lengths of strings\n\n");
+    print_string_ratios();
     return 0;
 }
