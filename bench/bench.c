@@ -457,33 +457,38 @@ static void print_whole(void)
         print_shape(shape);
 }
 
-/* Any terminal; for Ancestor any two, and every second time one that stands above; for Child one that has children, and one of them. */
-static void choose_arguments(const struct record *r, const uint8_t *index)
+/* Any terminal; for Ancestor any two, and every second time one that stands above; for Child one that has children, and one of them. The
+   lists are Table's. */
+static void choose_arguments(size_t n, const uint16_t *parents, const uint16_t *children)
 {
     uint64_t state = 11;
-    size_t i, up, p, children;
+    size_t i, up;
     int op;
     for (op = DEGREE; op < RANK; op++)
         for (i = 0; i < ARGUMENTS; i++)
-            arguments[op][i][0] = 1 + draw(&state, r->n);
+            arguments[op][i][0] = 1 + draw(&state, n);
     for (i = 0; i < ARGUMENTS; i++) {
         size_t *ancestor = arguments[ANCESTOR][i], *child = arguments[CHILD][i];
-        ancestor[1] = 1 + draw(&state, r->n);
+        ancestor[1] = 1 + draw(&state, n);
         if (i % 2 == 0) {
             ancestor[0] = ancestor[1];
-            for (up = draw(&state, 64); up > 0; up--) {
-                p = plain_parent(r->bytes, r->len, index, r->index_len, ancestor[0]);
-                if (p == 0)
-                    break;
-                ancestor[0] = p;
-            }
+            for (up = draw(&state, 64); up > 0 && parents[ancestor[0] - 1] != 0; up--)
+                ancestor[0] = parents[ancestor[0] - 1];
         }
         do {
-            child[0] = 1 + draw(&state, r->n);
-            children = plain_children(r->bytes, r->len, index, r->index_len, child[0]);
-        } while (children == 0);
-        child[1] = 1 + draw(&state, children);
+            child[0] = 1 + draw(&state, n);
+        } while (children[child[0] - 1] == 0);
+        child[1] = 1 + draw(&state, children[child[0] - 1]);
     }
+}
+
+/* The indexes of the record that is asked, and the arguments of its queries. */
+static void prepare_queries(void)
+{
+    call(&product, &rooms[0], BUILD, 0, 0);
+    call(&plain, &rooms[1], BUILD, 0, 0);
+    call(&plain, &rooms[1], TABLE, 0, 0);
+    choose_arguments(asked->n, rooms[1].columns[1], rooms[1].columns[2]);
 }
 
 /* The queries on one record, in turn. */
@@ -494,9 +499,7 @@ static void print_record_queries(int shape, int size)
     int op, round;
     make_record(shape, size, 0, &records[0]);
     ask(&records[0]);
-    call(&product, &rooms[0], BUILD, 0, 0);
-    call(&plain, &rooms[1], BUILD, 0, 0);
-    choose_arguments(&records[0], rooms[1].index);
+    prepare_queries();
     memset(t, 0, sizeof t);
     for (op = DEGREE; op < RANK; op++)
         count[op] = enough((enum op)op, (const size_t(*)[2])arguments[op]);
