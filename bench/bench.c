@@ -1,10 +1,11 @@
 /* Compares the product with plain C on records of several shapes and sizes, first by answers and written buffers, then by time.
 
-   bench                      the tables, as Markdown
-   bench compare              the answers alone
-   bench once SIDE OP SHAPE   one call on the largest record of a shape, to be counted: SIDE is product or plain, OP is check,
-                              build or table
-   bench record SHAPE         that record's bytes
+   bench                           the tables, as Markdown
+   bench compare                   the answers alone
+   bench once SIDE OP SHAPE SIZE   what is counted: one call on a record, or for a query one for each argument. SIDE is product or plain,
+                                   OP an operation, SIZE 0 to 3
+   bench record SHAPE SIZE         that record's bytes
+   bench sizes SHAPE SIZE          its n and m
 
    Both sides run in turn, many times, and the least time of each counts. No buffer is cleared between two timed calls. */
 #define _POSIX_C_SOURCE 200809L
@@ -15,6 +16,7 @@
 #include <stdio.h>
 #include <stdlib.h>
 #include <string.h>
+#include <strings.h>
 #include <time.h>
 
 enum { MOST_N = 4096, MOST_M = 16384, MOST_INDEX = 3 * 4608 + 6144, ARGUMENTS = 1024, ROUNDS = 40, QUERY_ROUNDS = 100,
@@ -596,42 +598,69 @@ static void print_string_ratios(void)
         printf("| %s | %.2f | %.2f |\n", op_names[op], ratios[op][0].least, ratios[op][0].greatest);
 }
 
-/* The largest record of a shape; 0 where there is no such shape. */
-static int largest(const char *shape)
+/* The place of a name among others, whatever its capitals; their count where it is none of them. */
+static int place_of(const char *name, const char *const *names, int count)
 {
     int i;
-    for (i = 0; i < SHAPES && strcmp(shape, shape_names[i]) != 0; i++)
+    for (i = 0; i < count && strcasecmp(name, names[i]) != 0; i++)
         continue;
-    if (i < SHAPES)
-        make_record(i, SIZES - 1, 0, &records[0]);
-    return i < SHAPES;
+    return i;
 }
 
-static int once(const char *side, const char *op, const char *shape)
+/* Asks for the record that is named; 0 where there is none. */
+static int ask_named(const char *shape, const char *size)
 {
-    const struct side *s = strcmp(side, "product") == 0 ? &product : &plain;
-    enum op o = strcmp(op, "check") == 0 ? CHECK : strcmp(op, "build") == 0 ? BUILD : TABLE;
-    if (!largest(shape))
-        return 2;
+    int i = place_of(shape, shape_names, SHAPES), at = size[0] - '0';
+    if (i == SHAPES || at < 0 || at >= SIZES || size[1] != 0)
+        return 0;
+    make_record(i, at, 0, &records[0]);
     ask(&records[0]);
-    return call(s, &rooms[0], o, 0, 0) != 0;
+    return 1;
+}
+
+static int once(const char *side, const char *name, const char *shape, const char *size)
+{
+    static const char *const side_names[2] = { "product", "plain" };
+    int which = place_of(side, side_names, 2), op = place_of(name, op_names, RANK);
+    const struct side *s = which == 0 ? &product : &plain;
+    size_t i, sum = 0;
+    if (which == 2 || op == RANK || !ask_named(shape, size))
+        return 2;
+    if (op < WHOLE)
+        return call(s, &rooms[0], (enum op)op, 0, 0) > 0xFFFF;
+    prepare_queries();
+    for (i = 0; i < ARGUMENTS; i++)
+        sum += call(s, &rooms[0], (enum op)op, arguments[op][i][0], arguments[op][i][1]);
+    sink = sum;
+    return 0;
+}
+
+/* What is told of one record alone. */
+static int tell(const char *what, const char *shape, const char *size)
+{
+    if (!ask_named(shape, size))
+        return 2;
+    if (strcmp(what, "record") == 0)
+        return fwrite(asked->bytes, 1, asked->len, stdout) != asked->len;
+    if (strcmp(what, "sizes") == 0)
+        return printf("%zu %zu\n", asked->n, asked->m) < 0;
+    return 2;
 }
 
 int main(int argc, char **argv)
 {
     int i;
-    if (argc == 5 && strcmp(argv[1], "once") == 0)
-        return once(argv[2], argv[3], argv[4]);
-    if (argc == 3 && strcmp(argv[1], "record") == 0) {
-        if (!largest(argv[2]))
-            return 2;
-        return fwrite(records[0].bytes, 1, records[0].len, stdout) != records[0].len;
-    }
+    if (argc == 6 && strcmp(argv[1], "once") == 0)
+        return once(argv[2], argv[3], argv[4], argv[5]);
+    if (argc == 4)
+        return tell(argv[1], argv[2], argv[3]);
+    if (argc > 2 || (argc == 2 && strcmp(argv[1], "compare") != 0))
+        return 2;
     compare_all();
     printf("The two sides gave %zu equal answers. Refusals among them:", answers);
     for (i = 1; i < 14; i++)
         printf(" %zu of %d%s", refusals[i], i, i < 13 ? "," : ".\n");
-    if (argc == 2 && strcmp(argv[1], "compare") == 0)
+    if (argc == 2)
         return 0;
     printf("\n### Whole records: nanoseconds of the product per bit of the record, and product / plain\n\n");
     print_whole();
