@@ -1,10 +1,11 @@
 /* Compares the product with plain C on records of several shapes and sizes, first by answers and written buffers, then by time.
 
-   bench                      the tables, as Markdown
-   bench compare              the answers alone
-   bench once SIDE OP SHAPE   one call on the largest record of a shape, to be counted: SIDE is product or plain, OP is check,
-                              build or table
-   bench record SHAPE         that record's bytes
+   bench                           the tables, as Markdown
+   bench compare                   the answers alone
+   bench once SIDE OP SHAPE SIZE   what is counted: one call on a record, or for a query one for each argument. SIDE is product or plain,
+                                   OP an operation, SIZE 0 to 3
+   bench record SHAPE SIZE         that record's bytes
+   bench sizes SHAPE SIZE          its n and m
 
    Both sides run in turn, many times, and the least time of each counts. No buffer is cleared between two timed calls. */
 #define _POSIX_C_SOURCE 200809L
@@ -15,10 +16,14 @@
 #include <stdio.h>
 #include <stdlib.h>
 #include <string.h>
+#include <strings.h>
 #include <time.h>
 
-enum { MOST_N = 4096, MOST_M = 16384, MOST_INDEX = 3 * 4608 + 6144, COPIES = 1 << (SIZES - 1), ARGUMENTS = 1024, ROUNDS = 40,
-       QUERY_ROUNDS = 100, STRING_ROUNDS = 400, LENGTHS = 7, COLUMNS = 4 };
+enum { MOST_N = 4096, MOST_M = 16384, MOST_INDEX = 3 * 4608 + 6144, ARGUMENTS = 1024, ROUNDS = 40, QUERY_ROUNDS = 100,
+       STRING_ROUNDS = 400, LENGTHS = 7, COLUMNS = 4, SHOWN = 3 };
+
+/* The records of the smallest size, and of all: each size has a quarter as many as the one before, so that they make up one volume. */
+enum { COPIES = 1 << 2 * (SIZES - 1), RECORDS = (4 * COPIES - 1) / 3 };
 
 /* All operations under one name each. */
 struct side {
@@ -64,11 +69,17 @@ static size_t answers, refusals[14];
 static volatile size_t sink;
 
 /* What is asked: a record, its buffers' lengths, or a string. */
-static struct record records[2 * COPIES];
+static struct record records[RECORDS];
 static const struct record *asked;
 static size_t work_len, index_len, list_len, column_lens[COLUMNS];
 static const uint8_t *string;
 static size_t string_len, string_start, string_places;
+
+/* The records of one size. */
+static int copies(int size)
+{
+    return COPIES >> 2 * size;
+}
 
 static void ask(const struct record *r)
 {
@@ -283,6 +294,19 @@ static void compare_strings(const struct record *r, uint64_t *state)
     }
 }
 
+/* All records of a size that are timed, which are accepted; the first comes last, and stays. */
+static void compare_timed(int shape, int size, struct record *r)
+{
+    int copy;
+    for (copy = copies(size) - 1; copy >= 0; copy--) {
+        make_record(shape, size, copy, r);
+        ask(r);
+        compare_whole();
+        if (plain_check(r->bytes, r->len) != 0)
+            differ("a record of the benchmark", 0, 0, 0, plain_check(r->bytes, r->len));
+    }
+}
+
 static void compare_all(void)
 {
     static struct record r;
@@ -293,10 +317,7 @@ static void compare_all(void)
         for (size = 0; size < SIZES; size++) {
             make_record(shape, size, 0, &r);
             compare_harmed(&r, &state);
-            ask(&r);
-            compare_whole();
-            if (plain_check(r.bytes, r.len) != 0)
-                differ("a record of the benchmark", 0, 0, 0, plain_check(r.bytes, r.len));
+            compare_timed(shape, size, &r);
             for (v = 0; v <= r.n + 1; v++)
                 compare_queries(v, &state);
             compare_strings(&r, &state);
@@ -317,15 +338,24 @@ struct times {
     double product, plain;
 };
 
-static struct times worst[OPS], best[OPS];
+/* The sizes at which queries are timed, and whose ratios are told. Dense and clique have fewer terminals, and records of like length. */
+static const int shown[SHOWN] = { 0, 1, SIZES - 1 };
+static const char *const shown_names[SHOWN] = { "n = 64", "n = 256", "largest" };
 
-/* Keeps the best and the worst ratio of each operation. */
-static void note(enum op op, struct times t)
+/* The least and the greatest ratio of each operation, by size; of Rank and Select over all lengths, at 0. */
+static struct {
+    double least, greatest;
+} ratios[OPS][SIZES];
+
+/* The ratio of the two times, which is kept where none was less or greater. */
+static double noted(enum op op, int size, struct times t)
 {
-    if (worst[op].plain == 0 || t.product / t.plain > worst[op].product / worst[op].plain)
-        worst[op] = t;
-    if (best[op].plain == 0 || t.product / t.plain < best[op].product / best[op].plain)
-        best[op] = t;
+    double ratio = t.product / t.plain;
+    if (ratios[op][size].least == 0 || ratio < ratios[op][size].least)
+        ratios[op][size].least = ratio;
+    if (ratio > ratios[op][size].greatest)
+        ratios[op][size].greatest = ratio;
+    return ratio;
 }
 
 /* The time of a call on each of the records from `first` on. */
@@ -395,7 +425,7 @@ static void print_shape(int shape)
     for (size = 0; size < SIZES; size++) {
         first[size] = &records[made];
         bits[size] = 0;
-        for (i = 0; i < COPIES >> size; i++) {
+        for (i = 0; i < copies(size); i++) {
             make_record(shape, size, i, &records[made]);
             bits[size] += 8 * (double)records[made++].len;
         }
@@ -405,13 +435,11 @@ static void print_shape(int shape)
     for (round = 0; round < ROUNDS; round++)
         for (op = 0; op < WHOLE; op++)
             for (size = 0; size < SIZES; size++)
-                try_records(&t[op][size], (enum op)op, first[size], COPIES >> size);
+                try_records(&t[op][size], (enum op)op, first[size], copies(size));
     for (size = 0; size < SIZES; size++) {
         printf("| %s | %zu | %zu | %zu |", shape_names[shape], first[size]->n, first[size]->m, 8 * first[size]->len);
-        for (op = 0; op < WHOLE; op++) {
-            note((enum op)op, t[op][size]);
-            printf(" %.2f | %.2f |", t[op][size].product / bits[size], t[op][size].product / t[op][size].plain);
-        }
+        for (op = 0; op < WHOLE; op++)
+            printf(" %.2f | %.2f |", t[op][size].product / bits[size], noted((enum op)op, size, t[op][size]));
         printf("\n");
     }
     fflush(stdout);
@@ -431,33 +459,38 @@ static void print_whole(void)
         print_shape(shape);
 }
 
-/* Any terminal; for Ancestor any two, and every second time one that stands above; for Child one that has children, and one of them. */
-static void choose_arguments(const struct record *r, const uint8_t *index)
+/* Any terminal; for Ancestor any two, and every second time one that stands above; for Child one that has children, and one of them. The
+   lists are Table's. */
+static void choose_arguments(size_t n, const uint16_t *parents, const uint16_t *children)
 {
     uint64_t state = 11;
-    size_t i, up, p, children;
+    size_t i, up;
     int op;
     for (op = DEGREE; op < RANK; op++)
         for (i = 0; i < ARGUMENTS; i++)
-            arguments[op][i][0] = 1 + draw(&state, r->n);
+            arguments[op][i][0] = 1 + draw(&state, n);
     for (i = 0; i < ARGUMENTS; i++) {
         size_t *ancestor = arguments[ANCESTOR][i], *child = arguments[CHILD][i];
-        ancestor[1] = 1 + draw(&state, r->n);
+        ancestor[1] = 1 + draw(&state, n);
         if (i % 2 == 0) {
             ancestor[0] = ancestor[1];
-            for (up = draw(&state, 64); up > 0; up--) {
-                p = plain_parent(r->bytes, r->len, index, r->index_len, ancestor[0]);
-                if (p == 0)
-                    break;
-                ancestor[0] = p;
-            }
+            for (up = draw(&state, 64); up > 0 && parents[ancestor[0] - 1] != 0; up--)
+                ancestor[0] = parents[ancestor[0] - 1];
         }
         do {
-            child[0] = 1 + draw(&state, r->n);
-            children = plain_children(r->bytes, r->len, index, r->index_len, child[0]);
-        } while (children == 0);
-        child[1] = 1 + draw(&state, children);
+            child[0] = 1 + draw(&state, n);
+        } while (children[child[0] - 1] == 0);
+        child[1] = 1 + draw(&state, children[child[0] - 1]);
     }
+}
+
+/* The indexes of the record that is asked, and the arguments of its queries. */
+static void prepare_queries(void)
+{
+    call(&product, &rooms[0], BUILD, 0, 0);
+    call(&plain, &rooms[1], BUILD, 0, 0);
+    call(&plain, &rooms[1], TABLE, 0, 0);
+    choose_arguments(asked->n, rooms[1].columns[1], rooms[1].columns[2]);
 }
 
 /* The queries on one record, in turn. */
@@ -468,9 +501,7 @@ static void print_record_queries(int shape, int size)
     int op, round;
     make_record(shape, size, 0, &records[0]);
     ask(&records[0]);
-    call(&product, &rooms[0], BUILD, 0, 0);
-    call(&plain, &rooms[1], BUILD, 0, 0);
-    choose_arguments(&records[0], rooms[1].index);
+    prepare_queries();
     memset(t, 0, sizeof t);
     for (op = DEGREE; op < RANK; op++)
         count[op] = enough((enum op)op, (const size_t(*)[2])arguments[op]);
@@ -478,18 +509,15 @@ static void print_record_queries(int shape, int size)
         for (op = DEGREE; op < RANK; op++)
             try_both(&t[op], (enum op)op, (const size_t(*)[2])arguments[op], count[op]);
     printf("| %s | %zu | %zu |", shape_names[shape], records[0].n, records[0].m);
-    for (op = DEGREE; op < RANK; op++) {
-        note((enum op)op, t[op]);
-        printf(" %.0f | %.2f |", t[op].product, t[op].product / t[op].plain);
-    }
+    for (op = DEGREE; op < RANK; op++)
+        printf(" %.0f | %.2f |", t[op].product, noted((enum op)op, size, t[op]));
     printf("\n");
     fflush(stdout);
 }
 
-/* The queries, on the smallest and on the largest record of each shape. */
 static void print_queries(void)
 {
-    int shape, op;
+    int shape, op, i;
     printf("| shape | n | m |");
     for (op = DEGREE; op < RANK; op++)
         printf(" %s | ratio |", op_names[op]);
@@ -497,10 +525,9 @@ static void print_queries(void)
     for (op = DEGREE; op < RANK; op++)
         printf("--:|--:|");
     printf("\n");
-    for (shape = 0; shape < SHAPES; shape++) {
-        print_record_queries(shape, 0);
-        print_record_queries(shape, SIZES - 1);
-    }
+    for (shape = 0; shape < SHAPES; shape++)
+        for (i = 0; i < SHOWN; i++)
+            print_record_queries(shape, shown[i]);
 }
 
 /* Rank and select in strings of drawn bytes that start inside a byte. Half the bits are ones, and on average half the string is read. */
@@ -539,59 +566,101 @@ static void print_strings(void)
     for (i = 0; i < LENGTHS; i++) {
         double words = (double)lengths[i] / 2 / 64;
         printf("| %zu |", lengths[i]);
-        for (o = 0; o < 2; o++) {
-            note((enum op)(RANK + o), t[i][o]);
-            printf(" %.1f | %.2f | %.2f |", t[i][o].product, t[i][o].product / words, t[i][o].product / t[i][o].plain);
-        }
+        for (o = 0; o < 2; o++)
+            printf(" %.1f | %.2f | %.2f |", t[i][o].product, t[i][o].product / words, noted((enum op)(RANK + o), 0, t[i][o]));
         printf("\n");
     }
 }
 
 static void print_ratios(void)
 {
-    int op;
-    printf("| operation | least ratio | greatest ratio |\n|---|--:|--:|\n");
-    for (op = 0; op < OPS; op++)
-        if (worst[op].plain > 0)
-            printf("| %s | %.2f | %.2f |\n", op_names[op], best[op].product / best[op].plain, worst[op].product / worst[op].plain);
+    int op, i;
+    printf("| operation |");
+    for (i = 0; i < SHOWN; i++)
+        printf(" %s, least | greatest |", shown_names[i]);
+    printf("\n|---|");
+    for (i = 0; i < SHOWN; i++)
+        printf("--:|--:|");
+    printf("\n");
+    for (op = 0; op < RANK; op++) {
+        printf("| %s |", op_names[op]);
+        for (i = 0; i < SHOWN; i++)
+            printf(" %.2f | %.2f |", ratios[op][shown[i]].least, ratios[op][shown[i]].greatest);
+        printf("\n");
+    }
 }
 
-/* The largest record of a shape; 0 where there is no such shape. */
-static int largest(const char *shape)
+static void print_string_ratios(void)
+{
+    int op;
+    printf("| operation | least | greatest |\n|---|--:|--:|\n");
+    for (op = RANK; op < OPS; op++)
+        printf("| %s | %.2f | %.2f |\n", op_names[op], ratios[op][0].least, ratios[op][0].greatest);
+}
+
+/* The place of a name among others, whatever its capitals; their count where it is none of them. */
+static int place_of(const char *name, const char *const *names, int count)
 {
     int i;
-    for (i = 0; i < SHAPES && strcmp(shape, shape_names[i]) != 0; i++)
+    for (i = 0; i < count && strcasecmp(name, names[i]) != 0; i++)
         continue;
-    if (i < SHAPES)
-        make_record(i, SIZES - 1, 0, &records[0]);
-    return i < SHAPES;
+    return i;
 }
 
-static int once(const char *side, const char *op, const char *shape)
+/* Asks for the record that is named; 0 where there is none. */
+static int ask_named(const char *shape, const char *size)
 {
-    const struct side *s = strcmp(side, "product") == 0 ? &product : &plain;
-    enum op o = strcmp(op, "check") == 0 ? CHECK : strcmp(op, "build") == 0 ? BUILD : TABLE;
-    if (!largest(shape))
-        return 2;
+    int i = place_of(shape, shape_names, SHAPES), at = size[0] - '0';
+    if (i == SHAPES || at < 0 || at >= SIZES || size[1] != 0)
+        return 0;
+    make_record(i, at, 0, &records[0]);
     ask(&records[0]);
-    return call(s, &rooms[0], o, 0, 0) != 0;
+    return 1;
+}
+
+static int once(const char *side, const char *name, const char *shape, const char *size)
+{
+    static const char *const side_names[2] = { "product", "plain" };
+    int which = place_of(side, side_names, 2), op = place_of(name, op_names, RANK);
+    const struct side *s = which == 0 ? &product : &plain;
+    size_t i, sum = 0;
+    if (which == 2 || op == RANK || !ask_named(shape, size))
+        return 2;
+    if (op < WHOLE)
+        return call(s, &rooms[0], (enum op)op, 0, 0) > 0xFFFF;
+    prepare_queries();
+    for (i = 0; i < ARGUMENTS; i++)
+        sum += call(s, &rooms[0], (enum op)op, arguments[op][i][0], arguments[op][i][1]);
+    sink = sum;
+    return 0;
+}
+
+/* What is told of one record alone. */
+static int tell(const char *what, const char *shape, const char *size)
+{
+    if (!ask_named(shape, size))
+        return 2;
+    if (strcmp(what, "record") == 0)
+        return fwrite(asked->bytes, 1, asked->len, stdout) != asked->len;
+    if (strcmp(what, "sizes") == 0)
+        return printf("%zu %zu\n", asked->n, asked->m) < 0;
+    return 2;
 }
 
 int main(int argc, char **argv)
 {
     int i;
-    if (argc == 5 && strcmp(argv[1], "once") == 0)
-        return once(argv[2], argv[3], argv[4]);
-    if (argc == 3 && strcmp(argv[1], "record") == 0) {
-        if (!largest(argv[2]))
-            return 2;
-        return fwrite(records[0].bytes, 1, records[0].len, stdout) != records[0].len;
-    }
+    if (argc == 6 && strcmp(argv[1], "once") == 0)
+        return once(argv[2], argv[3], argv[4], argv[5]);
+    if (argc == 4)
+        return tell(argv[1], argv[2], argv[3]);
+    if (argc > 2 || (argc == 2 && strcmp(argv[1], "compare") != 0))
+        return 2;
     compare_all();
     printf("The two sides gave %zu equal answers. Refusals among them:", answers);
     for (i = 1; i < 14; i++)
         printf(" %zu of %d%s", refusals[i], i, i < 13 ? "," : ".\n");
-    if (argc == 2 && strcmp(argv[1], "compare") == 0)
+    if (argc == 2)
         return 0;
     printf("\n### Whole records: nanoseconds of the product per bit of the record, and product / plain\n\n");
     print_whole();
@@ -599,7 +668,9 @@ int main(int argc, char **argv)
     print_queries();
     printf("\n### Strings: nanoseconds of the product per call and per word read, and product / plain\n\n");
     print_strings();
-    printf("\n### Ratios\n\n");
+    printf("\n### Ratios: product / plain, the least and the greatest over the shapes\n\n");
     print_ratios();
+    printf("\n### Ratios of Rank and Select: the least and the greatest over the lengths of strings\n\n");
+    print_string_ratios();
     return 0;
 }

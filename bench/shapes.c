@@ -54,10 +54,9 @@ static void ring(size_t n)
 
 static void draw_wires(int shape, int size)
 {
-    static const size_t dense_n[SIZES] = { 128, 181, 256, 362, 512 };
-    static const size_t clique_n[SIZES] = { 46, 65, 91, 128, 181 };
+    static const size_t clique_n[SIZES] = { 23, 46, 91, 181 };
     size_t a, b;
-    made.n = (size_t)256 << size;
+    made.n = (size_t)64 << 2 * size;
     switch (shape) {
     case SPARSE:
         wires_up_to(made.n);
@@ -66,8 +65,8 @@ static void draw_wires(int shape, int size)
         wires_up_to(4 * made.n);
         break;
     case DENSE:
-        made.n = dense_n[size];
-        wires_up_to((size_t)1024 << size);
+        made.n = (size_t)64 << size;
+        wires_up_to((size_t)256 << 2 * size);
         break;
     case PATH:
         for (a = 1; a < made.n; a++)

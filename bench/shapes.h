@@ -5,7 +5,7 @@
 #include <stddef.h>
 #include <stdint.h>
 
-enum { SHAPES = 8, SIZES = 5, MOST_RECORD_BYTES = 53764 };
+enum { SHAPES = 8, SIZES = 4, MOST_RECORD_BYTES = 53764 };
 
 extern const char *const shape_names[SHAPES];
 
@@ -17,7 +17,8 @@ struct record {
     uint8_t bytes[MOST_RECORD_BYTES];
 };
 
-/* Makes a record of a shape at a size, 0 to SIZES - 1, the last being the largest the format has room for; each `copy` is another draw. */
+/* Makes a record of a shape at a size, 0 to SIZES - 1, each some four times as long as the one before, the last the largest that the format
+   has room for; each `copy`, 0 to 99, is another draw. */
 void make_record(int shape, int size, int copy, struct record *r);
 
 #endif
