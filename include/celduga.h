@@ -14,7 +14,7 @@
  *   - no pointer is NULL, also where the length is 0 (data() of an empty std::vector may be NULL);
  *   - a pointer to uint16_t is aligned for it;
  *   - a buffer that is written overlaps no other slice of the call (a record and an index that are only read may overlap);
- *   - the stack has room: 328 KiB for celduga_table, 288 KiB for celduga_build, 224 KiB for celduga_check, celduga_unpack and
+ *   - the stack has room: 264 KiB for celduga_table, 224 KiB for celduga_build, celduga_check, celduga_unpack and
  *     celduga_loop_figure, 16 KiB for others.
  *
  * Threads. There is no state, and no pointer is kept after a call. Calls may run at once where none writes what another is lent.
