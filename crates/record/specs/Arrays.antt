@@ -4,7 +4,7 @@
 --   Arrays starts nbrs   and each neighbour is a vertex
 --   At starts nbrs u     and u is a vertex
 --   Holds starts u p     place p is in u's block
---   upTo, latest         what a loop over the places has passed: the part of a block, and the last place of a vertex
+--   upTo starts nbrs u p what a loop over the places has passed of u's block
 use Prim.Native.Nat.{ℕ, zero, suc, _+_, _-_, _≤_, _<_}
 use mathlib.Core.Path.{_≡_}
 use mathlib.Core.Bool.{true, false}
@@ -47,8 +47,3 @@ pub record Holds (starts : List ℕ) (u p : ℕ) : Type 0 where
 -- the part of u's block that stands before place p
 unfoldable pub upTo : List ℕ → List ℕ → ℕ → ℕ → List ℕ
 upTo starts nbrs u p = take (p - getD starts u 0) (block (cut starts nbrs) u)
-
--- 1 + the last place before p where v stands, 0 for none
-unfoldable pub latest : ℕ → List ℕ → ℕ → ℕ
-latest v nbrs zero = 0
-latest v nbrs (suc p) = elim (eqb v (getD nbrs p 0)) [ true ↦ suc p | false ↦ latest v nbrs p ]

@@ -1,7 +1,7 @@
 -- What contracts inside this crate, and in the crates above, say of a record that has passed some rules, and of the two arrays.
 --   Headed, Sound, Laid          rules 1 to 3, order R, and rule 5 too let the record pass, and n and m are the header's
 --   ArraysOf                     the graph of a record stands in two arrays
---   Lent                         room for them, and for the rules over them
+--   Lent, Roomy                  room for them, and for the rules over them: of the exact length, or more
 --   Short, Handed                a list that each number of it can be raised by one; Check, with the neighbours for a list
 --   Filling, Entering, Reading   the arrays while they are filled
 use mathlib.Core.Path.{_≡_}
@@ -46,13 +46,18 @@ pub record ArraysOf (bytes starts nbrs : List ℕ) (n m : ℕ) : Type 0 where
   pub are-fields : nbrs ≡ fields bytes
 
 -- room for the two arrays and for what rules 6 to 8 keep: a cell for each terminal or for each place
-pub record Lent (n m : ℕ) (starts nbrs reverse next from counts : List ℕ) : Type 0 where
+pub record Lent (n m : ℕ) (starts nbrs reverse next : List ℕ) : Type 0 where
   pub all-starts : length starts ≡ n + 1
   pub all-nbrs : length nbrs ≡ 2 * m
   pub all-reverse : length reverse ≡ 2 * m
   pub all-next : length next ≡ n
-  pub all-from : length from ≡ 2 * m
-  pub all-counts : length counts ≡ n
+
+-- arrays with room to spare
+pub record Roomy (n m : ℕ) (starts nbrs reverse next : List ℕ) : Type 0 where
+  pub for-starts : n + 1 ≤ length starts
+  pub for-nbrs : 2 * m ≤ length nbrs
+  pub for-reverse : 2 * m ≤ length reverse
+  pub for-next : n ≤ length next
 
 -- each number can be one more
 abbrev pub Short : List ℕ → Type 0

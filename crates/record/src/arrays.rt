@@ -28,16 +28,14 @@ pub fn check_arrays(
     nbrs: &mut [u16],
     reverse: &mut [u16],
     next: &mut [u16],
-    from: &mut [u16],
-    counts: &mut [u16],
 ) -> Verdict
     requires { ⌜ Laid (now bytes) n m ⌝ }
-    requires { ⌜ Lent n m (now starts) (now nbrs) (now reverse) (now next) (now from) (now counts) ⌝ }
+    requires { ⌜ Lent n m (now starts) (now nbrs) (now reverse) (now next) ⌝ }
     ensures { λ r. ⌜
         (verdict r ≡ checkOf (now (bytes .entry)))
         × (ArraysOf (now (bytes .entry)) (now (starts .exit)) (now (nbrs .exit)) n m)
         ⌝ }
 {
     fill_arrays(bytes, n, m, starts, nbrs);
-    try_rules(starts, nbrs, reverse, next, from, counts)
+    try_rules(starts, nbrs, reverse, next)
 }

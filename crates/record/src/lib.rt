@@ -14,7 +14,6 @@ pub mod starts; // starts.rt: where the blocks start
 pub mod fields; // fields.rt: the neighbour fields
 mod strays; // strays.rt: rule 6
 mod doubles; // doubles.rt: rule 7
-mod sides; // sides.rt: rule 8
 mod reverse; // reverse.rt: rules 6 to 8 at once
 mod blocks; // blocks.rt: one block
 mod rules; // rules.rt: rules 6 to 8

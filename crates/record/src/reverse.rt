@@ -1,14 +1,13 @@
-// Rules 6 to 8 at once, in two passes over the places: a yes where they are kept. A no says only that they are to be tried in turn.
+// Whether rules 6 to 8 are kept, in two passes over the places.
 // The blocks are turned round: in a second row, cut by the same starts, part v lists the terminals whose blocks have v, in order. The parts
 // turned round once more must be the parts themselves, which is found by reading on in each of them. Then every two terminals mention each
-// other equally often.
+// other equally often. Where the rules are kept, the parts are their own: both list the same terminals, and both rise.
 ghost use mathlib.Core.Path.{_≡_};
-ghost use mathlib.Core.Bool.{true};
 ghost use Prim.Native.Nat.{_+_, _-_, _<_};
 ghost use lib.ListN.{length, getD};
 ghost use Rattle.graph.specs.Graph.{Blocks};
 ghost use Rattle.record.specs.Arrays.{cut, Divided, Holds};
-ghost use Rattle.record.specs.Reverse.{Turned, Turning, Matching, AtStarts, AtEnds, Kept};
+ghost use Rattle.record.specs.Reverse.{Turned, Turning, TurnedBefore, Matching, AtStarts, AtEnds, Kept, Orderly, Tells};
 use super::cells::get;
 use super::cells::put;
 
@@ -29,7 +28,7 @@ fn rewind(starts: &[u16], next: &mut [u16])
 // Whether each part is filled up to its end.
 fn all_full(starts: &[u16], next: &[u16]) -> bool
     requires { ⌜ (length (now starts) < 4098) × (length (now next) + 1 ≡ length (now starts)) ⌝ }
-    ensures { λ r. ⌜ (r ≡ true → AtEnds (now (starts .entry)) (now (next .entry))) ⌝ }
+    ensures { λ r. ⌜ Tells (AtEnds (now (starts .entry)) (now (next .entry))) (AtEnds (now (starts .entry)) (now (next .entry))) r ⌝ }
 {
     let n = starts.len() - 1;
     let mut v = 0;
@@ -51,9 +50,10 @@ fn turn_place(
     reverse: &mut [u16],
     next: &mut [u16],
 ) -> bool
-    requires { ⌜ (Turning (now starts) (now nbrs) (now reverse) (now next) p) × (Holds (now starts) u p) ⌝ }
+    requires { ⌜ (Turning (now starts) (now nbrs) (now reverse) (now next) u p) × (Holds (now starts) u p) ⌝ }
     ensures { λ r. ⌜
-        (r ≡ true → Turning (now (starts .entry)) (now (nbrs .entry)) (now (reverse .exit)) (now (next .exit)) (p + 1))
+        Tells (Turning (now (starts .entry)) (now (nbrs .entry)) (now (reverse .exit)) (now (next .exit)) u (p + 1))
+        (Kept (cut (now (starts .entry)) (now (nbrs .entry)))) r
         ⌝ }
 {
     let v = get(nbrs, p);
@@ -74,8 +74,11 @@ fn turn_place(
 
 // The same for all places of block u.
 fn turn_block(starts: &[u16], nbrs: &[u16], u: usize, reverse: &mut [u16], next: &mut [u16]) -> bool
-    requires { ⌜ (Turning (now starts) (now nbrs) (now reverse) (now next) (getD (now starts) u 0)) × (u + 1 < length (now starts)) ⌝ }
-    ensures { λ r. ⌜ (r ≡ true → Turning (now (starts .entry)) (now (nbrs .entry)) (now (reverse .exit)) (now (next .exit)) (getD (now (starts .entry)) (u + 1) 0)) ⌝ }
+    requires { ⌜ (TurnedBefore (now starts) (now nbrs) (now reverse) (now next) u) × (u + 1 < length (now starts)) ⌝ }
+    ensures { λ r. ⌜
+        Tells (TurnedBefore (now (starts .entry)) (now (nbrs .entry)) (now (reverse .exit)) (now (next .exit)) (u + 1))
+        (Kept (cut (now (starts .entry)) (now (nbrs .entry)))) r
+        ⌝ }
 {
     let end = get(starts, u + 1);
     let mut p = get(starts, u);
@@ -91,7 +94,11 @@ fn turn_block(starts: &[u16], nbrs: &[u16], u: usize, reverse: &mut [u16], next:
 // The same for all blocks.
 fn turn_all(starts: &[u16], nbrs: &[u16], reverse: &mut [u16], next: &mut [u16]) -> bool
     requires { ⌜ (Divided (now starts) (now nbrs)) × (length (now reverse) ≡ length (now nbrs)) × (AtStarts (now starts) (now next)) ⌝ }
-    ensures { λ r. ⌜ (r ≡ true → Turning (now (starts .entry)) (now (nbrs .entry)) (now (reverse .exit)) (now (next .exit)) (length (now (nbrs .entry)))) ⌝ }
+    ensures { λ r. ⌜
+        Tells (TurnedBefore (now (starts .entry)) (now (nbrs .entry)) (now (reverse .exit)) (now (next .exit))
+        (length (now (starts .entry)) - 1))
+        (Kept (cut (now (starts .entry)) (now (nbrs .entry)))) r
+        ⌝ }
 {
     let n = starts.len() - 1;
     let mut u = 0;
@@ -107,7 +114,10 @@ fn turn_all(starts: &[u16], nbrs: &[u16], reverse: &mut [u16], next: &mut [u16])
 // For the terminal at place p of part u its own part is read on by one, and must have u there.
 fn match_place(starts: &[u16], reverse: &[u16], u: usize, p: usize, next: &mut [u16]) -> bool
     requires { ⌜ (Turned (now starts) (now reverse) (now reverse) (now next) p) × (Holds (now starts) u p) ⌝ }
-    ensures { λ r. ⌜ (r ≡ true → Turned (now (starts .entry)) (now (reverse .entry)) (now (reverse .entry)) (now (next .exit)) (p + 1)) ⌝ }
+    ensures { λ r. ⌜
+        Tells (Turned (now (starts .entry)) (now (reverse .entry)) (now (reverse .entry)) (now (next .exit)) (p + 1))
+        (Orderly (now (starts .entry)) (now (reverse .entry))) r
+        ⌝ }
 {
     let w = get(reverse, p);
     if starts.len() - 1 <= w {
@@ -127,7 +137,10 @@ fn match_place(starts: &[u16], reverse: &[u16], u: usize, p: usize, next: &mut [
 // The same for all places of part u. Its terminals rise, so none stands in it twice.
 fn match_block(starts: &[u16], reverse: &[u16], u: usize, next: &mut [u16]) -> bool
     requires { ⌜ (Matching (now starts) (now reverse) (now next) u) × (u + 1 < length (now starts)) ⌝ }
-    ensures { λ r. ⌜ (r ≡ true → Matching (now (starts .entry)) (now (reverse .entry)) (now (next .exit)) (u + 1)) ⌝ }
+    ensures { λ r. ⌜
+        Tells (Matching (now (starts .entry)) (now (reverse .entry)) (now (next .exit)) (u + 1))
+        (Orderly (now (starts .entry)) (now (reverse .entry))) r
+        ⌝ }
 {
     let end = get(starts, u + 1);
     let mut p = get(starts, u);
@@ -149,7 +162,10 @@ fn match_block(starts: &[u16], reverse: &[u16], u: usize, next: &mut [u16]) -> b
 // The same for all parts.
 fn match_all(starts: &[u16], reverse: &[u16], next: &mut [u16]) -> bool
     requires { ⌜ (Divided (now starts) (now reverse)) × (AtStarts (now starts) (now next)) ⌝ }
-    ensures { λ r. ⌜ (r ≡ true → Matching (now (starts .entry)) (now (reverse .entry)) (now (next .exit)) (length (now (starts .entry)) - 1)) ⌝ }
+    ensures { λ r. ⌜
+        Tells (Matching (now (starts .entry)) (now (reverse .entry)) (now (next .exit)) (length (now (starts .entry)) - 1))
+        (Orderly (now (starts .entry)) (now (reverse .entry))) r
+        ⌝ }
 {
     let n = starts.len() - 1;
     let mut u = 0;
@@ -168,7 +184,7 @@ pub fn all_mutual(starts: &[u16], nbrs: &[u16], reverse: &mut [u16], next: &mut 
     requires { λ g. ⌜ cut (now starts) (now nbrs) ≡ g ⌝ }
     requires { λ g. ⌜ Divided (now starts) (now nbrs) ⌝ }
     requires { λ g. ⌜ (length (now reverse) ≡ length (now nbrs)) × (length (now next) + 1 ≡ length (now starts)) ⌝ }
-    ensures { λ g r. ⌜ (r ≡ true → Kept g) ⌝ }
+    ensures { λ g r. ⌜ Tells (Kept g) (Kept g) r ⌝ }
 {
     rewind(starts, next);
     if !turn_all(starts, nbrs, reverse, next) {

@@ -4,7 +4,7 @@ ghost use mathlib.Core.List.{map};
 ghost use Prim.Native.Nat.{suc, _+_, _*_, _≤_, _<_};
 ghost use lib.ListN.{length, getD};
 ghost use Rattle.record.specs.Answers.{verdict};
-ghost use Rattle.record.specs.Steps.{Laid, Lent, Handed, Short};
+ghost use Rattle.record.specs.Steps.{Laid, Lent, Roomy, Handed, Short};
 use super::Verdict;
 use super::arrays::check_arrays;
 
@@ -30,14 +30,11 @@ fn unpack_by(
     nbrs: &mut [u16],
     reverse: &mut [u16],
     next: &mut [u16],
-    from: &mut [u16],
-    counts: &mut [u16],
 ) -> Verdict
-    requires { ⌜ Laid (now bytes) n m ⌝ }
-    requires { ⌜ Lent n m (now starts) (now nbrs) (now reverse) (now next) (now from) (now counts) ⌝ }
+    requires { ⌜ (Laid (now bytes) n m) × (Lent n m (now starts) (now nbrs) (now reverse) (now next)) ⌝ }
     ensures { λ r. ⌜ Handed (now (bytes .entry)) (now (list .entry)) (now (list .exit)) (verdict r) ⌝ }
 {
-    match check_arrays(bytes, n, m, starts, nbrs, reverse, next, from, counts) {
+    match check_arrays(bytes, n, m, starts, nbrs, reverse, next) {
         Verdict::Refused(r) => Verdict::Refused(r),
         Verdict::Accepted => {
             if list.len() == nbrs.len() {
@@ -48,17 +45,20 @@ fn unpack_by(
     }
 }
 
-// Room for 128 terminals and 512 places.
-fn in_small(bytes: &[u8], n: usize, m: usize, list: &mut [u16]) -> Verdict
-    requires { ⌜ (Laid (now bytes) n m) × (n ≤ 128) × (m ≤ 256) ⌝ }
+// The same in the front parts of arrays with room to spare.
+fn unpack_in(
+    bytes: &[u8],
+    n: usize,
+    m: usize,
+    list: &mut [u16],
+    starts: &mut [u16],
+    nbrs: &mut [u16],
+    reverse: &mut [u16],
+    next: &mut [u16],
+) -> Verdict
+    requires { ⌜ (Laid (now bytes) n m) × (Roomy n m (now starts) (now nbrs) (now reverse) (now next)) ⌝ }
     ensures { λ r. ⌜ Handed (now (bytes .entry)) (now (list .entry)) (now (list .exit)) (verdict r) ⌝ }
 {
-    let mut starts = [0u16; 129];
-    let mut nbrs = [0u16; 512];
-    let mut reverse = [0u16; 512];
-    let mut next = [0u16; 128];
-    let mut from = [0u16; 512];
-    let mut counts = [0u16; 128];
     let blocks = n + 1;
     let fields = 2 * m;
     unpack_by(
@@ -70,8 +70,27 @@ fn in_small(bytes: &[u8], n: usize, m: usize, list: &mut [u16]) -> Verdict
         &mut nbrs[..fields],
         &mut reverse[..fields],
         &mut next[..n],
-        &mut from[..fields],
-        &mut counts[..n],
+    )
+}
+
+// Room for 128 terminals and 512 places.
+fn in_small(bytes: &[u8], n: usize, m: usize, list: &mut [u16]) -> Verdict
+    requires { ⌜ (Laid (now bytes) n m) × (n ≤ 128) × (m ≤ 256) ⌝ }
+    ensures { λ r. ⌜ Handed (now (bytes .entry)) (now (list .entry)) (now (list .exit)) (verdict r) ⌝ }
+{
+    let mut starts = [0u16; 129];
+    let mut nbrs = [0u16; 512];
+    let mut reverse = [0u16; 512];
+    let mut next = [0u16; 128];
+    unpack_in(
+        bytes,
+        n,
+        m,
+        list,
+        &mut starts,
+        &mut nbrs,
+        &mut reverse,
+        &mut next,
     )
 }
 
@@ -84,21 +103,15 @@ fn in_middle(bytes: &[u8], n: usize, m: usize, list: &mut [u16]) -> Verdict
     let mut nbrs = [0u16; 2208];
     let mut reverse = [0u16; 2400];
     let mut next = [0u16; 512];
-    let mut from = [0u16; 2048];
-    let mut counts = [0u16; 512];
-    let blocks = n + 1;
-    let fields = 2 * m;
-    unpack_by(
+    unpack_in(
         bytes,
         n,
         m,
         list,
-        &mut starts[..blocks],
-        &mut nbrs[..fields],
-        &mut reverse[..fields],
-        &mut next[..n],
-        &mut from[..fields],
-        &mut counts[..n],
+        &mut starts,
+        &mut nbrs,
+        &mut reverse,
+        &mut next,
     )
 }
 
@@ -111,21 +124,15 @@ fn in_large(bytes: &[u8], n: usize, m: usize, list: &mut [u16]) -> Verdict
     let mut nbrs = [0u16; 8352];
     let mut reverse = [0u16; 8544];
     let mut next = [0u16; 4096];
-    let mut from = [0u16; 8192];
-    let mut counts = [0u16; 4096];
-    let blocks = n + 1;
-    let fields = 2 * m;
-    unpack_by(
+    unpack_in(
         bytes,
         n,
         m,
         list,
-        &mut starts[..blocks],
-        &mut nbrs[..fields],
-        &mut reverse[..fields],
-        &mut next[..n],
-        &mut from[..fields],
-        &mut counts[..n],
+        &mut starts,
+        &mut nbrs,
+        &mut reverse,
+        &mut next,
     )
 }
 
@@ -138,21 +145,15 @@ fn in_full(bytes: &[u8], n: usize, m: usize, list: &mut [u16]) -> Verdict
     let mut nbrs = [0u16; 32928];
     let mut reverse = [0u16; 33120];
     let mut next = [0u16; 4096];
-    let mut from = [0u16; 32768];
-    let mut counts = [0u16; 4096];
-    let blocks = n + 1;
-    let fields = 2 * m;
-    unpack_by(
+    unpack_in(
         bytes,
         n,
         m,
         list,
-        &mut starts[..blocks],
-        &mut nbrs[..fields],
-        &mut reverse[..fields],
-        &mut next[..n],
-        &mut from[..fields],
-        &mut counts[..n],
+        &mut starts,
+        &mut nbrs,
+        &mut reverse,
+        &mut next,
     )
 }
 

@@ -10,55 +10,24 @@ use super::Refusal;
 use super::Verdict;
 use super::doubles::some_doubled;
 use super::reverse::all_mutual;
-use super::sides::some_one_sided;
 use super::strays::some_stray;
 
-// In turn, which tells the first broken one. The last four slices are room: a number for each place, or for each terminal.
-fn in_turn(
-    starts: &[u16],
-    nbrs: &[u16],
-    reverse: &mut [u16],
-    next: &mut [u16],
-    from: &mut [u16],
-    counts: &mut [u16],
-) -> Verdict
+// All at once; after a no, the first broken one. The last two slices are room: a number for each place, and for each terminal.
+pub fn try_rules(starts: &[u16], nbrs: &[u16], reverse: &mut [u16], next: &mut [u16]) -> Verdict
     ghost { Blocks }
     requires { λ g. ⌜ cut (now starts) (now nbrs) ≡ g ⌝ }
     requires { λ g. ⌜ Divided (now starts) (now nbrs) ⌝ }
-    requires { λ g. ⌜ (length (now reverse) ≡ length (now nbrs)) × (length (now from) ≡ length (now nbrs)) ⌝ }
-    requires { λ g. ⌜ (length (now next) + 1 ≡ length (now starts)) × (length (now counts) + 1 ≡ length (now starts)) ⌝ }
+    requires { λ g. ⌜ (length (now reverse) ≡ length (now nbrs)) × (length (now next) + 1 ≡ length (now starts)) ⌝ }
     ensures { λ g r. ⌜ verdict r ≡ checkGraph g ⌝ }
 {
+    if all_mutual(starts, nbrs, reverse, next) {
+        return Verdict::Accepted;
+    }
     if some_stray(starts, nbrs) {
         return Verdict::Refused(Refusal::StrayNeighbour);
     }
     if some_doubled(starts, nbrs, next) {
         return Verdict::Refused(Refusal::DoubledNeighbour);
     }
-    if some_one_sided(starts, nbrs, next, reverse, from, counts) {
-        return Verdict::Refused(Refusal::OneSidedWire);
-    }
-    Verdict::Accepted
-}
-
-// At once; after a no, in turn.
-pub fn try_rules(
-    starts: &[u16],
-    nbrs: &[u16],
-    reverse: &mut [u16],
-    next: &mut [u16],
-    from: &mut [u16],
-    counts: &mut [u16],
-) -> Verdict
-    ghost { Blocks }
-    requires { λ g. ⌜ cut (now starts) (now nbrs) ≡ g ⌝ }
-    requires { λ g. ⌜ Divided (now starts) (now nbrs) ⌝ }
-    requires { λ g. ⌜ (length (now reverse) ≡ length (now nbrs)) × (length (now from) ≡ length (now nbrs)) ⌝ }
-    requires { λ g. ⌜ (length (now next) + 1 ≡ length (now starts)) × (length (now counts) + 1 ≡ length (now starts)) ⌝ }
-    ensures { λ g r. ⌜ verdict r ≡ checkGraph g ⌝ }
-{
-    if all_mutual(starts, nbrs, reverse, next) {
-        return Verdict::Accepted;
-    }
-    in_turn(starts, nbrs, reverse, next, from, counts)
+    Verdict::Refused(Refusal::OneSidedWire)
 }

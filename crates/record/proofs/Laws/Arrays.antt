@@ -2,5 +2,4 @@
 pub mod Mentions
 pub mod Parts
 pub mod Counts
-pub mod Latest
 pub mod Loops

@@ -2,12 +2,10 @@
 pub mod Passed
 pub mod Marks
 pub mod Doubled
-pub mod Lists
-pub mod Tallies
-pub mod Walks
-pub mod OneSided
+pub mod Tests
 pub mod Nexts
 pub mod Turned
 pub mod Matched
 pub mod Mutual
+pub mod Orderly
 pub mod InTurn

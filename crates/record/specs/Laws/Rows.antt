@@ -1,4 +1,5 @@
 -- The blocks of a graph in two arrays: where each lies in the row, and what stands in it.
+--   starts-mono    the starts rise
 --   starts-fit     no start is past the row
 --   one-block      a place is in one block
 --   divided-too    a row of the same length is divided by the same starts
@@ -28,7 +29,7 @@ module _ {starts nbrs : List ℕ} (i : Divided starts nbrs) where
       let b = i .rising (u + d) (omega arith) in
       rw z (omega arith)
 
-  starts-mono : (u w : ℕ) → u ≤ w → w < length starts → getD starts u 0 ≤ getD starts w 0
+  pub starts-mono : (u w : ℕ) → u ≤ w → w < length starts → getD starts u 0 ≤ getD starts w 0
   starts-mono u w l h = let z : u + (w - u) ≡ w = omega arith in rw z at (starts-add u (w - u) (omega arith))
 
   pub starts-fit : (u : ℕ) → u < length starts → getD starts u 0 ≤ length nbrs

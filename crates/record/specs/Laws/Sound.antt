@@ -18,7 +18,7 @@ use Rattle.record.specs.Laws.Anywhere.{nowhere}
 
 module _ (g : Blocks) where
   -- no stray neighbour and no wire at one end only
-  well-formed : anyPlace (stray g) g ≡ false → anyPlace (oneSided g) g ≡ false → WellFormed g
+  pub well-formed : anyPlace (stray g) g ≡ false → anyPlace (oneSided g) g ≡ false → WellFormed g
   unfolding stray oneSided
   well-formed e f =
       well-formed-at {g = g}

@@ -1,12 +1,13 @@
--- Mentions in a list: its parts, its length, one number, and the place of a mention.
+-- Mentions in a list: its parts, its length, one number, and the place of a mention; a list that mentions nothing more often is no longer.
 use Prim.Native.Nat.{ℕ, suc, _+_, _≤_, _<_}
-use mathlib.Core.Path.{_≡_, sym}
+use mathlib.Core.Path.{_≡_, refl, sym, ap, _∙_}
 use mathlib.Core.Bool.{Bool, true, false}
 use mathlib.Core.List.{List, [], _∷_, _++_}
 use native.Mathlib.Nat.{zero-add}
 use native.Mathlib.Omega.{arith}
 use lib.Dec.{eqb}
-use lib.ListN.{length}
+use lib.ListN.{length, take, drop, length-append}
+use lib.Seq.{split-at}
 use borrow.Author.Tests.{eq-eqb, ne-eqb}
 use Rattle.graph.specs.Graph.{Blocks, block, Place, mentions, position}
 use Rattle.graph.specs.Laws.Places.Mentions.{mention-at}
@@ -40,3 +41,27 @@ one-miss v x h = rw (ne-eqb v x h, mentions)
 
 pub mention-place : (g : Blocks) (u v : ℕ) → 0 < mentions v (block g u) → Place g u (position v (block g u) 0) v
 mention-place g u v h = let m = mention-at v (block g u) 0 h in record { fits = m .inside; leads = m .there }
+
+-- each number of a is taken out of b
+pub fewer : (a b : List ℕ) → ((w : ℕ) → mentions w a ≤ mentions w b) → length a ≤ length b
+fewer [] b h = omega arith
+fewer (v ∷ a) b h =
+    let c = h v in
+    let d = mentions-append v (v ∷ []) a in
+    let f = one-hit v v refl in
+    let m = mention-at v b 0 (omega arith) in
+    let j : ℕ = position v b 0 in
+    let x : List ℕ = take j b in
+    let y : List ℕ = drop (suc j) b in
+    let e : b ≡ x ++ (v ∷ y) = split-at b j 0 (m .inside) ∙ ap (λ (k : ℕ). x ++ (k ∷ y)) (m .there) in
+    let r = fewer a (x ++ y) (λ w. less w x y e) in
+    omega (arith, ap length e, length-append x (v ∷ y), length-append x y)
+  where
+    less : (w : ℕ) (x y : List ℕ) → b ≡ x ++ (v ∷ y) → mentions w a ≤ mentions w (x ++ y)
+    less w x y e =
+        let c = h w in
+        let d = mentions-append w (v ∷ []) a in
+        let f = mentions-append w (v ∷ []) y in
+        let k = ap (mentions w) e ∙ mentions-append w x (v ∷ y) in
+        let l = mentions-append w x y in
+        omega arith

@@ -3,6 +3,7 @@ use mathlib.Core.Path.{_≡_, refl, sym, _∙_}
 use mathlib.Core.Bool.{Bool, true, false}
 use mathlib.Core.List.{List, [], _∷_}
 use Rattle.graph.specs.Graph.{Blocks}
+use Rattle.graph.specs.Laws.Places.Basics.{Told, pass, fail, told as tell}
 use Rattle.record.specs.Reverse.{Kept}
 use Rattle.record.specs.Rules.{Rule, firstBroken, anyPlace, stray, doubled, oneSided, placeRules}
 use Rattle.record.specs.Answers.{refused, answered}
@@ -31,18 +32,21 @@ module _ (g : Blocks) {a : Bool} (tested-a : a ≡ anyPlace (stray g) g) where
     unfolding checkGraph
     turn-7 e = told tt (past-6 ∙ first-broken 7 (from-8 g) (sym tested-b ∙ e))
 
-    module _ (no-double : b ≡ false) {d : Bool} (tested-d : d ≡ anyPlace (oneSided g) g) where
+    module _ (no-double : b ≡ false) where
       past-7 : firstBroken (placeRules g) ≡ firstBroken (from-8 g)
       past-7 = past-6 ∙ first-kept 7 (from-8 g) (sym tested-b ∙ no-double)
 
-      pub turn-8 : d ≡ true → refused 8 ≡ checkGraph g
+      -- a rule is broken, and it is neither of the first two
+      pub turn-8 : (Kept g → ⊥) → refused 8 ≡ checkGraph g
       unfolding checkGraph
-      turn-8 e = told tt (past-7 ∙ first-broken 8 [] (sym tested-d ∙ e))
-
-      pub turn-none : d ≡ false → answered tt ≡ checkGraph g
-      unfolding checkGraph firstBroken
-      turn-none e = untold tt (past-7 ∙ first-kept 8 [] (sym tested-d ∙ e))
+      turn-8 broken = go (tell (anyPlace (oneSided g) g))
+        where
+          go : Told (anyPlace (oneSided g) g) → refused 8 ≡ checkGraph g
+          go (pass e) = told tt (past-7 ∙ first-broken 8 [] e)
+          go (fail e) = absurd (broken (record { no-stray = sym tested-a ∙ no-stray; no-double = sym tested-b ∙ no-double; no-one-sided = e }))
 
 -- none is broken
 pub kept-told : {g : Blocks} → Kept g → answered tt ≡ checkGraph g
-kept-told {g} k = turn-none g (sym (k .no-stray)) refl (sym (k .no-double)) refl (sym (k .no-one-sided)) refl
+unfolding checkGraph firstBroken
+kept-told {g} k =
+    untold tt (past-7 g (sym (k .no-stray)) refl (sym (k .no-double)) refl ∙ first-kept 8 [] (k .no-one-sided))

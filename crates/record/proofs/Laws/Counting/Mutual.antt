@@ -12,21 +12,27 @@ use Rattle.graph.specs.Laws.Places.Mentions.{mention-found}
 use Rattle.graph.specs.Laws.Places.Pairing.{source}
 use Rattle.record.specs.Arrays.{cut, upTo}
 use Rattle.record.specs.Rules.{stray, doubled, oneSided}
-use Rattle.record.specs.Reverse.{Turning, AtEnds, Matching, Kept}
+use Rattle.record.specs.Reverse.{Turning, TurnedBefore, AtEnds, Matching, Kept}
 use Rattle.record.specs.Laws.Anywhere.{nowhere}
 use Rattle.record.specs.Laws.Parts.{length-cut}
 use Rattle.record.proofs.Laws.Arrays.Parts.{upto-past, upto-end}
 use Rattle.record.proofs.Laws.Arrays.Counts.{count-part}
 use Rattle.record.proofs.Laws.Counting.Turned.{turned-divided}
 
-module _ {starts nbrs reverse next next′ : List ℕ} (t : Turning starts nbrs reverse next (length nbrs)) (f : AtEnds starts next)
-    (m : Matching starts reverse next′ (length starts - 1)) where
-  -- a part has w as often as w's block has the part's terminal
-  turned-whole : (v : ℕ) → v + 1 < length starts → (w : ℕ) → mentions w (block (cut starts reverse) v) ≡ mentions v (block (cut starts nbrs) w)
-  turned-whole v k w =
-      sym (ap (mentions w) (upto-past (turned-divided (t .turned)) v (getD next v 0) k (let e = f .ends v k in omega arith)))
-      ∙ t .turned .same v w k ∙ ap (mentions v) (upto-end (t .turned .divided) w)
+module _ {starts nbrs reverse next : List ℕ} (done : TurnedBefore starts nbrs reverse next (length starts - 1)) where
+  pub turned-end : Turning starts nbrs reverse next (length starts - 1) (length nbrs)
+  turned-end = rw (done .turned .divided .last) at done
 
+  -- a part has w as often as w's block has the part's terminal
+  pub turned-whole : AtEnds starts next → (v : ℕ) → v + 1 < length starts → (w : ℕ)
+      → mentions w (block (cut starts reverse) v) ≡ mentions v (block (cut starts nbrs) w)
+  turned-whole f v k w =
+      let t = turned-end .turned in
+      sym (ap (mentions w) (upto-past (turned-divided t) v (getD next v 0) k (let e = f .ends v k in omega arith)))
+      ∙ t .same v w k ∙ ap (mentions v) (upto-end (t .divided) w)
+
+module _ {starts nbrs reverse next next′ : List ℕ} (t : TurnedBefore starts nbrs reverse next (length starts - 1)) (f : AtEnds starts next)
+    (m : Matching starts reverse next′ (length starts - 1)) where
   matched-le : (v : ℕ) → v + 1 < length starts → (w : ℕ) → mentions v (block (cut starts reverse) w) ≤ mentions w (block (cut starts reverse) v)
   matched-le v k w =
       let i = m .turned .divided in
@@ -44,12 +50,12 @@ module _ {starts nbrs reverse next next′ : List ℕ} (t : Turning starts nbrs 
     mentioned = let a = mention-found v (block (cut starts nbrs) u) j (p .fits) (p .leads) .counted in omega arith
 
     other : (v + 1 < length starts) × (v ≡ u → ⊥)
-    other = t .others u v (let e = ap (mentions v) (upto-end (t .turned .divided) u) in let k = mentioned in omega arith)
+    other = turned-end t .others u v (let e = ap (mentions v) (upto-end (t .turned .divided) u) in let k = mentioned in omega arith)
 
     once : mentions v (block (cut starts nbrs) u) ≤ 1
     once =
         let k = other .0 in
-        let a = turned-whole v k u in
+        let a = turned-whole t f v k u in
         let b = m .single v (omega arith) u in
         omega arith
 
@@ -57,8 +63,8 @@ module _ {starts nbrs reverse next next′ : List ℕ} (t : Turning starts nbrs 
     equal =
         let k = other .0 in
         let h = from in
-        let a = turned-whole v k u in
-        let b = turned-whole u h v in
+        let a = turned-whole t f v k u in
+        let b = turned-whole t f u h v in
         let c = matched-le v k u in
         let d = matched-le u h v in
         omega arith

@@ -1,5 +1,4 @@
 -- `arrays::check_arrays` meets its contract: rules 6 to 8 are those of the record's graph.
-use borrow.Author.Needs.{needs}
 use native.Mathlib.Omega.{arith}
 use mathlib.Core.Path.{_≡_}
 use mathlib.Core.List.{List}
@@ -8,31 +7,28 @@ use lib.ListN.{length}
 use Rattle.record.specs.Arrays.{Divided}
 use Rattle.record.specs.Steps.{ArraysOf, Lent}
 use Rattle.record.specs.Laws.Unpacked.{divided-of, starts-of, nbrs-of, check-told}
+use borrow.Author.Needs.{needs}
 use Rattle.record.proofs.arrays.check_arrays.Statement.{statement}
 use Rattle.record.proofs.arrays.check_arrays.Tie as tie
 
 -- the room is as long as the arrays ask
-tried-by : {bytes starts nbrs reverse next from counts starts′ nbrs′ : List ℕ} {n m : ℕ} → Lent n m starts nbrs reverse next from counts
+tried-by : {bytes starts nbrs reverse next starts′ nbrs′ : List ℕ} {n m : ℕ} → Lent n m starts nbrs reverse next
     → ArraysOf bytes starts′ nbrs′ n m
-    → (Divided starts′ nbrs′)
-    × (((length reverse ≡ length nbrs′) × (length from ≡ length nbrs′))
-    × ((length next + 1 ≡ length starts′) × (length counts + 1 ≡ length starts′)))
+    → (Divided starts′ nbrs′) × ((length reverse ≡ length nbrs′) × (length next + 1 ≡ length starts′))
 tried-by l r =
     let s = starts-of r in
     let p = nbrs-of r in
     let a = l .all-reverse in
     let b = l .all-next in
-    let d = l .all-from in
-    let e = l .all-counts in
-    (divided-of r, ((omega arith, omega arith), (omega arith, omega arith)))
+    (divided-of r, (omega arith, omega arith))
 
 fill-arrays-requires : tie.Need-fill-arrays-requires
 fill-arrays-requires c κs = search needs
 
 try-rules-requires : tie.Need-try-rules-requires
 try-rules-requires c κs =
-    let at-fill-arrays = c .before .before .before .before .before .before .before .before .before .before in
-    let start = at-fill-arrays .before .before .before .before .before .before .before .before .before .before in
+    let at-fill-arrays = c .before .before .before .before .before .before .before .before in
+    let start = at-fill-arrays .before .before .before .before .before .before .before .before in
     tried-by (start .pre .1) (at-fill-arrays .fill-arrays .ensures)
 
 same-length : tie.Need-same-length
@@ -47,17 +43,11 @@ same-length-3 c = search needs
 same-length-4 : tie.Need-same-length-4
 same-length-4 c = search needs
 
-same-length-5 : tie.Need-same-length-5
-same-length-5 c = search needs
-
-same-length-6 : tie.Need-same-length-6
-same-length-6 c = search needs
-
 returns : tie.Need-returns
 returns c =
-    let at-try-rules = c .before .before .before .before .before .before .before .before in
-    let at-fill-arrays = at-try-rules .before .before .before .before .before .before .before .before .before .before .before in
-    let start = at-fill-arrays .before .before .before .before .before .before .before .before .before .before in
+    let at-try-rules = c .before .before .before .before in
+    let at-fill-arrays = at-try-rules .before .before .before .before .before .before .before .before .before in
+    let start = at-fill-arrays .before .before .before .before .before .before .before .before in
     (check-told (start .pre .0) (at-fill-arrays .fill-arrays .ensures) (at-try-rules .try-rules .ensures), at-fill-arrays .fill-arrays .ensures)
 
 pub check-arrays-spec : {M : Type 1} → statement M
@@ -70,6 +60,4 @@ check-arrays-spec =
     same-length-2
     same-length-3
     same-length-4
-    same-length-5
-    same-length-6
     returns)

@@ -1,8 +1,8 @@
 -- `reverse::all_full` meets its contract: the parts before v are full.
 use mathlib.Core.Path.{refl, sym, _∙_}
-use mathlib.Core.Bool.{true≢false}
 use Prim.Native.Nat.{_+_, _-_}
 use native.Mathlib.Omega.{arith}
+use Rattle.record.specs.Reverse.{yea, nay}
 use Rattle.record.proofs.Laws.Counting.Nexts.{Nexts, nexts-start, nexts-found, at-ends}
 use Rattle.record.proofs.reverse.all_full.Statement.{statement}
 use Rattle.record.proofs.reverse.all_full.Tie as tie
@@ -29,7 +29,12 @@ get-requires-2 : tie.Need-get-requires-2 Inv-loop μ-loop
 get-requires-2 c κs = let k = c .before .before .loop .inv .number in omega arith
 
 returns : tie.Need-returns Inv-loop μ-loop
-returns c = λ t. absurd (true≢false (sym t))
+returns c =
+    let at-get2 = c .before in
+    let at-get = at-get2 .before in
+    let at-loop = at-get .before .before in
+    let k = at-loop .loop .inv .number in
+    nay (λ e. c .if1 .taken (at-get .get .ensures .0 ∙ e .ends (at-loop .loop .v) (omega arith) ∙ sym (at-get2 .get2 .ensures .0)))
 
 add-v : tie.Need-add-v Inv-loop μ-loop
 add-v c = omega arith
@@ -38,10 +43,14 @@ loop-less : tie.Need-loop-less Inv-loop μ-loop
 loop-less c = omega arith
 
 loop-again : tie.Need-loop-again Inv-loop μ-loop
-loop-again c = nexts-found (c .before .before .before .before .loop .inv) (sym (c .before .before .get .ensures .0) ∙ c .if1 .left ∙ c .before .get2 .ensures .0)
+loop-again c =
+    let at-get2 = c .before in
+    let at-get = at-get2 .before in
+    let at-loop = at-get .before .before in
+    nexts-found (at-loop .loop .inv) (sym (at-get .get .ensures .0) ∙ c .if1 .left ∙ at-get2 .get2 .ensures .0)
 
 returns-2 : tie.Need-returns-2 Inv-loop μ-loop
-returns-2 c = λ t. at-ends (c .before .loop .inv) (c .loop-test .left)
+returns-2 c = yea (at-ends (c .before .loop .inv) (c .loop-test .left))
 
 pub all-full-spec : {M : Type 1} → statement M
 all-full-spec =

@@ -1,9 +1,10 @@
 -- `reverse::all_mutual` meets its contract: turned round, full, and found again.
-use mathlib.Core.Path.{sym}
-use mathlib.Core.Bool.{true≢false}
-use borrow.Author.Tests.{not-false}
+use borrow.Author.Tests.{not-false, not-true}
+use Rattle.record.specs.Reverse.{nay}
+use Rattle.record.proofs.Laws.Counting.Tests.{told-yes, told-no, told-on}
 use Rattle.record.proofs.Laws.Counting.Turned.{turned-divided}
 use Rattle.record.proofs.Laws.Counting.Mutual.{mutual-kept}
+use Rattle.record.proofs.Laws.Counting.Orderly.{filled, orderly}
 use borrow.Author.Needs.{needs}
 use Rattle.record.proofs.reverse.all_mutual.Statement.{statement}
 use Rattle.record.proofs.reverse.all_mutual.Tie as tie
@@ -21,7 +22,7 @@ same-length-2 : tie.Need-same-length-2
 same-length-2 c = search needs
 
 returns : tie.Need-returns
-returns c = λ t. absurd (true≢false (sym t))
+returns c = nay (told-no (c .before .before .before .before .before .turn-all .ensures) (not-true _ (c .if1 .taken)))
 
 all-full-requires : tie.Need-all-full-requires
 all-full-requires c κs = search needs
@@ -33,7 +34,12 @@ same-length-4 : tie.Need-same-length-4
 same-length-4 c = search needs
 
 returns-2 : tie.Need-returns-2
-returns-2 c = λ t. absurd (true≢false (sym t))
+returns-2 c =
+    let at-all-full = c .before in
+    let at-if1 = at-all-full .before .before in
+    let at-turn-all = at-if1 .before .before .before .before .before in
+    let turned = told-yes (at-turn-all .turn-all .ensures) (not-false _ (at-if1 .if1 .left)) in
+    nay (λ k. told-no (at-all-full .all-full .ensures) (not-true _ (c .if2 .taken)) (filled turned k))
 
 rewind-requires-2 : tie.Need-rewind-requires-2
 rewind-requires-2 c κs = search needs
@@ -43,7 +49,8 @@ match-all-requires c κs =
     let at-rewind2 = c .before .before .before .before in
     let at-if1 = at-rewind2 .before .before .before .before .before in
     let at-turn-all = at-if1 .before .before .before .before .before in
-    (turned-divided (at-turn-all .turn-all .ensures (not-false _ (at-if1 .if1 .left)) .turned), at-rewind2 .rewind2 .ensures)
+    let turned = told-yes (at-turn-all .turn-all .ensures) (not-false _ (at-if1 .if1 .left)) in
+    (turned-divided (turned .turned), at-rewind2 .rewind2 .ensures)
 
 same-length-5 : tie.Need-same-length-5
 same-length-5 c = search needs
@@ -58,7 +65,9 @@ returns-3 c =
     let at-all-full = at-if2 .before in
     let at-if1 = at-all-full .before .before in
     let at-turn-all = at-if1 .before .before .before .before .before in
-    λ t. mutual-kept (at-turn-all .turn-all .ensures (not-false _ (at-if1 .if1 .left))) (at-all-full .all-full .ensures (not-false _ (at-if2 .if2 .left))) (at-match-all .match-all .ensures t)
+    let turned = told-yes (at-turn-all .turn-all .ensures) (not-false _ (at-if1 .if1 .left)) in
+    let full = told-yes (at-all-full .all-full .ensures) (not-false _ (at-if2 .if2 .left)) in
+    told-on (at-match-all .match-all .ensures) (mutual-kept turned full) (orderly turned)
 
 pub all-mutual-spec : {M : Type 1} → statement M
 all-mutual-spec =

@@ -1,11 +1,11 @@
 -- `reverse::match_all` meets its contract: the parts passed are found again.
-use mathlib.Core.Path.{refl, sym}
-use mathlib.Core.Bool.{true≢false}
-use borrow.Author.Tests.{not-false}
+use mathlib.Core.Path.{refl}
+use borrow.Author.Tests.{not-false, not-true}
 use Prim.Native.Nat.{_-_}
 use native.Mathlib.Omega.{arith}
-use Rattle.record.specs.Reverse.{Matching}
+use Rattle.record.specs.Reverse.{Matching, yea, nay}
 use Rattle.record.proofs.Laws.Arrays.Loops.{Round, round-start, round-inside, round-more}
+use Rattle.record.proofs.Laws.Counting.Tests.{told-yes, told-no}
 use Rattle.record.proofs.Laws.Counting.Matched.{matching-start, matching-end}
 use Rattle.record.proofs.reverse.match_all.Statement.{statement}
 use Rattle.record.proofs.reverse.match_all.Tie as tie
@@ -20,16 +20,21 @@ sub-n : tie.Need-sub-n Inv-loop μ-loop
 sub-n c = let s = c .before .before .before .pre .0 .some in omega arith
 
 loop-holds : tie.Need-loop-holds Inv-loop μ-loop
-loop-holds c = (matching-start (c .before .before .before .pre .0) (c .before .before .before .pre .1), round-start (c .before .before .before .pre .0 .some) refl refl)
+loop-holds c =
+    let pre = c .before .before .before .pre in
+    (matching-start (pre .0) (pre .1), round-start (pre .0 .some) refl refl)
 
 match-block-requires : tie.Need-match-block-requires Inv-loop μ-loop
-match-block-requires c κs = (c .before .before .loop .inv .0, round-inside (c .before .before .loop .inv .1) (c .before .loop-test .taken))
+match-block-requires c κs =
+    let at-test = c .before in
+    let inv = at-test .before .loop .inv in
+    (inv .0, round-inside (inv .1) (at-test .loop-test .taken))
 
 same-length : tie.Need-same-length Inv-loop μ-loop
 same-length c = omega arith
 
 returns : tie.Need-returns Inv-loop μ-loop
-returns c = λ t. absurd (true≢false (sym t))
+returns c = nay (told-no (c .before .before .before .match-block .ensures) (not-true _ (c .if1 .taken)))
 
 add-u : tie.Need-add-u Inv-loop μ-loop
 add-u c = omega arith
@@ -38,13 +43,20 @@ loop-less : tie.Need-loop-less Inv-loop μ-loop
 loop-less c = omega arith
 
 loop-again : tie.Need-loop-again Inv-loop μ-loop
-loop-again c = (c .before .before .before .match-block .ensures (not-false _ (c .if1 .left)), round-more (c .before .before .before .before .before .before .loop .inv .1) (c .before .before .before .before .before .loop-test .taken))
+loop-again c =
+    let at-match = c .before .before .before in
+    let at-test = at-match .before .before in (
+      told-yes (at-match .match-block .ensures) (not-false _ (c .if1 .left)),
+      round-more (at-test .before .loop .inv .1) (at-test .loop-test .taken),
+    )
 
 same-length-2 : tie.Need-same-length-2 Inv-loop μ-loop
 same-length-2 c = omega arith
 
 returns-2 : tie.Need-returns-2 Inv-loop μ-loop
-returns-2 c = λ t. matching-end (c .before .loop .inv .0) (c .before .loop .inv .1) (c .loop-test .left)
+returns-2 c =
+    let inv = c .before .loop .inv in
+    yea (matching-end (inv .0) (inv .1) (c .loop-test .left))
 
 pub match-all-spec : {M : Type 1} → statement M
 match-all-spec =

@@ -1,8 +1,8 @@
 -- `rooms::unpack_by` meets its contract: Check first, and then a list of the right length.
-use borrow.Author.Needs.{needs}
 use mathlib.Core.Path.{sym, ap, _∙_}
 use Rattle.record.specs.Answers.{verdict}
 use Rattle.record.proofs.Laws.Telling.Unpacking.{short-of, handed-refused, handed-misfit, handed-done}
+use borrow.Author.Needs.{needs}
 use Rattle.record.proofs.rooms.unpack_by.Statement.{statement}
 use Rattle.record.proofs.rooms.unpack_by.Tie as tie
 
@@ -18,8 +18,7 @@ enum-told c = search needs
 hand-on-requires : tie.Need-hand-on-requires
 hand-on-requires c κs =
     let at-if1 = c .before .before in
-    let past-13 = at-if1 .before .before .before .before .before .before .before .before .before .before .before in
-    let at-check-arrays = past-13 .before .before .before .before in
+    let at-check-arrays = at-if1 .before .before .before .before .before .before .before .before .before .before .before in
     (at-if1 .if1 .taken, short-of (at-check-arrays .check-arrays .ensures .1))
 
 same-length : tie.Need-same-length
@@ -34,18 +33,17 @@ same-length-3 c = search needs
 same-length-4 : tie.Need-same-length-4
 same-length-4 c = search needs
 
+returns : tie.Need-returns
+returns c =
+    let at-r = c .before in
+    let at-check-arrays = at-r .before .before .before .before .before .before .before .before .before .before in
+    handed-refused (sym (ap verdict (at-r .r .given .1)) ∙ at-check-arrays .check-arrays .ensures .0)
+
 same-length-5 : tie.Need-same-length-5
 same-length-5 c = search needs
 
 same-length-6 : tie.Need-same-length-6
 same-length-6 c = search needs
-
-returns : tie.Need-returns
-returns c =
-    let at-r = c .before in
-    let past-12 = at-r .before .before .before .before .before .before .before .before .before .before .before in
-    let at-check-arrays = past-12 .before .before .before in
-    handed-refused (sym (ap verdict (at-r .r .given .1)) ∙ at-check-arrays .check-arrays .ensures .0)
 
 same-length-7 : tie.Need-same-length-7
 same-length-7 c = search needs
@@ -55,6 +53,15 @@ same-length-8 c = search needs
 
 same-length-9 : tie.Need-same-length-9
 same-length-9 c = search needs
+
+returns-2 : tie.Need-returns-2
+returns-2 c =
+    let at-hand-on = c .before .before in
+    let at-if1 = at-hand-on .before .before .before in
+    let at-enum-told = at-if1 .before in
+    let at-check-arrays = at-enum-told .before .before .before .before .before .before .before .before .before .before in
+    handed-done (at-check-arrays .check-arrays .ensures .1) (sym (ap verdict (at-enum-told .enum-told .given .1)) ∙ at-check-arrays .check-arrays .ensures .0)
+        (at-if1 .if1 .taken) (at-hand-on .hand-on .ensures)
 
 same-length-10 : tie.Need-same-length-10
 same-length-10 c = search needs
@@ -68,38 +75,10 @@ same-length-12 c = search needs
 same-length-13 : tie.Need-same-length-13
 same-length-13 c = search needs
 
-returns-2 : tie.Need-returns-2
-returns-2 c =
-    let at-hand-on = c .before .before in
-    let at-if1 = at-hand-on .before .before .before in
-    let at-enum-told = at-if1 .before in
-    let past-17 = at-enum-told .before .before .before .before .before .before .before .before .before .before .before in
-    let at-check-arrays = past-17 .before .before .before in
-    handed-done (at-check-arrays .check-arrays .ensures .1) (sym (ap verdict (at-enum-told .enum-told .given .1)) ∙ at-check-arrays .check-arrays .ensures .0) (at-if1 .if1 .taken) (at-hand-on .hand-on .ensures)
-
-same-length-14 : tie.Need-same-length-14
-same-length-14 c = search needs
-
-same-length-15 : tie.Need-same-length-15
-same-length-15 c = search needs
-
-same-length-16 : tie.Need-same-length-16
-same-length-16 c = search needs
-
-same-length-17 : tie.Need-same-length-17
-same-length-17 c = search needs
-
-same-length-18 : tie.Need-same-length-18
-same-length-18 c = search needs
-
-same-length-19 : tie.Need-same-length-19
-same-length-19 c = search needs
-
 returns-3 : tie.Need-returns-3
 returns-3 c =
     let at-enum-told = c .before in
-    let past-12 = at-enum-told .before .before .before .before .before .before .before .before .before .before .before in
-    let at-check-arrays = past-12 .before .before .before in
+    let at-check-arrays = at-enum-told .before .before .before .before .before .before .before .before .before .before in
     handed-misfit (at-check-arrays .check-arrays .ensures .1) (sym (ap verdict (at-enum-told .enum-told .given .1)) ∙ at-check-arrays .check-arrays .ensures .0) (c .if1 .left)
 
 pub unpack-by-spec : {M : Type 1} → statement M
@@ -114,21 +93,15 @@ unpack-by-spec =
     same-length-2
     same-length-3
     same-length-4
+    returns
     same-length-5
     same-length-6
-    returns
     same-length-7
     same-length-8
     same-length-9
+    returns-2
     same-length-10
     same-length-11
     same-length-12
     same-length-13
-    returns-2
-    same-length-14
-    same-length-15
-    same-length-16
-    same-length-17
-    same-length-18
-    same-length-19
     returns-3)

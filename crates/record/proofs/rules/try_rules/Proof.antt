@@ -1,7 +1,10 @@
--- `rules::try_rules` meets its contract.
-use borrow.Author.Needs.{needs}
+-- `rules::try_rules` meets its contract: a rule is broken where the quick test says no, and rule 8 where it is neither of the first two.
+use mathlib.Core.Path.{sym, _∙_}
 use native.Mathlib.Omega.{arith}
-use Rattle.record.proofs.Laws.Counting.InTurn.{kept-told}
+use Rattle.record.specs.Laws.Unpacked.{arrays-kept}
+use Rattle.record.proofs.Laws.Counting.Tests.{told-yes, told-no}
+use Rattle.record.proofs.Laws.Counting.InTurn.{turn-6, turn-7, turn-8, kept-told}
+use borrow.Author.Needs.{needs}
 use Rattle.record.proofs.rules.try_rules.Statement.{statement}
 use Rattle.record.proofs.rules.try_rules.Tie as tie
 
@@ -15,13 +18,12 @@ same-length-2 : tie.Need-same-length-2
 same-length-2 c = search needs
 
 returns : tie.Need-returns
-returns c = kept-told (c .before .before .before .before .before .all-mutual .ensures (c .if1 .taken))
+returns c =
+    let at-all-mutual = c .before .before .before .before .before in
+    kept-told (told-yes (at-all-mutual .all-mutual .ensures) (c .if1 .taken))
 
-in-turn-requires : tie.Need-in-turn-requires
-in-turn-requires c κs =
-    let past-11 = c .before .before .before .before .before .before .before .before .before .before .before in
-    let start = past-11 .before .before .before .before .before .before .before in
-    (start .pre .0, ((omega arith, start .pre .1 .0 .1), (omega arith, start .pre .1 .1 .1)))
+some-stray-requires : tie.Need-some-stray-requires
+some-stray-requires c κs = search needs
 
 same-length-3 : tie.Need-same-length-3
 same-length-3 c = search needs
@@ -29,14 +31,46 @@ same-length-3 c = search needs
 same-length-4 : tie.Need-same-length-4
 same-length-4 c = search needs
 
+returns-2 : tie.Need-returns-2
+returns-2 c =
+    let at-some-stray = c .before in
+    turn-6 _ (at-some-stray .some-stray .ensures) (c .if2 .taken)
+
+some-doubled-requires : tie.Need-some-doubled-requires
+some-doubled-requires c κs =
+    let at-if2 = c .before in
+    let at-some-stray = at-if2 .before in
+    let start = at-some-stray .before .before .before .before .before .before .before .before .before .before .before .before .before in
+    (arrays-kept (start .pre .0) (sym (at-some-stray .some-stray .ensures) ∙ at-if2 .if2 .left), omega arith)
+
 same-length-5 : tie.Need-same-length-5
 same-length-5 c = search needs
 
 same-length-6 : tie.Need-same-length-6
 same-length-6 c = search needs
 
-returns-2 : tie.Need-returns-2
-returns-2 c = search needs
+returns-3 : tie.Need-returns-3
+returns-3 c =
+    let at-some-doubled = c .before .before .before in
+    let at-if2 = at-some-doubled .before .before in
+    let at-some-stray = at-if2 .before in
+    turn-7 _ (at-some-stray .some-stray .ensures) (at-if2 .if2 .left) (at-some-doubled .some-doubled .ensures) (c .if3 .taken)
+
+same-length-7 : tie.Need-same-length-7
+same-length-7 c = search needs
+
+same-length-8 : tie.Need-same-length-8
+same-length-8 c = search needs
+
+returns-4 : tie.Need-returns-4
+returns-4 c =
+    let at-some-doubled = c .before .before .before in
+    let at-if2 = at-some-doubled .before .before in
+    let at-some-stray = at-if2 .before in
+    let at-if1 = at-some-stray .before in
+    let at-all-mutual = at-if1 .before .before .before .before .before in
+    turn-8 _ (at-some-stray .some-stray .ensures) (at-if2 .if2 .left) (at-some-doubled .some-doubled .ensures) (c .if3 .left)
+        (told-no (at-all-mutual .all-mutual .ensures) (at-if1 .if1 .left))
 
 pub try-rules-spec : {M : Type 1} → statement M
 try-rules-spec =
@@ -46,9 +80,14 @@ try-rules-spec =
     same-length
     same-length-2
     returns
-    in-turn-requires
+    some-stray-requires
     same-length-3
     same-length-4
+    returns-2
+    some-doubled-requires
     same-length-5
     same-length-6
-    returns-2)
+    returns-3
+    same-length-7
+    same-length-8
+    returns-4)
