@@ -2,7 +2,7 @@
 ghost use mathlib.Core.Path.{_≡_};
 ghost use Prim.Native.Nat.{_≤_};
 ghost use Rattle.record.specs.Answers.{verdict};
-ghost use Rattle.record.specs.Steps.{Laid, Lent, ArraysOf};
+ghost use Rattle.record.specs.Steps.{Laid, Lent, Roomy, ArraysOf};
 ghost use Rattle.record.specs.Operations.{Accepted};
 ghost use Rattle.forest.specs.Operations.{BuildDone};
 use record::Refusal;
@@ -46,30 +46,31 @@ fn build_by(
     nbrs: &mut [u16],
     reverse: &mut [u16],
     next: &mut [u16],
-    from: &mut [u16],
-    counts: &mut [u16],
 ) -> Verdict
-    requires { ⌜ Laid (now bytes) n m ⌝ }
-    requires { ⌜ Lent n m (now starts) (now nbrs) (now reverse) (now next) (now from) (now counts) ⌝ }
+    requires { ⌜ (Laid (now bytes) n m) × (Lent n m (now starts) (now nbrs) (now reverse) (now next)) ⌝ }
     ensures { λ r. ⌜ BuildDone (now (bytes .entry)) (now (work .entry)) (now (index .entry)) (now (index .exit)) (verdict r) ⌝ }
 {
-    match check_arrays(bytes, n, m, starts, nbrs, reverse, next, from, counts) {
+    match check_arrays(bytes, n, m, starts, nbrs, reverse, next) {
         Verdict::Refused(r) => Verdict::Refused(r),
         Verdict::Accepted => build_from(bytes, n, m, work, index, starts, nbrs),
     }
 }
 
-// Room for 128 terminals and 512 places.
-fn in_small(bytes: &[u8], n: usize, m: usize, work: &mut [u16], index: &mut [u8]) -> Verdict
-    requires { ⌜ (Laid (now bytes) n m) × (n ≤ 128) × (m ≤ 256) ⌝ }
+// The same in the front parts of arrays with room to spare.
+fn build_in(
+    bytes: &[u8],
+    n: usize,
+    m: usize,
+    work: &mut [u16],
+    index: &mut [u8],
+    starts: &mut [u16],
+    nbrs: &mut [u16],
+    reverse: &mut [u16],
+    next: &mut [u16],
+) -> Verdict
+    requires { ⌜ (Laid (now bytes) n m) × (Roomy n m (now starts) (now nbrs) (now reverse) (now next)) ⌝ }
     ensures { λ r. ⌜ BuildDone (now (bytes .entry)) (now (work .entry)) (now (index .entry)) (now (index .exit)) (verdict r) ⌝ }
 {
-    let mut starts = [0u16; 129];
-    let mut nbrs = [0u16; 512];
-    let mut reverse = [0u16; 512];
-    let mut next = [0u16; 128];
-    let mut from = [0u16; 512];
-    let mut counts = [0u16; 128];
     let blocks = n + 1;
     let fields = 2 * m;
     build_by(
@@ -82,8 +83,28 @@ fn in_small(bytes: &[u8], n: usize, m: usize, work: &mut [u16], index: &mut [u8]
         &mut nbrs[..fields],
         &mut reverse[..fields],
         &mut next[..n],
-        &mut from[..fields],
-        &mut counts[..n],
+    )
+}
+
+// Room for 128 terminals and 512 places.
+fn in_small(bytes: &[u8], n: usize, m: usize, work: &mut [u16], index: &mut [u8]) -> Verdict
+    requires { ⌜ (Laid (now bytes) n m) × (n ≤ 128) × (m ≤ 256) ⌝ }
+    ensures { λ r. ⌜ BuildDone (now (bytes .entry)) (now (work .entry)) (now (index .entry)) (now (index .exit)) (verdict r) ⌝ }
+{
+    let mut starts = [0u16; 129];
+    let mut nbrs = [0u16; 512];
+    let mut reverse = [0u16; 512];
+    let mut next = [0u16; 128];
+    build_in(
+        bytes,
+        n,
+        m,
+        work,
+        index,
+        &mut starts,
+        &mut nbrs,
+        &mut reverse,
+        &mut next,
     )
 }
 
@@ -96,22 +117,16 @@ fn in_middle(bytes: &[u8], n: usize, m: usize, work: &mut [u16], index: &mut [u8
     let mut nbrs = [0u16; 2208];
     let mut reverse = [0u16; 2400];
     let mut next = [0u16; 512];
-    let mut from = [0u16; 2048];
-    let mut counts = [0u16; 512];
-    let blocks = n + 1;
-    let fields = 2 * m;
-    build_by(
+    build_in(
         bytes,
         n,
         m,
         work,
         index,
-        &mut starts[..blocks],
-        &mut nbrs[..fields],
-        &mut reverse[..fields],
-        &mut next[..n],
-        &mut from[..fields],
-        &mut counts[..n],
+        &mut starts,
+        &mut nbrs,
+        &mut reverse,
+        &mut next,
     )
 }
 
@@ -124,22 +139,16 @@ fn in_large(bytes: &[u8], n: usize, m: usize, work: &mut [u16], index: &mut [u8]
     let mut nbrs = [0u16; 8352];
     let mut reverse = [0u16; 8544];
     let mut next = [0u16; 4096];
-    let mut from = [0u16; 8192];
-    let mut counts = [0u16; 4096];
-    let blocks = n + 1;
-    let fields = 2 * m;
-    build_by(
+    build_in(
         bytes,
         n,
         m,
         work,
         index,
-        &mut starts[..blocks],
-        &mut nbrs[..fields],
-        &mut reverse[..fields],
-        &mut next[..n],
-        &mut from[..fields],
-        &mut counts[..n],
+        &mut starts,
+        &mut nbrs,
+        &mut reverse,
+        &mut next,
     )
 }
 
@@ -152,22 +161,16 @@ fn in_full(bytes: &[u8], n: usize, m: usize, work: &mut [u16], index: &mut [u8])
     let mut nbrs = [0u16; 32928];
     let mut reverse = [0u16; 33120];
     let mut next = [0u16; 4096];
-    let mut from = [0u16; 32768];
-    let mut counts = [0u16; 4096];
-    let blocks = n + 1;
-    let fields = 2 * m;
-    build_by(
+    build_in(
         bytes,
         n,
         m,
         work,
         index,
-        &mut starts[..blocks],
-        &mut nbrs[..fields],
-        &mut reverse[..fields],
-        &mut next[..n],
-        &mut from[..fields],
-        &mut counts[..n],
+        &mut starts,
+        &mut nbrs,
+        &mut reverse,
+        &mut next,
     )
 }
 

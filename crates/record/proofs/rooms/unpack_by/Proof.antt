@@ -61,7 +61,7 @@ returns-2 c =
     let at-enum-told = at-if1 .before in
     let at-check-arrays = at-enum-told .before .before .before .before .before .before .before .before .before .before in
     handed-done (at-check-arrays .check-arrays .ensures .1) (sym (ap verdict (at-enum-told .enum-told .given .1)) ∙ at-check-arrays .check-arrays .ensures .0)
-        (at-if1 .if1 .taken) (at-hand-on .hand-on .ensures)
+    (at-if1 .if1 .taken) (at-hand-on .hand-on .ensures)
 
 same-length-10 : tie.Need-same-length-10
 same-length-10 c = search needs

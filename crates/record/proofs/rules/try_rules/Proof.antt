@@ -70,7 +70,7 @@ returns-4 c =
     let at-if1 = at-some-stray .before in
     let at-all-mutual = at-if1 .before .before .before .before .before in
     turn-8 _ (at-some-stray .some-stray .ensures) (at-if2 .if2 .left) (at-some-doubled .some-doubled .ensures) (c .if3 .left)
-        (told-no (at-all-mutual .all-mutual .ensures) (at-if1 .if1 .left))
+    (told-no (at-all-mutual .all-mutual .ensures) (at-if1 .if1 .left))
 
 pub try-rules-spec : {M : Type 1} → statement M
 try-rules-spec =
