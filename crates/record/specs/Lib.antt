@@ -2,8 +2,8 @@
 pub mod Record
 pub mod Starts
 pub mod Arrays
-pub mod Tally
 pub mod Rules
+pub mod Tally
 pub mod Reverse
 pub mod Answers
 pub mod Operations

@@ -1,7 +1,7 @@
 -- The blocks turned round: a second row, cut by the same starts, whose part v lists the terminals whose blocks have v, in order.
 use Prim.Native.Nat.{ℕ, _+_, _≤_, _<_}
 use mathlib.Core.Path.{_≡_}
-use mathlib.Core.Bool.{Bool, true, false}
+use mathlib.Core.Bool.{false}
 use mathlib.Core.List.{List}
 use lib.ListN.{length, getD}
 use Rattle.graph.specs.Graph.{Blocks, block, mentions}
@@ -52,8 +52,3 @@ pub record Orderly (starts reverse : List ℕ) : Type 0 where
   pub balanced : (v w : ℕ) → v + 1 < length starts
       → mentions w (block (cut starts reverse) v) ≡ mentions v (block (cut starts reverse) w)
   pub rising : (v q : ℕ) → Holds starts v q → Holds starts v (q + 1) → getD reverse q 0 < getD reverse (q + 1) 0
-
--- a yes brings A, and a no rules B out
-pub data Tells (A B : Type 0) : Bool → Type 0 where
-  yea : A → Tells A B true
-  nay : (B → ⊥) → Tells A B false

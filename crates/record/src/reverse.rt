@@ -7,7 +7,8 @@ ghost use Prim.Native.Nat.{_+_, _-_, _<_};
 ghost use lib.ListN.{length, getD};
 ghost use Rattle.graph.specs.Graph.{Blocks};
 ghost use Rattle.record.specs.Arrays.{cut, Divided, Holds};
-ghost use Rattle.record.specs.Reverse.{Turned, Turning, TurnedBefore, Matching, AtStarts, AtEnds, Kept, Orderly, Tells};
+ghost use Rattle.record.specs.Reverse.{Turned, Turning, TurnedBefore, Matching, AtStarts, AtEnds, Kept, Orderly};
+ghost use Rattle.record.specs.Tally.{Tells};
 use super::cells::get;
 use super::cells::put;
 

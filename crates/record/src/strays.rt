@@ -2,17 +2,18 @@
 ghost use mathlib.Core.Path.{_≡_};
 ghost use Prim.Native.Nat.{_+_, _<_};
 ghost use lib.ListN.{length};
-ghost use Rattle.graph.specs.Graph.{Blocks, block};
-ghost use Rattle.record.specs.Rules.{anyIn, anyPlace, stray};
+ghost use Rattle.graph.specs.Graph.{Blocks};
+ghost use Rattle.record.specs.Rules.{anyPlace, stray};
 ghost use Rattle.record.specs.Arrays.{cut, Divided};
+ghost use Rattle.record.specs.Tally.{Tells, Stray};
 use super::cells::get;
 
 // Whether such a neighbour stands in block u.
 fn stray_in(starts: &[u16], nbrs: &[u16], u: usize) -> bool
-    ghost { Blocks }
-    requires { λ g. ⌜ cut (now starts) (now nbrs) ≡ g ⌝ }
-    requires { λ g. ⌜ (Divided (now starts) (now nbrs)) × (u + 1 < length (now starts)) ⌝ }
-    ensures { λ g r. ⌜ r ≡ anyIn (stray g u) (block g u) ⌝ }
+    requires { ⌜ (Divided (now starts) (now nbrs)) × (u + 1 < length (now starts)) ⌝ }
+    ensures { λ r. ⌜
+        Tells (Stray (now (starts .entry)) (now (nbrs .entry)) u) (Stray (now (starts .entry)) (now (nbrs .entry)) u) r
+        ⌝ }
 {
     let n = starts.len() - 1;
     let end = get(starts, u + 1);

@@ -1,5 +1,5 @@
 -- Rules 5 to 8 over the two arrays.
-pub mod Passed
+pub mod Strays
 pub mod Marks
 pub mod Doubled
 pub mod Tests

@@ -5,6 +5,7 @@
 --   divided-too    a row of the same length is divided by the same starts
 --   row-size       a block reaches from its start to the next
 --   row-neighbour  the neighbour at a position of a block
+--   place-at       a place of a block is a place of the graph, and the other way round (place-held)
 --   place-known    what a block mentions is a vertex
 --   flatten-cut    the blocks in a row are the row
 use Prim.Native.Nat.{ℕ, zero, suc, _+_, _-_, _≤_, _<_}
@@ -15,6 +16,7 @@ use native.Mathlib.Decide.{decLt}
 use lib.ListN.{length, getD, take, drop, length-drop}
 use lib.Seq.{length-take-le, getD-take, getD-drop, drop-drop, take-add, take-all}
 use Rattle.graph.specs.Graph.{block, target, Place}
+use Rattle.graph.specs.Laws.Places.Pairing.{source}
 use Rattle.record.specs.Arrays.{cut, Divided, At, Holds}
 use Rattle.record.specs.Laws.Parts.{length-cut, cut-block}
 
@@ -73,15 +75,32 @@ module _ {starts nbrs : List ℕ} (i : Divided starts nbrs) (u : ℕ) (k : u + 1
       ∙ getD-take (getD starts (u + 1) 0 - getD starts u 0) (drop (getD starts u 0) nbrs) j 0 (omega arith)
       ∙ getD-drop (getD starts u 0) nbrs j 0
 
+-- a place of a block is a place of the graph, and the other way round
+module _ {starts nbrs : List ℕ} (i : Divided starts nbrs) where
+  pub place-at : {u p v : ℕ} → Holds starts u p → v ≡ getD nbrs p 0 → Place (cut starts nbrs) u (p - getD starts u 0) v
+  place-at {u} {p} h e =
+      let l = row-size i u (h .inside) in
+      let z : getD starts u 0 + (p - getD starts u 0) ≡ p = omega arith in
+      record {
+        fits = omega arith;
+        leads = row-neighbour i u (h .inside) (p - getD starts u 0) (omega arith) ∙ ap (λ (x : ℕ). getD nbrs x 0) z ∙ sym e;
+      }
+
+  pub place-held : {u j v : ℕ} → Place (cut starts nbrs) u j v
+      → (Holds starts u (getD starts u 0 + j)) × (v ≡ getD nbrs (getD starts u 0 + j) 0)
+  place-held {u} {j} p =
+      let c = length-cut starts nbrs in
+      let k : u + 1 < length starts = let s = source p in omega arith in
+      let a = p .fits in
+      let b = row-size i u k in
+      (record { inside = k; low = omega arith; high = omega arith }, sym (p .leads) ∙ row-neighbour i u k j a)
+
 -- what a block mentions is a terminal
 pub place-known : {starts nbrs : List ℕ} {u j v : ℕ} → At starts nbrs u → Place (cut starts nbrs) u j v → v + 1 < length starts
 place-known {starts} {nbrs} {u} {j} at p =
-    let f = starts-fit (at .arrays .divided) (u + 1) (at .inside) in
-    let a = p .fits in
-    let b = row-size (at .arrays .divided) u (at .inside) in
-    let e = sym (p .leads) ∙ row-neighbour (at .arrays .divided) u (at .inside) j a in
-    let k = at .arrays .known (getD starts u 0 + j) (omega arith) in
-    omega arith
+    let (h, e) = place-held (at .arrays .divided) p in
+    let f = starts-fit (at .arrays .divided) (u + 1) (h .inside) in
+    rw e (at .arrays .known (getD starts u 0 + j) (let k = h .high in omega arith))
 
 -- ---- the blocks in a row
 

@@ -6,13 +6,13 @@ use native.Mathlib.Omega.{arith}
 use native.Mathlib.Decide.{ℕ-discrete, decLt}
 use lib.ListN.{length, getD, length-take, List·getD-eq-default}
 use borrow.Author.Tests.{ltb-false}
-use Rattle.graph.specs.Graph.{Blocks, block, mentions, Place, WellFormed}
+use Rattle.graph.specs.Graph.{Blocks, block, mentions, WellFormed}
 use Rattle.record.specs.Arrays.{cut, Divided, Holds, upTo}
 use Rattle.record.specs.Rules.{doubled}
 use Rattle.record.specs.Reverse.{Turned, TurnedBefore, AtEnds, Kept, Orderly}
 use Rattle.record.specs.Laws.Anywhere.{nowhere}
 use Rattle.record.specs.Laws.Parts.{length-cut}
-use Rattle.record.specs.Laws.Rows.{starts-mono, row-size, row-neighbour}
+use Rattle.record.specs.Laws.Rows.{starts-mono, row-size, place-at}
 use Rattle.record.specs.Laws.Sound.{well-formed}
 use Rattle.record.proofs.Laws.Arrays.Mentions.{mentions-append, one-hit, one-miss, mention-place, fewer}
 use Rattle.record.proofs.Laws.Arrays.Parts.{upto-past, upto-end}
@@ -43,20 +43,11 @@ module _ {g : Blocks} (k : Kept g) where
 
 -- place p of block u
 module _ {starts nbrs : List ℕ} (i : Divided starts nbrs) {u p : ℕ} (h : Holds starts u p) {v : ℕ} (is-v : v ≡ getD nbrs p 0) where
-  place-at : Place (cut starts nbrs) u (p - getD starts u 0) v
-  place-at =
-      let l = row-size i u (h .inside) in
-      let e : getD starts u 0 + (p - getD starts u 0) ≡ p = omega arith in
-      record {
-        fits = omega arith;
-        leads = row-neighbour i u (h .inside) (p - getD starts u 0) (omega arith) ∙ ap (λ (x : ℕ). getD nbrs x 0) e ∙ sym is-v;
-      }
-
   pub no-terminal : Kept (cut starts nbrs) → length starts - 1 ≤ v → ⊥
-  no-terminal k l = let a = well k .in-range u _ v place-at in let b = length-cut starts nbrs in omega arith
+  no-terminal k l = let a = well k .in-range u _ v (place-at i h is-v) in let b = length-cut starts nbrs in omega arith
 
   pub no-own : Kept (cut starts nbrs) → v ≡ u → ⊥
-  no-own k e = well k .no-loop u (p - getD starts u 0) (rw e at place-at)
+  no-own k e = well k .no-loop u (p - getD starts u 0) (rw e at (place-at i h is-v))
 
 -- ---- parts and blocks in which two terminals stand equally often
 

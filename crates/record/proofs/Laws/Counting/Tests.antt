@@ -1,7 +1,7 @@
 -- What a test tells, by its answer.
 use mathlib.Core.Path.{_≡_, sym}
 use mathlib.Core.Bool.{Bool, true, false, true≢false}
-use Rattle.record.specs.Reverse.{Tells, yea, nay}
+use Rattle.record.specs.Tally.{Tells, yea, nay}
 
 module _ {A B : Type 0} where
   pub told-yes : {r : Bool} → Tells A B r → r ≡ true → A

@@ -2,7 +2,7 @@
 use mathlib.Core.Path.{refl, sym, _∙_}
 use Prim.Native.Nat.{_+_, _-_}
 use native.Mathlib.Omega.{arith}
-use Rattle.record.specs.Reverse.{yea, nay}
+use Rattle.record.specs.Tally.{yea, nay}
 use Rattle.record.proofs.Laws.Counting.Nexts.{Nexts, nexts-start, nexts-found, at-ends}
 use Rattle.record.proofs.reverse.all_full.Statement.{statement}
 use Rattle.record.proofs.reverse.all_full.Tie as tie

@@ -1,6 +1,6 @@
 -- `reverse::all_mutual` meets its contract: turned round, full, and found again.
 use borrow.Author.Tests.{not-false, not-true}
-use Rattle.record.specs.Reverse.{nay}
+use Rattle.record.specs.Tally.{nay}
 use Rattle.record.proofs.Laws.Counting.Tests.{told-yes, told-no, told-on}
 use Rattle.record.proofs.Laws.Counting.Turned.{turned-divided}
 use Rattle.record.proofs.Laws.Counting.Mutual.{mutual-kept}

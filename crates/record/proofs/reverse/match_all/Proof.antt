@@ -3,7 +3,8 @@ use mathlib.Core.Path.{refl}
 use borrow.Author.Tests.{not-false, not-true}
 use Prim.Native.Nat.{_-_}
 use native.Mathlib.Omega.{arith}
-use Rattle.record.specs.Reverse.{Matching, yea, nay}
+use Rattle.record.specs.Reverse.{Matching}
+use Rattle.record.specs.Tally.{yea, nay}
 use Rattle.record.proofs.Laws.Arrays.Loops.{Round, round-start, round-inside, round-more}
 use Rattle.record.proofs.Laws.Counting.Tests.{told-yes, told-no}
 use Rattle.record.proofs.Laws.Counting.Matched.{matching-start, matching-end}

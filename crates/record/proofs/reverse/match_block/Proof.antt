@@ -3,7 +3,8 @@ use mathlib.Core.Path.{refl, subst⁻¹}
 use borrow.Author.Tests.{not-false, not-true}
 use Prim.Native.Nat.{_-_}
 use native.Mathlib.Omega.{arith}
-use Rattle.record.specs.Reverse.{Turned, yea, nay}
+use Rattle.record.specs.Reverse.{Turned}
+use Rattle.record.specs.Tally.{yea, nay}
 use Rattle.record.proofs.Laws.Arrays.Loops.{Along, along-start, along-holds, along-more}
 use Rattle.record.proofs.Laws.Counting.Tests.{told-yes, told-no}
 use Rattle.record.proofs.Laws.Counting.Turned.{turned-place}

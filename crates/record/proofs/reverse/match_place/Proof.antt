@@ -1,7 +1,7 @@
 -- `reverse::match_place` meets its contract: the part of the terminal at p has u next.
 use mathlib.Core.Path.{sym, _∙_}
 use native.Mathlib.Omega.{arith}
-use Rattle.record.specs.Reverse.{yea, nay}
+use Rattle.record.specs.Tally.{yea, nay}
 use Rattle.record.proofs.Laws.Counting.Turned.{turned-place, next-place, turned-more}
 use Rattle.record.proofs.Laws.Counting.Orderly.{all-terminals, never-full, next-is}
 use borrow.Author.Needs.{needs}

@@ -3,7 +3,8 @@ use mathlib.Core.Path.{refl, subst}
 use borrow.Author.Tests.{not-false, not-true}
 use Prim.Native.Nat.{_-_}
 use native.Mathlib.Omega.{arith}
-use Rattle.record.specs.Reverse.{TurnedBefore, yea, nay}
+use Rattle.record.specs.Reverse.{TurnedBefore}
+use Rattle.record.specs.Tally.{yea, nay}
 use Rattle.record.proofs.Laws.Arrays.Loops.{Round, round-start, round-inside, round-more, round-end}
 use Rattle.record.proofs.Laws.Counting.Tests.{told-yes, told-no}
 use Rattle.record.proofs.Laws.Counting.Turned.{turning-start}

@@ -3,7 +3,8 @@ use mathlib.Core.Path.{subst⁻¹}
 use Prim.Native.Nat.{_-_}
 use borrow.Author.Tests.{not-false, not-true}
 use native.Mathlib.Omega.{arith}
-use Rattle.record.specs.Reverse.{Turning, yea, nay}
+use Rattle.record.specs.Reverse.{Turning}
+use Rattle.record.specs.Tally.{yea, nay}
 use Rattle.record.proofs.Laws.Arrays.Loops.{Along, along-start, along-holds, along-more, along-end}
 use Rattle.record.proofs.Laws.Counting.Tests.{told-yes, told-no}
 use Rattle.record.proofs.Laws.Counting.Turned.{turning-on}

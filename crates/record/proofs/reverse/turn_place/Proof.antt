@@ -1,7 +1,7 @@
 -- `reverse::turn_place` meets its contract: the part of the neighbour at p has u in it.
 use mathlib.Core.Path.{sym, _∙_}
 use native.Mathlib.Omega.{arith}
-use Rattle.record.specs.Reverse.{yea, nay}
+use Rattle.record.specs.Tally.{yea, nay}
 use Rattle.record.proofs.Laws.Counting.Turned.{turned-place, next-place, turning-more}
 use Rattle.record.proofs.Laws.Counting.Orderly.{no-terminal, no-own, full-refused}
 use borrow.Author.Needs.{needs}

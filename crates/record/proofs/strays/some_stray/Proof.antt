@@ -2,30 +2,39 @@
 use mathlib.Core.Path.{refl}
 use Prim.Native.Nat.{_-_}
 use native.Mathlib.Omega.{arith}
-use Rattle.record.proofs.Laws.Counting.Passed.{Strayless, strayless-start, strayless-more, stray-found, stray-absent}
+use Rattle.record.proofs.Laws.Arrays.Loops.{round-inside}
+use Rattle.record.proofs.Laws.Counting.Tests.{told-yes, told-no}
+use Rattle.record.proofs.Laws.Counting.Strays.{Clean, clean-start, clean-more, stray-found, stray-absent}
 use Rattle.record.proofs.strays.some_stray.Statement.{statement}
 use Rattle.record.proofs.strays.some_stray.Tie as tie
 
 abbrev Inv-loop : tie.InvT-loop
-Inv-loop starts nbrs n u₀ u = Strayless starts nbrs u
+Inv-loop starts nbrs n u₀ u = Clean starts nbrs n u
 
 abbrev μ-loop : tie.MeasureT-loop
 μ-loop starts nbrs n u₀ u = n - u
 
 sub-n : tie.Need-sub-n Inv-loop μ-loop
-sub-n c = let s = c .before .before .pre .some in omega arith
+sub-n c =
+    let start = c .before .before in
+    let s = start .pre .some in omega arith
 
 loop-holds : tie.Need-loop-holds Inv-loop μ-loop
-loop-holds c = strayless-start (c .before .before .args .starts .now) (c .before .before .args .nbrs .now) refl
+loop-holds c =
+    let start = c .before .before in
+    clean-start (start .pre) refl
 
 stray-in-requires : tie.Need-stray-in-requires Inv-loop μ-loop
-stray-in-requires c κs = (c .before .before .before .before .pre, omega arith)
+stray-in-requires c κs =
+    let at-loop = c .before in
+    let start = at-loop .before .before .before in
+    (start .pre, round-inside (at-loop .loop .inv .round) (c .loop-test .taken))
 
 returns : tie.Need-returns Inv-loop μ-loop
 returns c =
-    let starts = c .before .before .before .before .before .before .args .starts .now in
-    let nbrs = c .before .before .before .before .before .before .args .nbrs .now in
-    stray-found starts nbrs (c .before .before .loop-test .taken) (c .before .stray-in .ensures) (c .if1 .taken)
+    let at-stray-in = c .before in
+    let start = at-stray-in .before .before .before .before .before in
+    stray-found (start .pre) (told-yes (at-stray-in .stray-in .ensures) (c .if1 .taken))
 
 add-u : tie.Need-add-u Inv-loop μ-loop
 add-u c = omega arith
@@ -35,12 +44,17 @@ loop-less c = omega arith
 
 loop-again : tie.Need-loop-again Inv-loop μ-loop
 loop-again c =
-    let starts = c .before .before .before .before .before .before .args .starts .now in
-    let nbrs = c .before .before .before .before .before .before .args .nbrs .now in
-    strayless-more starts nbrs (c .before .before .before .loop .inv) (c .before .before .loop-test .taken) (c .before .stray-in .ensures) (c .if1 .left)
+    let at-stray-in = c .before in
+    let at-loop-test = at-stray-in .before in
+    let at-loop = at-loop-test .before in
+    let start = at-loop .before .before .before in
+    clean-more (start .pre) (at-loop .loop .inv) (at-loop-test .loop-test .taken) (told-no (at-stray-in .stray-in .ensures) (c .if1 .left))
 
 returns-2 : tie.Need-returns-2 Inv-loop μ-loop
-returns-2 c = stray-absent (c .before .before .before .before .args .starts .now) (c .before .before .before .before .args .nbrs .now) (c .before .loop .inv) (c .loop-test .left)
+returns-2 c =
+    let at-loop = c .before in
+    let start = at-loop .before .before .before in
+    stray-absent (start .pre) (at-loop .loop .inv) (c .loop-test .left)
 
 pub some-stray-spec : {M : Type 1} → statement M
 some-stray-spec =
