@@ -5,11 +5,9 @@
 --   At starts nbrs u     and u is a vertex
 --   Holds starts u p     place p is in u's block
 --   upTo starts nbrs u p what a loop over the places has passed of u's block
-use Prim.Native.Nat.{ℕ, zero, suc, _+_, _-_, _≤_, _<_}
+use Prim.Native.Nat.{ℕ, _+_, _-_, _≤_, _<_}
 use mathlib.Core.Path.{_≡_}
-use mathlib.Core.Bool.{true, false}
 use mathlib.Core.List.{List, [], _∷_}
-use lib.Dec.{eqb}
 use lib.ListN.{length, getD, take, drop}
 use Rattle.graph.specs.Graph.{Blocks, block}
 

@@ -2,7 +2,7 @@
 use Prim.Native.Nat.{ℕ, _+_, _*_, _≤_}
 use native.Mathlib.Omega.{arith}
 use mathlib.Core.List.{List}
-use lib.ListN.{length, take, replicate, length-replicate}
+use lib.ListN.{take, replicate, length-replicate}
 use lib.Seq.{length-take-le}
 use Rattle.record.specs.Steps.{Lent, Roomy}
 

@@ -24,7 +24,7 @@ use Rattle.record.specs.Operations.{Accepted, checkGraph, check}
 use Rattle.record.specs.Steps.{Sound, Laid, ArraysOf}
 use Rattle.record.specs.Laws.First.{append-kept, order-numbered, layout-numbered, first-kept, neither, checked}
 use Rattle.record.specs.Laws.Parts.{start-first, starts-rise, length-cut}
-use Rattle.record.specs.Laws.Layout.{length-fields, length-blocks, blocks-cut, starts-count, starts-end}
+use Rattle.record.specs.Laws.Layout.{length-fields, blocks-cut, starts-count, starts-end}
 use Rattle.record.specs.Laws.Anywhere.{nowhere}
 use Rattle.record.specs.Laws.Unary.{flatten-below}
 use Rattle.record.specs.Laws.Rows.{flatten-cut}

@@ -31,9 +31,6 @@ module _ {starts : List ℕ} {n u : ℕ} where
     pub round-end : n ≤ u → u ≡ length starts - 1
     round-end l = let e = r .number in let h = r .upto in omega arith
 
-    pub round-last : {nbrs : List ℕ} → Divided starts nbrs → n ≤ u → getD starts u 0 ≡ length nbrs
-    round-last i l = ap (λ (j : ℕ). getD starts j 0) (round-end l) ∙ i .last
-
 -- there are n terminals
 pub record Sized (starts nbrs : List ℕ) (n : ℕ) : Type 0 where
   pub arrays : Arrays starts nbrs

@@ -10,7 +10,7 @@ use lib.ListN.{length, getD}
 use Rattle.graph.specs.Graph.{Place}
 use Rattle.graph.specs.Laws.Places.Basics.{Told, pass, fail, told}
 use Rattle.record.specs.Rules.{anyPlace, stray}
-use Rattle.record.specs.Arrays.{cut, Divided, Holds}
+use Rattle.record.specs.Arrays.{cut, Divided}
 use Rattle.record.specs.Tally.{Tells, yea, nay, Stray}
 use Rattle.record.specs.Laws.Anywhere.{somewhere, nowhere}
 use Rattle.record.specs.Laws.Parts.{length-cut}

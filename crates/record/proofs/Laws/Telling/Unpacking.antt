@@ -6,7 +6,7 @@ use Prim.Native.Nat.{ℕ, suc, _*_, _<_}
 use native.Mathlib.Omega.{arith}
 use borrow.Author.Tests.{eq-eqb, ne-eqb}
 use lib.ListN.{length, getD}
-use Rattle.record.specs.Record.{terminals, wires, fields}
+use Rattle.record.specs.Record.{wires, fields}
 use Rattle.record.specs.Rules.{firstBroken, layoutRules, checkRules}
 use Rattle.record.specs.Answers.{Answer, refused, answered, tried, sizesOf}
 use Rattle.record.specs.Operations.{otherLength, check, unpackRules, unpack, unpacked}
