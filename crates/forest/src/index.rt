@@ -3,7 +3,7 @@ ghost use mathlib.Core.Path.{_≡_};
 ghost use Prim.Native.Nat.{_+_, _*_, _≤_, _<_};
 ghost use lib.ListN.{length};
 ghost use Rattle.graph.specs.Graph.{Blocks, WellFormed};
-ghost use Rattle.record.specs.Arrays.{cut, Arrays, Divided};
+ghost use Rattle.adjacency.specs.Arrays.{cut, Arrays, Divided};
 ghost use Rattle.forest.specs.Index.{indexOf, indexBy, numberBytes, indexLength};
 ghost use Rattle.forest.specs.Steps.{stride as strideOf};
 ghost use Rattle.forest.specs.Lows.{Lifting};

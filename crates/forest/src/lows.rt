@@ -5,11 +5,11 @@ ghost use mathlib.Core.Path.{_≡_};
 ghost use Prim.Native.Nat.{_+_, _*_, _<_, _≤_, min};
 ghost use lib.ListN.{length, getD};
 ghost use Rattle.graph.specs.Graph.{Blocks, WellFormed};
-ghost use Rattle.record.specs.Arrays.{cut, Arrays};
+ghost use Rattle.adjacency.specs.Arrays.{cut, Arrays};
 ghost use Rattle.forest.specs.Steps.{Room, Known};
 ghost use Rattle.forest.specs.Lows.{LowStep, OwnLow, Lowers, LiftsOne, Searches, Lifts};
-use record::cells::get;
-use record::cells::put;
+use adjacency::cells::get;
+use adjacency::cells::put;
 
 // 1 + the least number so far, and the bit of the way back, or 0 where it is not passed yet.
 pub struct Low {

@@ -6,15 +6,15 @@ ghost use lib.ListN.{length, getD, set, replicate};
 ghost use Rattle.bits.specs.Bits.{bits, pack};
 ghost use Rattle.bits.specs.Laws.Bytes.{AreBytes};
 ghost use Rattle.graph.specs.Graph.{Blocks, WellFormed};
-ghost use Rattle.record.specs.Arrays.{cut, Divided};
+ghost use Rattle.adjacency.specs.Arrays.{cut, Divided};
 ghost use Rattle.forest.specs.Index.{sectionB, markBytes};
 ghost use Rattle.forest.specs.Steps.{Room};
 ghost use Rattle.forest.specs.Lows.{Lifts};
 ghost use Rattle.forest.specs.Marks.{markAll, Below, BridgeStep};
 use super::clear::clear;
+use adjacency::cells::get;
 use bits::fields::clear_first;
 use bits::fields::set_bit;
-use record::cells::get;
 
 // E or P: the bits that a list has, a number for each vertex. A root's number is 0: that bit belongs to the first
 // vertex itself and is cleared in the end.

@@ -9,7 +9,7 @@ ghost use Rattle.forest.specs.Index.{numberBytes};
 ghost use Rattle.forest.specs.Numbered.{Visits};
 use super::Dfi;
 use super::clear::clear;
-use record::cells::get;
+use adjacency::cells::get;
 
 // The visit number of vertex v.
 fn visit(visits: &[u16], v: usize) -> Dfi

@@ -7,11 +7,11 @@ ghost use lib.Dec.{ltb};
 ghost use lib.ListN.{length};
 ghost use Rattle.graph.specs.Graph.{Blocks};
 ghost use Rattle.graph.specs.Search.{all, search as searchOf, countUp};
-ghost use Rattle.record.specs.Arrays.{cut, Arrays};
+ghost use Rattle.adjacency.specs.Arrays.{cut, Arrays};
 ghost use Rattle.forest.specs.Steps.{Room, Known, Underway, Searched};
 ghost use Rattle.forest.specs.Steps.{Begun, Entering, PassedTo, StartTried, NextTried, StepTaken};
-use record::cells::get;
-use record::cells::put;
+use adjacency::cells::get;
+use adjacency::cells::put;
 
 // 0 or 1 + the vertex at hand, and how many vertices are entered.
 pub struct Hand {

@@ -3,10 +3,10 @@ ghost use mathlib.Core.Path.{_≡_};
 ghost use Prim.Native.Nat.{_+_, _*_, _≤_, _<_};
 ghost use lib.ListN.{length};
 ghost use Rattle.loomlist.specs.Listing.{Sized};
+use adjacency::cells::get;
 use libc::STDERR_FILENO;
 use libc::STDOUT_FILENO;
 use record::Refusal;
-use record::cells::get;
 
 // One line, for a call with an argument.
 pub fn usage() {

@@ -12,10 +12,10 @@ use super::Found;
 use super::Related;
 use super::blocks::lone_parent;
 use super::marks::bridge_mark;
+use adjacency::cells::get;
 use bits::spans::Lone;
 use record::Refusal;
 use record::Vertex;
-use record::cells::get;
 
 // The marked position, and the parent that stands there.
 pub struct Rise {

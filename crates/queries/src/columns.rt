@@ -14,8 +14,8 @@ use super::climbs::Step;
 use super::climbs::step_up;
 use super::marks::bridge_mark;
 use super::marks::stored;
-use record::cells::get;
-use record::cells::put;
+use adjacency::cells::get;
+use adjacency::cells::put;
 use record::starts::fill_starts;
 
 // The visit numbers, from 1. The record stands here for the contract only.

@@ -1,5 +1,3 @@
 -- Laws that the answers of several functions share: what the code computes, in terms of the definitions.
 pub mod Reading
 pub mod Telling
-pub mod Arrays
-pub mod Counting

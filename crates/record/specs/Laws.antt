@@ -4,10 +4,8 @@ pub mod Told
 pub mod Settled
 pub mod Range
 pub mod Parts
-pub mod Rows
 pub mod Fields
 pub mod Layout
-pub mod Anywhere
 pub mod Sound
 pub mod Unary
 pub mod RoundTrip
@@ -16,7 +14,4 @@ pub mod Spans
 pub mod Unpacked
 pub mod OneBlock
 pub mod Raised
-pub mod InOrder
-pub mod Stores
-pub mod Zeros
 pub mod Lending

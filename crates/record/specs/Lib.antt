@@ -1,10 +1,7 @@
 -- Records: the definitions that the contracts cite, and the laws about them.
 pub mod Record
 pub mod Starts
-pub mod Arrays
 pub mod Rules
-pub mod Tally
-pub mod Reverse
 pub mod Answers
 pub mod Operations
 pub mod Laws

@@ -5,7 +5,7 @@ ghost use lib.ListN.{length, getD};
 ghost use Rattle.bits.specs.Bits.{bits as bitsOf};
 ghost use Rattle.record.specs.Record.{fieldsFrom, fields as fieldsOf};
 ghost use Rattle.record.specs.Steps.{Sound, Reading};
-use super::cells::put;
+use adjacency::cells::put;
 
 // Field p, from 0.
 pub fn field(bytes: &[u8], n: usize, m: usize, p: usize) -> usize

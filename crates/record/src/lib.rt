@@ -7,14 +7,10 @@ ghost use Rattle.record.specs.Operations.{check as checkOf, degree as de
 ghost use Rattle.record.specs.Operations.{neighbours as neighboursOf, neighboursBefore, PartOf, further};
 ghost use Rattle.record.specs.Operations.{loopFigure};
 
-pub mod cells; // cells.rt: cells of 16 bits
 pub mod header; // header.rt: the header, and order R
 pub mod range; // range.rt: rule 11
 pub mod starts; // starts.rt: where the blocks start
 pub mod fields; // fields.rt: the neighbour fields
-mod strays; // strays.rt: rule 6
-mod doubles; // doubles.rt: rule 7
-mod reverse; // reverse.rt: rules 6 to 8 at once
 mod blocks; // blocks.rt: one block
 mod rules; // rules.rt: rules 6 to 8
 pub mod arrays; // arrays.rt: the graph of a record in two arrays

@@ -3,14 +3,14 @@ ghost use mathlib.Core.Path.{_≡_};
 ghost use Prim.Native.Nat.{_+_};
 ghost use lib.ListN.{length};
 ghost use Rattle.graph.specs.Graph.{Blocks};
-ghost use Rattle.record.specs.Arrays.{cut, Divided};
+ghost use Rattle.adjacency.specs.Arrays.{cut, Divided};
 ghost use Rattle.record.specs.Answers.{verdict};
 ghost use Rattle.record.specs.Operations.{checkGraph};
 use super::Refusal;
 use super::Verdict;
-use super::doubles::some_doubled;
-use super::reverse::all_mutual;
-use super::strays::some_stray;
+use adjacency::doubles::some_doubled;
+use adjacency::reverse::all_mutual;
+use adjacency::strays::some_stray;
 
 // All at once; after a no, the first broken one. The last two slices are room: a number for each place, and for each terminal.
 pub fn try_rules(starts: &[u16], nbrs: &[u16], reverse: &mut [u16], next: &mut [u16]) -> Verdict

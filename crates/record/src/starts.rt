@@ -5,7 +5,7 @@ ghost use lib.ListN.{length, getD};
 ghost use Rattle.record.specs.Record.{unary};
 ghost use Rattle.record.specs.Starts.{startsOf};
 ghost use Rattle.record.specs.Steps.{Sound, Filling, Entering};
-use super::cells::put;
+use adjacency::cells::put;
 
 // The ones of w, the bits of D before place `end` that are still to be read: each enters the zeros before it as the
 // next start. Returns how many starts are entered. The record's bytes are here for the contract alone.

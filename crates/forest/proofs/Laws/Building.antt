@@ -12,7 +12,7 @@ use Rattle.graph.specs.Search.{forest}
 use Rattle.record.specs.Record.{terminals, wires, blocks}
 use Rattle.record.specs.Rules.{Rule, firstBroken, layoutRules, checkRules}
 use Rattle.record.specs.Answers.{refused, answered, tried}
-use Rattle.record.specs.Arrays.{cut, Arrays}
+use Rattle.adjacency.specs.Arrays.{cut, Arrays}
 use Rattle.record.specs.Operations.{otherLength, Accepted}
 use Rattle.record.specs.Steps.{Sound, ArraysOf}
 use Rattle.record.specs.Laws.First.{first-broken, first-kept, append-kept, append-broken, check-numbered}

@@ -15,9 +15,9 @@ use Rattle.record.specs.Record.{fieldBits}
 use Rattle.forest.specs.Index.{sectionE, sectionP, sectionB, numbers, indexBy, indexOf, markBytes, numberBytes, indexLength}
 use Rattle.forest.specs.Fronts.{forestOf, Ready, Begins, upToE, upToP, upToB}
 use Rattle.forest.specs.Laws.Bytes.{bytes-E, bytes-P, bytes-B}
-use Rattle.record.specs.Arrays.{cut, Divided, Arrays}
+use Rattle.adjacency.specs.Arrays.{cut, Divided, Arrays}
 use Rattle.forest.specs.Steps.{stride, Room}
-use Rattle.record.specs.Laws.Parts.{length-cut}
+use Rattle.adjacency.specs.Laws.Rows.{length-cut}
 use Rattle.forest.specs.Lows.{Lifting, Lifts}
 use Rattle.forest.specs.Laws.Starts.{places-cut}
 use Rattle.forest.specs.Marks.{markAll, Below}

@@ -21,7 +21,7 @@ use Rattle.graph.specs.Laws.Tree.Climbs.{child-entry}
 use Rattle.graph.specs.Laws.Joined.Spanning.{forest-length}
 use Rattle.graph.specs.Laws.Bridges.Lowpoints.{Lows}
 use Rattle.graph.specs.Laws.Bridges.Sweep.{Least, sweep-begin, sweep-root, sweep-child}
-use Rattle.record.specs.Laws.Stores.{cell-same, cell-other}
+use Rattle.adjacency.specs.Laws.Stores.{cell-same, cell-other}
 use Rattle.forest.specs.Steps.{Room, Searched}
 use Rattle.forest.specs.Lows.{LowAt, OwnLow, Lifting, Searches, Lifts, Lowers, LiftsOne}
 

@@ -18,9 +18,9 @@ use Rattle.graph.specs.Laws.Places.Pairing.{place-at, both-ends}
 use Rattle.graph.specs.Laws.Joined.Spanning.{Spanning}
 use Rattle.graph.specs.Laws.Edges.Marks.{Back, back-parent, back-once, first-back}
 use Rattle.graph.specs.Laws.Bridges.Sweep.{least-begin, least-pass, least-take}
-use Rattle.record.specs.Arrays.{cut, Arrays}
-use Rattle.record.specs.Laws.Parts.{length-cut}
-use Rattle.record.specs.Laws.Rows.{starts-fit, row-size, row-neighbour}
+use Rattle.adjacency.specs.Arrays.{cut, Arrays}
+use Rattle.adjacency.specs.Laws.Rows.{length-cut}
+use Rattle.adjacency.specs.Laws.Rows.{starts-fit, row-size, row-neighbour}
 use Rattle.forest.specs.Steps.{Room, Known, Searched}
 use Rattle.forest.specs.Lows.{Passed, unmet, met, LowStep, way-back, counts, LowAt, OwnLow}
 use Rattle.forest.specs.Laws.Sections.{blockStart}

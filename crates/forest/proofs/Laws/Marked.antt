@@ -27,8 +27,8 @@ use Rattle.graph.specs.Graph.{Blocks, block}
 use Rattle.graph.specs.Search.{PlaceTest}
 use Rattle.graph.specs.Laws.Places.Basics.{same-outcome, or-cases, or-left, or-right, and-parts, and-both, clash}
 use Rattle.graph.specs.Laws.Places.Pairing.{place-at, source}
-use Rattle.record.specs.Arrays.{cut, Divided}
-use Rattle.record.specs.Laws.Parts.{length-cut}
+use Rattle.adjacency.specs.Arrays.{cut, Divided}
+use Rattle.adjacency.specs.Laws.Rows.{length-cut}
 use Rattle.forest.specs.Index.{section, markBytes}
 use Rattle.forest.specs.Marks.{upTo, marked}
 use Rattle.forest.specs.Laws.Sections.{placeBit, start-more, start-most, length-section, section-same}

@@ -14,7 +14,7 @@ use Rattle.graph.specs.Graph.{Blocks, block, Place}
 use Rattle.graph.specs.Search.{all, search}
 use Rattle.graph.specs.Laws.Loop.Invariant.{Loop, loop-room, loop-vertex, loop-visited, loop-pass-start}
 use Rattle.graph.specs.Laws.Loop.Invariant.{loop-enter-start, Visited, loop-leave, loop-enter-at}
-use Rattle.record.specs.Arrays.{cut, Arrays}
+use Rattle.adjacency.specs.Arrays.{cut, Arrays}
 use Rattle.forest.specs.Laws.Starts.{start-cut}
 use Rattle.forest.specs.Steps.{downBit, cellsOf, Searching, Entering, PassedTo}
 use Rattle.forest.proofs.Laws.Graphs.{as-many, in-range, row-end, row-place, place-row}

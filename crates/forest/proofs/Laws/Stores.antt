@@ -11,7 +11,7 @@ use borrow.Author.Tests.{eq-eqb, ne-eqb}
 use lib.Dec.{eqb}
 use lib.ListN.{length, getD, set, length-set}
 use Rattle.graph.specs.Laws.Bridges.Stores.{Stored, Agree}
-use Rattle.record.specs.Laws.Stores.{cell-same, cell-other}
+use Rattle.adjacency.specs.Laws.Stores.{cell-same, cell-other}
 
 pub record Put (w w′ : List ℕ) (a x : ℕ) : Type 0 where
   pub is : w′ ≡ set w a x

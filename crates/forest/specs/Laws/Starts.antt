@@ -7,9 +7,9 @@ use native.Mathlib.Omega.{arith}
 use lib.ListN.{length, getD, take}
 use lib.Seq.{take-all}
 use Rattle.graph.specs.Graph.{Blocks}
-use Rattle.record.specs.Arrays.{cut, Divided}
-use Rattle.record.specs.Laws.Parts.{length-cut}
-use Rattle.record.specs.Laws.Rows.{row-size}
+use Rattle.adjacency.specs.Arrays.{cut, Divided}
+use Rattle.adjacency.specs.Laws.Rows.{length-cut}
+use Rattle.adjacency.specs.Laws.Rows.{row-size}
 use Rattle.record.specs.Record.{unary, blocks}
 use Rattle.record.specs.Starts.{startsOf}
 use Rattle.record.specs.Steps.{Sound}

@@ -3,7 +3,7 @@ use Prim.Native.Nat.{_*_}
 use mathlib.Core.Path.{sym}
 use native.Mathlib.Omega.{arith}
 use borrow.Author.Needs.{needs}
-use Rattle.record.specs.Laws.Stores.{part-zeros}
+use Rattle.adjacency.specs.Laws.Stores.{part-zeros}
 use Rattle.loomlist.proofs.with_room.Statement.{statement}
 use Rattle.loomlist.proofs.with_room.Tie as tie
 

@@ -19,7 +19,7 @@ use Rattle.record.specs.Record.{unary, blocks, terminals}
 use Rattle.record.specs.Answers.{Answer, answered}
 use Rattle.forest.specs.Index.{indexOf}
 use Rattle.record.specs.Starts.{startsOf}
-use Rattle.record.specs.Laws.Stores.{cell-same, cell-other}
+use Rattle.adjacency.specs.Laws.Stores.{cell-same, cell-other}
 use Rattle.queries.specs.View.{viewBy, sectionOf, numberOf, blockMarks}
 use Rattle.queries.specs.Queries.{Step, stuck, top, rise, stepUp, parentBy, parentOf, headBy}
 use Rattle.queries.specs.Answers.{orZero, unlessZero}

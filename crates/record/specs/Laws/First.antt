@@ -1,6 +1,6 @@
 -- The first broken rule of a list, and what is known of a record that breaks none.
 use mathlib.Core.Path.{_≡_, refl, _∙_}
-use mathlib.Core.Bool.{Bool, true, false, not, _||_}
+use mathlib.Core.Bool.{Bool, true, false, not}
 use mathlib.Core.List.{List, [], _∷_, _++_}
 use Prim.Native.Nat.{ℕ, suc, _≤_}
 use native.Mathlib.Omega.{arith}
@@ -8,11 +8,12 @@ use borrow.Author.Tests.{ltb-false, eqb-true, not-false}
 use lib.Dec.{eqb, ltb}
 use lib.ListN.{length}
 use Rattle.bits.specs.Bits.{count}
-use Rattle.graph.specs.Laws.Places.Basics.{clash}
+use Rattle.adjacency.specs.Places.{anyPlace, stray, doubled, oneSided}
 use Rattle.record.specs.Record.{terminals, wires, recordLength, unary, blocks}
-use Rattle.record.specs.Rules.{Rule, firstBroken, beginsWithZero, orderR, anyPlace, spareSet, stray, doubled, oneSided}
+use Rattle.record.specs.Rules.{Rule, firstBroken, beginsWithZero, orderR, spareSet}
 use Rattle.record.specs.Rules.{placeRules, layoutRules, checkRules}
 use Rattle.record.specs.Operations.{Accepted}
+use Rattle.adjacency.specs.Laws.Anywhere.{neither}
 
 -- ---- one rule and the rest
 
@@ -84,11 +85,6 @@ pub record Shaped (bytes : List ℕ) : Type 0 where
   pub sized : length bytes ≡ recordLength (terminals bytes) (wires bytes)
   pub ones : count (unary bytes) ≡ terminals bytes
   pub begins : beginsWithZero (unary bytes) ≡ false
-
--- neither of two tests passes
-pub neither : (a b : Bool) → (a || b) ≡ false → (a ≡ false) × (b ≡ false)
-neither true b e = absurd (clash refl e)
-neither false b e = (refl, e)
 
 module _ (bytes : List ℕ) where
   pub order-numbered : Numbered (orderR bytes)

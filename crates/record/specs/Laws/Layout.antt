@@ -14,7 +14,7 @@ use Rattle.bits.specs.Laws.Rank.{held}
 use Rattle.graph.specs.Graph.{block}
 use Rattle.record.specs.Record.{terminals, wires, usedBits, recordLength, unary, fields, blocks}
 use Rattle.record.specs.Starts.{startsOf}
-use Rattle.record.specs.Arrays.{cut}
+use Rattle.adjacency.specs.Arrays.{cut}
 use Rattle.record.specs.Laws.First.{Shaped}
 use Rattle.record.specs.Laws.Fields.{length-fieldsFrom, fieldsFrom-at}
 use Rattle.record.specs.Laws.Parts.{length-starts, length-parts, start-last, cut-parts, length-block}

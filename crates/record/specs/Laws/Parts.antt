@@ -8,8 +8,6 @@
 --   start-last     the same of D's starts
 --   start-select   a start, by the place of its one in D
 --   start-next     the next start, by the place of the next one in D
---   length-cut     a part for each start but the last
---   cut-block      the part between a start and the next
 --   zeros-none     no zero stands before the first one
 --   start-first    so the first start is 0
 --   cut-parts      the parts by D are those between its starts
@@ -33,7 +31,8 @@ use Rattle.graph.specs.Laws.Places.Basics.{clash}
 use Rattle.record.specs.Record.{zeros, parts}
 use Rattle.record.specs.Rules.{beginsWithZero}
 use Rattle.record.specs.Starts.{startsFrom, startsOf}
-use Rattle.record.specs.Arrays.{cut}
+use Rattle.adjacency.specs.Arrays.{cut}
+use Rattle.adjacency.specs.Laws.Rows.{cut-block}
 
 -- ---- how many
 
@@ -122,24 +121,6 @@ start-next d u h = go (decLt (u + 1) (count d))
         let f : nextOne d (u + 1) ≡ length d = rw (le-ltb (u + 1) (count d) (omega arith), nextOne) in
         let g = ap (λ (k : ℕ). getD (startsOf d) k 0) e in
         omega (arith, start-last d)
-
--- ---- the parts between the starts
-
-pub length-cut : (starts l : List ℕ) → length (cut starts l) ≡ length starts - 1
-unfolding cut
-length-cut [] l = refl
-length-cut (a ∷ []) l = refl
-length-cut (a ∷ b ∷ starts) l = let e = length-cut (b ∷ starts) l in omega arith
-
-pub cut-block : (starts l : List ℕ) (u : ℕ) → u + 1 < length starts
-    → block (cut starts l) u ≡ take (getD starts (u + 1) 0 - getD starts u 0) (drop (getD starts u 0) l)
-unfolding cut
-cut-block [] l u h = absurd (omega arith)
-cut-block (a ∷ []) l u h = absurd (omega arith)
-cut-block (a ∷ b ∷ starts) l zero h = refl
-cut-block (a ∷ b ∷ starts) l (suc u) h =
-    let e : suc u + 1 ≡ suc (u + 1) = omega arith in
-    rw e (cut-block (b ∷ starts) l u (omega arith))
 
 -- ---- the parts by D and by its starts
 

@@ -7,8 +7,8 @@ use native.Mathlib.Omega.{arith}
 use borrow.Author.Tests.{eq-eqb, ne-eqb, le-ltb, ltb-false}
 use lib.Dec.{eqb, ltb}
 use Rattle.graph.specs.Laws.Places.Basics.{clash}
+use Rattle.adjacency.specs.Laws.Anywhere.{neither}
 use Rattle.record.specs.Operations.{outOfRange}
-use Rattle.record.specs.Laws.First.{neither}
 
 -- the two tests of the range
 pub zero-outside : (n k : ℕ) → k ≡ 0 → true ≡ outOfRange n k

@@ -23,7 +23,8 @@ use Rattle.record.specs.Operations.{Accepted}
 use Rattle.record.specs.Laws.First.{Shaped, checked}
 use Rattle.record.specs.Laws.Fields.{length-fieldBits, fieldBits-from, from-fieldBits}
 use Rattle.record.specs.Laws.Layout.{length-fields, used-held, unary-is, unary-whole, length-blocks}
-use Rattle.record.specs.Laws.Unary.{length-unaryOf, count-unaryOf, begins-unaryOf, flatten-below, parts-unaryOf, unaryOf-parts, flatten-parts}
+use Rattle.adjacency.specs.Laws.Known.{flatten-below}
+use Rattle.record.specs.Laws.Unary.{length-unaryOf, count-unaryOf, begins-unaryOf, parts-unaryOf, unaryOf-parts, flatten-parts}
 
 -- the number of used bits
 abbrev used : List ℕ → ℕ

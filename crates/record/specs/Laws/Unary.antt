@@ -2,14 +2,13 @@
 use mathlib.Core.Path.{_≡_, refl, ap, _∙_}
 use mathlib.Core.Bool.{Bool, true, false}
 use mathlib.Core.List.{List, [], _∷_, _++_, flatten}
-use Prim.Native.Nat.{ℕ, zero, suc, _+_, _-_, _≤_, _<_}
-use native.Mathlib.Decide.{decLt}
+use Prim.Native.Nat.{ℕ, zero, suc, _+_, _-_, _≤_}
 use native.Mathlib.Omega.{arith}
-use lib.ListN.{length, take, drop, getD, replicate, length-append, length-replicate, length-drop, take-append-drop, List·getD-append}
-use lib.Seq.{take-at, drop-at, length-take-le, getD-append-add}
+use lib.ListN.{length, take, drop, replicate, length-append, length-replicate, length-drop, take-append-drop}
+use lib.Seq.{take-at, drop-at, length-take-le}
 use Rattle.bits.specs.Bits.{count}
 use Rattle.bits.specs.Laws.Rank.{count-append, count-le}
-use Rattle.graph.specs.Graph.{Blocks, Place}
+use Rattle.graph.specs.Graph.{Blocks}
 use Rattle.record.specs.Record.{zeros, parts, layOut, unaryOf}
 use Rattle.record.specs.Rules.{beginsWithZero}
 use Rattle.record.specs.Laws.Parts.{zeros-none}
@@ -95,19 +94,3 @@ module _ (d : List Bool) (l : List ℕ) (begins : beginsWithZero d ≡ false) (w
 
   pub flatten-parts : flatten (parts d l) ≡ l
   flatten-parts = again .same-list
-
--- ---- the blocks' numbers in one list
-
-pub flatten-below : {k : ℕ} (g : Blocks) → 0 < k → ((u j v : ℕ) → Place g u j v → v < k) → (p : ℕ) → getD (flatten g) p 0 < k
-unfolding flatten
-flatten-below [] some h p = some
-flatten-below {k} (b ∷ g) some h p =
-    go (decLt p (length b)) (flatten-below g some (λ u j v q. h (suc u) j v (record { fits = q .fits; leads = q .leads })) (p - length b))
-  where
-    go : Dec (p < length b) → getD (flatten g) (p - length b) 0 < k → getD (b ++ flatten g) p 0 < k
-    go (yes l) r = rw (List·getD-append b (flatten g) 0 p l) (h 0 p (getD b p 0) (record { fits = l; leads = refl }))
-    go (no l) r =
-        let e : p ≡ length b + (p - length b) = omega arith in
-        let f : getD (b ++ flatten g) p 0 ≡ getD (flatten g) (p - length b) 0 =
-        ap (λ (i : ℕ). getD (b ++ flatten g) i 0) e ∙ getD-append-add b (flatten g) (p - length b) 0 in
-        rw f r

@@ -3,31 +3,27 @@
 --   graph-of     the graph of the arrays is the record's
 --   divided-of   the starts divide the row
 --   starts-of    there are n + 1 starts, and 2·m neighbours (nbrs-of)
---   arrays-kept  where no neighbour is stray, each is a vertex; so in an accepted record (arrays-of)
+--   arrays-of    in an accepted record each neighbour is a vertex
 --   check-left   once order R and rule 5 let a record pass, Check tries rules 6 to 8, of the arrays' graph (check-told)
 use mathlib.Core.Path.{_≡_, sym, ap, ap₂, _∙_}
-use mathlib.Core.Bool.{false}
-use mathlib.Core.List.{List, [], _∷_, flatten}
-use Prim.Native.Nat.{ℕ, _+_, _-_, _*_, _<_}
+use mathlib.Core.List.{List, []}
+use Prim.Native.Nat.{ℕ, _+_, _-_, _*_}
 use native.Mathlib.Omega.{arith}
-use borrow.Author.Tests.{leb-false}
-use lib.Dec.{leb, eqb}
 use lib.ListN.{length, getD}
 use Rattle.bits.specs.Bits.{bits}
 use Rattle.graph.specs.Graph.{Blocks}
 use Rattle.record.specs.Record.{terminals, unary, fieldsFrom, fields, blocks}
 use Rattle.record.specs.Starts.{startsOf}
-use Rattle.record.specs.Arrays.{cut, Divided, Arrays}
-use Rattle.record.specs.Rules.{firstBroken, anyPlace, stray, layoutRules, placeRules, checkRules}
+use Rattle.adjacency.specs.Arrays.{cut, Divided, Arrays}
+use Rattle.record.specs.Rules.{firstBroken, layoutRules, placeRules, checkRules}
+use Rattle.adjacency.specs.Places.{anyPlace, stray}
+use Rattle.adjacency.specs.Laws.Known.{arrays-kept}
 use Rattle.record.specs.Answers.{Answer, outcome}
 use Rattle.record.specs.Operations.{Accepted, checkGraph, check}
 use Rattle.record.specs.Steps.{Sound, Laid, ArraysOf}
-use Rattle.record.specs.Laws.First.{append-kept, order-numbered, layout-numbered, first-kept, neither, checked}
-use Rattle.record.specs.Laws.Parts.{start-first, starts-rise, length-cut}
+use Rattle.record.specs.Laws.First.{append-kept, order-numbered, layout-numbered, first-kept, checked}
+use Rattle.record.specs.Laws.Parts.{start-first, starts-rise}
 use Rattle.record.specs.Laws.Layout.{length-fields, blocks-cut, starts-count, starts-end}
-use Rattle.record.specs.Laws.Anywhere.{nowhere}
-use Rattle.record.specs.Laws.Unary.{flatten-below}
-use Rattle.record.specs.Laws.Rows.{flatten-cut}
 use Rattle.record.specs.Laws.Sounded.{sound-shaped}
 
 -- ---- the arrays
@@ -72,34 +68,7 @@ module _ {bytes starts nbrs : List ℕ} {n m : ℕ} (r : ArraysOf bytes starts n
         few-places = omega arith;
       })
 
--- ---- no stray neighbour
-
-not-stray : (g : Blocks) (u v : ℕ) → stray g u v ≡ false → v < length g
-unfolding stray
-not-stray g u v e = leb-false (length g) v (neither (leb (length g) v) (eqb v u) e .0)
-
--- each neighbour is a vertex
-all-known : (g : Blocks) → anyPlace (stray g) g ≡ false → (p : ℕ) → p < length (flatten g) → getD (flatten g) p 0 < length g
-unfolding flatten
-all-known [] e p h = absurd (omega arith)
-all-known (b ∷ g) e p h =
-    flatten-below (b ∷ g) (omega arith) (λ u j v q. not-stray (b ∷ g) u v (nowhere (stray (b ∷ g)) (b ∷ g) .0 e u j v q)) p
-
--- a graph in two arrays without a stray neighbour
-pub arrays-kept : {starts nbrs : List ℕ} → Divided starts nbrs → anyPlace (stray (cut starts nbrs)) (cut starts nbrs) ≡ false
-    → Arrays starts nbrs
-arrays-kept {starts} {nbrs} d e = record {
-  divided = d;
-  known = λ p h. (
-      let f = flatten-cut d in
-      let l = length-cut starts nbrs in
-      let s = d .some in
-      let a = ap length f in
-      let b = ap (λ (x : List ℕ). getD x p 0) f in
-      let k = all-known (cut starts nbrs) e p (omega arith) in
-      omega arith
-      );
-}
+-- ---- an accepted record
 
 pub arrays-of : {bytes starts nbrs : List ℕ} {n m : ℕ} → ArraysOf bytes starts nbrs n m → Accepted bytes → Arrays starts nbrs
 arrays-of {bytes} r a =

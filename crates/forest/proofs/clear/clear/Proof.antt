@@ -2,7 +2,7 @@
 use Prim.Native.Nat.{_-_}
 use native.Mathlib.Omega.{arith}
 use lib.ListN.{length, length-set}
-use Rattle.record.specs.Laws.Zeros.{Zeroed, zeroed-start, zeroed-more, zeroed-end}
+use Rattle.adjacency.specs.Laws.Zeros.{Zeroed, zeroed-start, zeroed-more, zeroed-end}
 use Rattle.forest.proofs.clear.clear.Statement.{statement}
 use Rattle.forest.proofs.clear.clear.Tie as tie
 

@@ -1,7 +1,7 @@
 -- `lows::lowpoints` meets its contract: the vertices of visit number k and more are lifted.
 use mathlib.Core.Path.{_∙_}
 use native.Mathlib.Omega.{arith}
-use Rattle.record.specs.Arrays.{cut}
+use Rattle.adjacency.specs.Arrays.{cut}
 use Rattle.forest.proofs.Laws.Lowest.{vertices}
 use Rattle.forest.proofs.Laws.Lifted.{Swept, swept-begin, swept-asks, swept-more, swept-end}
 use Rattle.forest.proofs.lows.lowpoints.Statement.{statement}

@@ -3,7 +3,7 @@ use Prim.Native.Nat.{_+_, _-_, _*_, _<_}
 use mathlib.Core.Path.{ap}
 use native.Mathlib.Omega.{arith}
 use lib.ListN.{length, length-set}
-use Rattle.record.specs.Arrays.{cut}
+use Rattle.adjacency.specs.Arrays.{cut}
 use Rattle.forest.proofs.Laws.Lowest.{vertices}
 use Rattle.forest.proofs.Laws.Lifted.{Filled, filled-begin, filled-room, filled-cells, filled-more, filled-end}
 use Rattle.forest.proofs.lows.own_lows.Statement.{statement}

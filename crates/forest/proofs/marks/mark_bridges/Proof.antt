@@ -4,7 +4,7 @@ use mathlib.Core.Path.{_≡_, ap, _∙_}
 use native.Mathlib.Omega.{arith}
 use borrow.Author.Needs.{needs}
 use lib.ListN.{length, length-replicate}
-use Rattle.record.specs.Arrays.{cut}
+use Rattle.adjacency.specs.Arrays.{cut}
 use Rattle.forest.proofs.Laws.Marked.{Sized, sized-cut}
 use Rattle.forest.proofs.Laws.Bridged.{Bridging, bridging-begin, bridging-asks, bridging-more, bridging-end}
 use Rattle.forest.proofs.marks.mark_bridges.Statement.{statement}

@@ -5,7 +5,7 @@ use native.Mathlib.Omega.{arith}
 use borrow.Author.Needs.{needs}
 use lib.ListN.{length}
 use Rattle.graph.specs.Search.{countUp}
-use Rattle.record.specs.Arrays.{cut}
+use Rattle.adjacency.specs.Arrays.{cut}
 use Rattle.forest.proofs.Laws.Begins.{From, searching-busy, search-begun, search-ended}
 use Rattle.forest.proofs.search.search.Statement.{statement}
 use Rattle.forest.proofs.search.search.Tie as tie

@@ -4,7 +4,7 @@ use mathlib.Core.Path.{ap, _∙_}
 use native.Mathlib.Omega.{arith}
 use borrow.Author.Needs.{needs}
 use lib.ListN.{length, length-set}
-use Rattle.record.specs.Laws.Rows.{starts-fit}
+use Rattle.adjacency.specs.Laws.Rows.{starts-fit}
 use Rattle.forest.proofs.Laws.Graphs.{as-many, known}
 use Rattle.forest.proofs.Laws.Tied.{room-after}
 use Rattle.forest.proofs.Laws.Stepping.{new-room, hand-vertex, next-new, next-left, next-entered}

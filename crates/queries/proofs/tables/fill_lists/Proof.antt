@@ -3,7 +3,7 @@ use Prim.Native.Nat.{_+_, _≤_}
 use mathlib.Core.Path.{sym}
 use native.Mathlib.Omega.{arith}
 use borrow.Author.Needs.{needs}
-use Rattle.record.specs.Laws.Stores.{part-zeros}
+use Rattle.adjacency.specs.Laws.Stores.{part-zeros}
 use Rattle.queries.specs.Laws.Ready.{ready-beside}
 use Rattle.queries.proofs.tables.fill_lists.Statement.{statement}
 use Rattle.queries.proofs.tables.fill_lists.Tie as tie

@@ -3,7 +3,7 @@ use mathlib.Core.Path.{sym, _∙_}
 use Prim.Native.Nat.{_≤_}
 use native.Mathlib.Omega.{arith}
 use borrow.Author.Needs.{needs}
-use Rattle.record.specs.Laws.Stores.{part-zeros}
+use Rattle.adjacency.specs.Laws.Stores.{part-zeros}
 use Rattle.queries.proofs.Laws.Rooms.{index-short}
 use Rattle.queries.proofs.tables.table_in.Statement.{statement}
 use Rattle.queries.proofs.tables.table_in.Tie as tie

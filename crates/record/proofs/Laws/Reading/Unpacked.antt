@@ -10,7 +10,7 @@ use Rattle.bits.specs.Steps.{FourAt}
 use Rattle.record.specs.Record.{fieldsFrom}
 use Rattle.record.specs.Steps.{Reading}
 use Rattle.record.specs.Laws.Fields.{length-fieldsFrom, fieldsFrom-at}
-use Rattle.record.specs.Laws.InOrder.{InOrder, order-more, order-end}
+use Rattle.adjacency.specs.Laws.InOrder.{InOrder, order-more, order-end}
 
 module _ (s : List Bool) (start k : ℕ) where
   in-reading : {list : List ℕ} {i : ℕ} → InOrder (fieldsFrom s start k) list i → Reading s start k list i

@@ -4,7 +4,7 @@ use mathlib.Core.Path.{_≡_}
 use mathlib.Core.List.{List}
 use Prim.Native.Nat.{ℕ, _+_}
 use lib.ListN.{length}
-use Rattle.record.specs.Arrays.{Divided}
+use Rattle.adjacency.specs.Arrays.{Divided}
 use Rattle.record.specs.Steps.{ArraysOf, Lent}
 use Rattle.record.specs.Laws.Unpacked.{divided-of, starts-of, nbrs-of, check-told}
 use borrow.Author.Needs.{needs}

@@ -5,8 +5,8 @@ use Prim.Native.Nat.{suc, _+_, _-_}
 use native.Mathlib.Numerals.{add-one}
 use native.Mathlib.Omega.{arith}
 use borrow.Author.Needs.{needs}
-use lib.ListN.{length, getD, length-map, length-set}
-use Rattle.record.specs.Laws.InOrder.{InOrder, order-start, order-more, order-end}
+use lib.ListN.{length, getD, length-map}
+use Rattle.adjacency.specs.Laws.InOrder.{InOrder, order-start, order-more, order-end}
 use Rattle.record.specs.Laws.Raised.{raised-at}
 use Rattle.record.proofs.rooms.hand_on.Statement.{statement}
 use Rattle.record.proofs.rooms.hand_on.Tie as tie

@@ -1,9 +1,9 @@
 -- `rules::try_rules` meets its contract: a rule is broken where the quick test says no, and rule 8 where it is neither of the first two.
 use mathlib.Core.Path.{sym, _∙_}
 use native.Mathlib.Omega.{arith}
-use Rattle.record.specs.Laws.Unpacked.{arrays-kept}
-use Rattle.record.proofs.Laws.Counting.Tests.{told-yes, told-no}
-use Rattle.record.proofs.Laws.Counting.InTurn.{turn-6, turn-7, turn-8, kept-told}
+use Rattle.adjacency.specs.Laws.Known.{arrays-kept}
+use Rattle.adjacency.specs.Laws.Tells.{told-yes, told-no}
+use Rattle.record.proofs.Laws.Telling.InTurn.{turn-6, turn-7, turn-8, kept-told}
 use borrow.Author.Needs.{needs}
 use Rattle.record.proofs.rules.try_rules.Statement.{statement}
 use Rattle.record.proofs.rules.try_rules.Tie as tie

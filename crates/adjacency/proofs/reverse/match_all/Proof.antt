@@ -1,0 +1,77 @@
+-- `reverse::match_all` meets its contract: the parts passed are found again.
+use mathlib.Core.Path.{refl}
+use borrow.Author.Tests.{not-false, not-true}
+use Prim.Native.Nat.{_-_}
+use native.Mathlib.Omega.{arith}
+use Rattle.adjacency.specs.Reverse.{Matching}
+use Rattle.adjacency.specs.Tally.{yea, nay}
+use Rattle.adjacency.proofs.Laws.Loops.{Round, round-start, round-inside, round-more}
+use Rattle.adjacency.specs.Laws.Tells.{told-yes, told-no}
+use Rattle.adjacency.proofs.Laws.Matched.{matching-start, matching-end}
+use Rattle.adjacency.proofs.reverse.match_all.Statement.{statement}
+use Rattle.adjacency.proofs.reverse.match_all.Tie as tie
+
+abbrev Inv-loop : tie.InvT-loop
+Inv-loop starts reverse next₀ n u₀ next u = (Matching starts reverse next u) × (Round starts n u)
+
+abbrev μ-loop : tie.MeasureT-loop
+μ-loop starts reverse next₀ n u₀ next u = n - u
+
+sub-n : tie.Need-sub-n Inv-loop μ-loop
+sub-n c = let s = c .before .before .before .pre .0 .some in omega arith
+
+loop-holds : tie.Need-loop-holds Inv-loop μ-loop
+loop-holds c =
+    let pre = c .before .before .before .pre in
+    (matching-start (pre .0) (pre .1), round-start (pre .0 .some) refl refl)
+
+match-block-requires : tie.Need-match-block-requires Inv-loop μ-loop
+match-block-requires c κs =
+    let at-test = c .before in
+    let inv = at-test .before .loop .inv in
+    (inv .0, round-inside (inv .1) (at-test .loop-test .taken))
+
+same-length : tie.Need-same-length Inv-loop μ-loop
+same-length c = omega arith
+
+returns : tie.Need-returns Inv-loop μ-loop
+returns c = nay (told-no (c .before .before .before .match-block .ensures) (not-true _ (c .if1 .taken)))
+
+add-u : tie.Need-add-u Inv-loop μ-loop
+add-u c = omega arith
+
+loop-less : tie.Need-loop-less Inv-loop μ-loop
+loop-less c = omega arith
+
+loop-again : tie.Need-loop-again Inv-loop μ-loop
+loop-again c =
+    let at-match = c .before .before .before in
+    let at-test = at-match .before .before in (
+      told-yes (at-match .match-block .ensures) (not-false _ (c .if1 .left)),
+      round-more (at-test .before .loop .inv .1) (at-test .loop-test .taken),
+    )
+
+same-length-2 : tie.Need-same-length-2 Inv-loop μ-loop
+same-length-2 c = omega arith
+
+returns-2 : tie.Need-returns-2 Inv-loop μ-loop
+returns-2 c =
+    let inv = c .before .loop .inv in
+    yea (matching-end (inv .0) (inv .1) (c .loop-test .left))
+
+pub match-all-spec : {M : Type 1} → statement M
+match-all-spec =
+    tie.close
+    (tie.spec
+    Inv-loop
+    μ-loop
+    sub-n
+    loop-holds
+    match-block-requires
+    same-length
+    returns
+    add-u
+    loop-less
+    loop-again
+    same-length-2
+    returns-2)

@@ -1,0 +1,32 @@
+-- Tests at the places of a graph, and the three that document 01's rules 6 to 8 ask for.
+use mathlib.Core.Bool.{Bool, false, not, _||_}
+use mathlib.Core.List.{List, [], _∷_}
+use Prim.Native.Nat.{ℕ, suc}
+use lib.Dec.{eqb, leb, ltb}
+use lib.ListN.{length}
+use Rattle.graph.specs.Graph.{Blocks, block, mentions}
+
+-- a test holds for some neighbour of a block
+unfoldable pub anyIn : (ℕ → Bool) → List ℕ → Bool
+anyIn test [] = false
+anyIn test (v ∷ l) = test v || anyIn test l
+
+-- a test of a terminal u and a neighbour v holds at some place of the blocks; the first block is terminal u's
+unfoldable pub anyFrom : (ℕ → ℕ → Bool) → ℕ → Blocks → Bool
+anyFrom test u [] = false
+anyFrom test u (b ∷ g) = anyIn (test u) b || anyFrom test (suc u) g
+
+abbrev pub anyPlace : (ℕ → ℕ → Bool) → Blocks → Bool
+anyPlace test g = anyFrom test 0 g
+
+-- a neighbour that is no terminal, or the terminal itself
+unfoldable pub stray : Blocks → ℕ → ℕ → Bool
+stray g u v = leb (length g) v || eqb v u
+
+-- a neighbour that stands twice in one block
+unfoldable pub doubled : Blocks → ℕ → ℕ → Bool
+doubled g u v = ltb 1 (mentions v (block g u))
+
+-- a wire listed at one end only: the two ends mention each other a different number of times. Where rule 7 is kept, each count is 0 or 1
+unfoldable pub oneSided : Blocks → ℕ → ℕ → Bool
+oneSided g u v = not (eqb (mentions v (block g u)) (mentions u (block g v)))
