@@ -1,4 +1,5 @@
--- Laws that the answers of several functions share: what a loop over the places has passed, and what the rules' tests then tell.
+-- Laws that the answers of several functions share: what a loop over the places has passed, and what the rules' tests
+-- then tell.
 pub mod Mentions
 pub mod Parts
 pub mod Counts

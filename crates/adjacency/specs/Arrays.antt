@@ -1,4 +1,5 @@
--- A graph in two arrays: where the block of each vertex starts, and the neighbours of all blocks in a row. A place is a position in that row.
+-- A graph in two arrays: where the block of each vertex starts, and the neighbours of all blocks in a row. A place is a
+-- position in that row.
 --   cut starts nbrs      the graph that the two arrays hold: the parts of the row between one start and the next
 --   Divided starts nbrs  the starts rise from 0 to the end of the row
 --   Arrays starts nbrs   and each neighbour is a vertex

@@ -27,6 +27,7 @@ stray g u v = leb (length g) v || eqb v u
 unfoldable pub doubled : Blocks → ℕ → ℕ → Bool
 doubled g u v = ltb 1 (mentions v (block g u))
 
--- a wire listed at one end only: the two ends mention each other a different number of times. Where rule 7 is kept, each count is 0 or 1
+-- a wire listed at one end only: the two ends mention each other a different number of times. Where rule 7 is kept,
+-- each count is 0 or 1
 unfoldable pub oneSided : Blocks → ℕ → ℕ → Bool
 oneSided g u v = not (eqb (mentions v (block g u)) (mentions u (block g v)))

@@ -1,4 +1,5 @@
--- The blocks turned round: a second row, cut by the same starts, whose part v lists the terminals whose blocks have v, in order.
+-- The blocks turned round: a second row, cut by the same starts, whose part v lists the terminals whose blocks have v,
+-- in order.
 use Prim.Native.Nat.{ℕ, _+_, _≤_, _<_}
 use mathlib.Core.Path.{_≡_}
 use mathlib.Core.Bool.{false}
@@ -8,15 +9,19 @@ use Rattle.graph.specs.Graph.{Blocks, block, mentions}
 use Rattle.adjacency.specs.Arrays.{cut, Divided, Holds, upTo}
 use Rattle.adjacency.specs.Places.{anyPlace, stray, doubled, oneSided}
 
--- `next` has for each terminal the place of its part that comes next: part v up to there has w as often as w's block up to place p has v
+-- `next` has for each terminal the place of its part that comes next: part v up to there has w as often as w's block up
+-- to place p has v
 pub record Turned (starts nbrs reverse next : List ℕ) (p : ℕ) : Type 0 where
   pub divided : Divided starts nbrs
   pub size : length reverse ≡ length nbrs
   pub cells : length next + 1 ≡ length starts
-  pub near : (v : ℕ) → v + 1 < length starts → (getD starts v 0 ≤ getD next v 0) × (getD next v 0 ≤ getD starts (v + 1) 0)
-  pub same : (v w : ℕ) → v + 1 < length starts → mentions w (upTo starts reverse v (getD next v 0)) ≡ mentions v (upTo starts nbrs w p)
+  pub near : (v : ℕ) → v + 1 < length starts
+      → (getD starts v 0 ≤ getD next v 0) × (getD next v 0 ≤ getD starts (v + 1) 0)
+  pub same : (v w : ℕ) → v + 1 < length starts
+      → mentions w (upTo starts reverse v (getD next v 0)) ≡ mentions v (upTo starts nbrs w p)
 
--- the same at a place p of u's block: what stands before it is a terminal other than the block's own, and each part rises up to u at most
+-- the same at a place p of u's block: what stands before it is a terminal other than the block's own, and each part
+-- rises up to u at most
 pub record Turning (starts nbrs reverse next : List ℕ) (u p : ℕ) : Type 0 where
   pub turned : Turned starts nbrs reverse next p
   pub others : (w v : ℕ) → 0 < mentions v (upTo starts nbrs w p) → (v + 1 < length starts) × (v ≡ w → ⊥)
@@ -47,7 +52,8 @@ pub record Kept (g : Blocks) : Type 0 where
   pub no-double : anyPlace (doubled g) g ≡ false
   pub no-one-sided : anyPlace (oneSided g) g ≡ false
 
--- what the parts of such a graph are: each two terminals stand equally often in each other's part, and each part rises from place to place
+-- what the parts of such a graph are: each two terminals stand equally often in each other's part, and each part rises
+-- from place to place
 pub record Orderly (starts reverse : List ℕ) : Type 0 where
   pub balanced : (v w : ℕ) → v + 1 < length starts
       → mentions w (block (cut starts reverse) v) ≡ mentions v (block (cut starts reverse) w)

@@ -1,4 +1,5 @@
-// Rule 7 in one pass over the places: each terminal is marked with the last block that has it, and a mark of this block is a repeat.
+// Rule 7 in one pass over the places: each terminal is marked with the last block that has it, and a mark of this block
+// is a repeat.
 ghost use mathlib.Core.Path.{_≡_};
 ghost use Prim.Native.Nat.{_+_};
 ghost use lib.ListN.{length};

@@ -1,13 +1,14 @@
-// Whether rules 6 to 8 are kept, in two passes over the places.
-// The blocks are turned round: in a second row, cut by the same starts, part v lists the terminals whose blocks have v, in order. The parts
-// turned round once more must be the parts themselves, which is found by reading on in each of them. Then every two terminals mention each
-// other equally often. Where the rules are kept, the parts are their own: both list the same terminals, and both rise.
+// Whether rules 6 to 8 are kept, in two passes over the places. The blocks are turned round: in a second row, cut by
+// the same starts, part v lists the terminals whose blocks have v, in order. The parts turned round once more must be
+// the parts themselves, which is found by reading on in each of them. Then every two terminals mention each other
+// equally often. Where the rules are kept, the parts are their own: both list the same terminals, and both rise.
 ghost use mathlib.Core.Path.{_≡_};
 ghost use Prim.Native.Nat.{_+_, _-_, _<_};
 ghost use lib.ListN.{length, getD};
 ghost use Rattle.graph.specs.Graph.{Blocks};
 ghost use Rattle.adjacency.specs.Arrays.{cut, Divided, Holds};
-ghost use Rattle.adjacency.specs.Reverse.{Turned, Turning, TurnedBefore, Matching, AtStarts, AtEnds, Kept, Orderly};
+ghost use Rattle.adjacency.specs.Reverse.{Turned, Turning, TurnedBefore, Matching, AtStarts, AtEnds};
+ghost use Rattle.adjacency.specs.Reverse.{Kept, Orderly};
 ghost use Rattle.adjacency.specs.Tally.{Tells};
 use super::cells::get;
 use super::cells::put;
@@ -29,7 +30,9 @@ fn rewind(starts: &[u16], next: &mut [u16])
 // Whether each part is filled up to its end.
 fn all_full(starts: &[u16], next: &[u16]) -> bool
     requires { ⌜ (length (now starts) < 4098) × (length (now next) + 1 ≡ length (now starts)) ⌝ }
-    ensures { λ r. ⌜ Tells (AtEnds (now (starts .entry)) (now (next .entry))) (AtEnds (now (starts .entry)) (now (next .entry))) r ⌝ }
+    ensures { λ r. ⌜
+        Tells (AtEnds (now (starts .entry)) (now (next .entry))) (AtEnds (now (starts .entry)) (now (next .entry))) r
+        ⌝ }
 {
     let n = starts.len() - 1;
     let mut v = 0;
@@ -42,7 +45,8 @@ fn all_full(starts: &[u16], next: &[u16]) -> bool
     true
 }
 
-// The neighbour at place p of block u gets u in its part. A no where it is no terminal, or u itself, or its part is full.
+// The neighbour at place p of block u gets u in its part. A no where it is no terminal, or u itself, or its part is
+// full.
 fn turn_place(
     starts: &[u16],
     nbrs: &[u16],
@@ -94,7 +98,10 @@ fn turn_block(starts: &[u16], nbrs: &[u16], u: usize, reverse: &mut [u16], next:
 
 // The same for all blocks.
 fn turn_all(starts: &[u16], nbrs: &[u16], reverse: &mut [u16], next: &mut [u16]) -> bool
-    requires { ⌜ (Divided (now starts) (now nbrs)) × (length (now reverse) ≡ length (now nbrs)) × (AtStarts (now starts) (now next)) ⌝ }
+    requires { ⌜
+        (Divided (now starts) (now nbrs)) × (length (now reverse) ≡ length (now nbrs))
+        × (AtStarts (now starts) (now next))
+        ⌝ }
     ensures { λ r. ⌜
         Tells (TurnedBefore (now (starts .entry)) (now (nbrs .entry)) (now (reverse .exit)) (now (next .exit))
         (length (now (starts .entry)) - 1))
@@ -164,7 +171,8 @@ fn match_block(starts: &[u16], reverse: &[u16], u: usize, next: &mut [u16]) -> b
 fn match_all(starts: &[u16], reverse: &[u16], next: &mut [u16]) -> bool
     requires { ⌜ (Divided (now starts) (now reverse)) × (AtStarts (now starts) (now next)) ⌝ }
     ensures { λ r. ⌜
-        Tells (Matching (now (starts .entry)) (now (reverse .entry)) (now (next .exit)) (length (now (starts .entry)) - 1))
+        Tells (Matching (now (starts .entry)) (now (reverse .entry)) (now (next .exit))
+        (length (now (starts .entry)) - 1))
         (Orderly (now (starts .entry)) (now (reverse .entry))) r
         ⌝ }
 {

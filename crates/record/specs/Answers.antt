@@ -10,7 +10,9 @@ use Rattle.record.specs.declared.Sizes.{Sizes}
 use Rattle.record.specs.declared.Shape.{Shape}
 use Rattle.record.specs.declared.Shape.the-variants as Shape
 use Rattle.record.specs.declared.Refusal.{Refusal}
-use Rattle.record.specs.declared.Refusal.the-variants.{TooShort, OverLimit, WrongLength, BadUnary, SpareSet, StrayNeighbour, DoubledNeighbour, OneSidedWire, ShortWork, WrongBuffer, NoTerminal, BadIndex, NoChild}
+use Rattle.record.specs.declared.Refusal.the-variants.{TooShort, OverLimit, WrongLength, BadUnary, SpareSet}
+use Rattle.record.specs.declared.Refusal.the-variants.{StrayNeighbour, DoubledNeighbour, OneSidedWire, ShortWork}
+use Rattle.record.specs.declared.Refusal.the-variants.{WrongBuffer, NoTerminal, BadIndex, NoChild}
 use Rattle.record.specs.declared.Verdict.{Verdict}
 use Rattle.record.specs.declared.Verdict.the-variants as Verdict
 use Rattle.record.specs.declared.Counted.{Counted}

@@ -55,11 +55,13 @@ neighboursGiven bytes list v = eqb (firstBroken (degreeRules bytes v)) 0 && not 
 
 -- the part of the list that belongs to v's block; a refusal is the empty part at the front
 unfoldable pub neighbours : List ℕ → List ℕ → ℕ → List ℕ
-neighbours bytes list v = elim (neighboursGiven bytes list v) [ true ↦ block (parts (unary bytes) list) (v - 1) | false ↦ [] ]
+neighbours bytes list v =
+    elim (neighboursGiven bytes list v) [ true ↦ block (parts (unary bytes) list) (v - 1) | false ↦ [] ]
 
 -- how many numbers of the list stand before that part
 unfoldable pub neighboursBefore : List ℕ → List ℕ → ℕ → ℕ
-neighboursBefore bytes list v = elim (neighboursGiven bytes list v) [ true ↦ getD (startsOf (unary bytes)) (v - 1) 0 | false ↦ 0 ]
+neighboursBefore bytes list v =
+    elim (neighboursGiven bytes list v) [ true ↦ getD (startsOf (unary bytes)) (v - 1) 0 | false ↦ 0 ]
 
 -- where that part stands in any list of this length: how many numbers come before it, and how many it has
 pub record PartOf (bytes : List ℕ) (len v from size : ℕ) : Type 0 where

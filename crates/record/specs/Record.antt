@@ -1,4 +1,5 @@
--- The record's layout (document 01, "Record"): from bytes to the blocks of a graph, and back. Terminals count from 0 here, as the fields do.
+-- The record's layout (document 01, "Record"): from bytes to the blocks of a graph, and back. Terminals count from 0
+-- here, as the fields do.
 use mathlib.Core.Bool.{Bool, true, false}
 use mathlib.Core.List.{List, [], _∷_, _++_, flatten, map}
 use Prim.Native.Nat.{ℕ, zero, suc, _+_, _*_, _/_}

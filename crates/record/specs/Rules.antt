@@ -1,4 +1,5 @@
--- The rules that a record must keep (document 01, "order R" and "Check"), each with its number, and the first broken one.
+-- The rules that a record must keep (document 01, "order R" and "Check"), each with its number, and the first broken
+-- one.
 use mathlib.Core.Bool.{Bool, true, false, not, _||_}
 use mathlib.Core.List.{List, [], _∷_, _++_}
 use Prim.Native.Nat.{ℕ}

@@ -1,8 +1,11 @@
--- What contracts inside this crate, and in the crates above, say of a record that has passed some rules, and of the two arrays.
---   Headed, Sound, Laid          rules 1 to 3, order R, and rule 5 too let the record pass, and n and m are the header's
+-- What contracts inside this crate, and in the crates above, say of a record that has passed some rules, and of the two
+-- arrays.
+--   Headed, Sound, Laid          rules 1 to 3, order R, and rule 5 too let the record pass, and n and m are the
+--                                header's
 --   ArraysOf                     the graph of a record stands in two arrays
 --   Lent, Roomy                  room for them, and for the rules over them: of the exact length, or more
---   Short, Handed                a list that each number of it can be raised by one; Check, with the neighbours for a list
+--   Short, Handed                a list that each number of it can be raised by one; Check, with the neighbours for a
+--                                list
 --   Filling, Entering, Reading   the arrays while they are filled
 use mathlib.Core.Path.{_≡_}
 use mathlib.Core.Bool.{Bool, false}
@@ -63,7 +66,8 @@ pub record Roomy (n m : ℕ) (starts nbrs reverse next : List ℕ) : Type 0 wher
 abbrev pub Short : List ℕ → Type 0
 Short list = (i : ℕ) → i < length list → getD list i 0 < 65535
 
--- what Check answers, and what Unpack leaves in a list: the neighbours of an accepted record, from 1, where it is 2·m long
+-- what Check answers, and what Unpack leaves in a list: the neighbours of an accepted record, from 1, where it is 2·m
+-- long
 pub record Handed (bytes list after : List ℕ) (answer : Answer (Unit {0})) : Type 0 where
   pub told : answer ≡ check bytes
   pub left : after ≡ unpacked bytes list
@@ -75,7 +79,8 @@ pub record Filling (d : List Bool) (starts : List ℕ) (i k : ℕ) : Type 0 wher
   pub size : length starts ≡ count d + 1
   pub filled : take k starts ++ startsFrom (i - k) (drop i d) ≡ startsOf d
 
--- the bits of D up to some place are read, k of them are ones, and their starts are entered; the bits from there to `end` are the number w
+-- the bits of D up to some place are read, k of them are ones, and their starts are entered; the bits from there to
+-- `end` are the number w
 pub record Entering (d : List Bool) (starts : List ℕ) (w end k : ℕ) : Type 0 where
   pub place : ℕ
   pub before : place ≤ end

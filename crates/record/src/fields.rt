@@ -17,9 +17,13 @@ pub fn field(bytes: &[u8], n: usize, m: usize, p: usize) -> usize
 
 // Four more fields, from field i on.
 fn read_four(bytes: &[u8], start: usize, list: &mut [u16], i: usize)
-    requires { ⌜ (start + 12 * (i + 4) ≤ 8 * length (now bytes)) × (i + 4 ≤ length (now list)) × (i ≤ 32768) × (start ≤ 65536) ⌝ }
+    requires { ⌜
+        (start + 12 * (i + 4) ≤ 8 * length (now bytes)) × (i + 4 ≤ length (now list)) × (i ≤ 32768) × (start ≤ 65536)
+        ⌝ }
     requires { ⌜ Reading (bitsOf (now bytes)) start (length (now list)) (now list) i ⌝ }
-    ensures { λ _. ⌜ Reading (bitsOf (now (bytes .entry))) start (length (now (list .entry))) (now (list .exit)) (i + 4) ⌝ }
+    ensures { λ _. ⌜
+        Reading (bitsOf (now (bytes .entry))) start (length (now (list .entry))) (now (list .exit)) (i + 4)
+        ⌝ }
 {
     let x = bits::fields::read_four(bytes, start + 12 * i);
     put(list, i, x.a);
@@ -30,7 +34,9 @@ fn read_four(bytes: &[u8], start: usize, list: &mut [u16], i: usize)
 
 // As many fields as come in fours. Returns how many are read.
 fn read_fours(bytes: &[u8], start: usize, list: &mut [u16]) -> usize
-    requires { ⌜ (start + 12 * length (now list) ≤ 8 * length (now bytes)) × (length (now list) ≤ 32768) × (start ≤ 65536) ⌝ }
+    requires { ⌜
+        (start + 12 * length (now list) ≤ 8 * length (now bytes)) × (length (now list) ≤ 32768) × (start ≤ 65536)
+        ⌝ }
     ensures { λ r. ⌜ Reading (bitsOf (now (bytes .entry))) start (length (now (list .entry))) (now (list .exit)) r ⌝ }
 {
     let mut i = 0;
@@ -43,7 +49,9 @@ fn read_fours(bytes: &[u8], start: usize, list: &mut [u16]) -> usize
 
 // The fields from bit `start` on, as many as the list has room for: in fours, and then one by one.
 pub fn read_fields(bytes: &[u8], start: usize, list: &mut [u16])
-    requires { ⌜ (start + 12 * length (now list) ≤ 8 * length (now bytes)) × (length (now list) ≤ 32768) × (start ≤ 65536) ⌝ }
+    requires { ⌜
+        (start + 12 * length (now list) ≤ 8 * length (now bytes)) × (length (now list) ≤ 32768) × (start ≤ 65536)
+        ⌝ }
     ensures { λ _. ⌜ now (list .exit) ≡ fieldsFrom (bitsOf (now (bytes .entry))) start (length (now (list .entry))) ⌝ }
 {
     let mut i = read_fours(bytes, start, list);

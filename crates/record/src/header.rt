@@ -23,7 +23,11 @@ fn record_length(n: usize, m: usize) -> usize
 // Rule 4: D hasn't exactly n ones, or begins with a zero.
 fn bad_unary(bytes: &[u8], n: usize, m: usize) -> bool
     requires { ⌜ Headed (now bytes) n m ⌝ }
-    ensures { λ r. ⌜ r ≡ (not (eqb (count (unary (now (bytes .entry)))) (terminals (now (bytes .entry)))) || beginsWithZero (unary (now (bytes .entry)))) ⌝ }
+    ensures { λ r. ⌜
+        r
+        ≡ (not (eqb (count (unary (now (bytes .entry)))) (terminals (now (bytes .entry)))) || beginsWithZero
+        (unary (now (bytes .entry))))
+        ⌝ }
 {
     let places = n + 2 * m;
     if bits::rank(bytes, 28, places, places) != n {

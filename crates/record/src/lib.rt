@@ -139,7 +139,10 @@ pub fn loop_figure(bytes: &[u8]) -> Figure
 
 // Unpack: writes the neighbour numbers, from 1, to a list of 2·m numbers. A refused call leaves the list as it was.
 pub fn unpack(bytes: &[u8], list: &mut [u16]) -> Verdict
-    ensures { λ r. ⌜ (verdict r ≡ unpackOf (now (bytes .entry)) (now (list .entry))) × (now (list .exit) ≡ unpacked (now (bytes .entry)) (now (list .entry))) ⌝ }
+    ensures { λ r. ⌜
+        (verdict r ≡ unpackOf (now (bytes .entry)) (now (list .entry)))
+        × (now (list .exit) ≡ unpacked (now (bytes .entry)) (now (list .entry)))
+        ⌝ }
 {
     match accept(bytes, list) {
         Shape::Refused(r) => Verdict::Refused(r),

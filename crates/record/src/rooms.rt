@@ -1,4 +1,5 @@
-// Check in room for the record's size: a call pays for each number of its room, so that a small record takes a small one.
+// Check in room for the record's size: a call pays for each number of its room, so that a small record takes a small
+// one.
 ghost use mathlib.Core.Path.{_≡_};
 ghost use mathlib.Core.List.{map};
 ghost use Prim.Native.Nat.{suc, _+_, _*_, _≤_, _<_};
@@ -157,7 +158,8 @@ fn in_full(bytes: &[u8], n: usize, m: usize, list: &mut [u16]) -> Verdict
     )
 }
 
-// The room for the record's size, tried from room k on. The function calls itself, so that the rooms are not laid out in its own frame.
+// The room for the record's size, tried from room k on. The function calls itself, so that the rooms are not laid out
+// in its own frame.
 pub fn in_room(bytes: &[u8], n: usize, m: usize, list: &mut [u16], k: usize) -> Verdict
     requires { ⌜ Laid (now bytes) n m ⌝ }
     ensures { λ r. ⌜ Handed (now (bytes .entry)) (now (list .entry)) (now (list .exit)) (verdict r) ⌝ }

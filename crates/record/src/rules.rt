@@ -12,7 +12,8 @@ use adjacency::doubles::some_doubled;
 use adjacency::reverse::all_mutual;
 use adjacency::strays::some_stray;
 
-// All at once; after a no, the first broken one. The last two slices are room: a number for each place, and for each terminal.
+// All at once; after a no, the first broken one. The last two slices are room: a number for each place, and for each
+// terminal.
 pub fn try_rules(starts: &[u16], nbrs: &[u16], reverse: &mut [u16], next: &mut [u16]) -> Verdict
     ghost { Blocks }
     requires { λ g. ⌜ cut (now starts) (now nbrs) ≡ g ⌝ }

@@ -29,10 +29,12 @@ module _ (starts nbrs : List ℕ) (u p v : ℕ) where
       omega arith
 
 module _ {starts nbrs : List ℕ} (i : Divided starts nbrs) (u p v : ℕ) where
-  count-next : Holds starts u p → mentions v (upTo starts nbrs u (p + 1)) ≡ mentions v (upTo starts nbrs u p) + mentions v (getD nbrs p 0 ∷ [])
+  count-next : Holds starts u p
+      → mentions v (upTo starts nbrs u (p + 1)) ≡ mentions v (upTo starts nbrs u p) + mentions v (getD nbrs p 0 ∷ [])
   count-next h = ap (mentions v) (upto-next i h) ∙ mentions-append v (upTo starts nbrs u p) (getD nbrs p 0 ∷ [])
 
-  pub count-hit : Holds starts u p → v ≡ getD nbrs p 0 → mentions v (upTo starts nbrs u (p + 1)) ≡ mentions v (upTo starts nbrs u p) + 1
+  pub count-hit : Holds starts u p → v ≡ getD nbrs p 0
+      → mentions v (upTo starts nbrs u (p + 1)) ≡ mentions v (upTo starts nbrs u p) + 1
   count-hit h e = let a = count-next h in let z = one-hit v (getD nbrs p 0) e in omega arith
 
   pub count-miss : (v ≡ getD nbrs p 0 → ⊥) → mentions v (upTo starts nbrs u (p + 1)) ≡ mentions v (upTo starts nbrs u p)
@@ -44,9 +46,12 @@ module _ {starts nbrs : List ℕ} (i : Divided starts nbrs) (u p v : ℕ) where
 
 -- parts of two rows that have the same numbers before a place
 module _ {starts a b : List ℕ} (i : Divided starts a) (j : Divided starts b) (v w : ℕ) (k : v + 1 < length starts) where
-  agree-by : (d : ℕ) → getD starts v 0 + d ≤ getD starts (v + 1) 0 → ((q : ℕ) → getD starts v 0 ≤ q → q < getD starts v 0 + d → getD a q 0 ≡ getD b q 0)
+  agree-by : (d : ℕ) → getD starts v 0 + d ≤ getD starts (v + 1) 0
+      → ((q : ℕ) → getD starts v 0 ≤ q → q < getD starts v 0 + d → getD a q 0 ≡ getD b q 0)
       → mentions w (upTo starts a v (getD starts v 0 + d)) ≡ mentions w (upTo starts b v (getD starts v 0 + d))
-  agree-by zero h e = count-start starts a v (getD starts v 0 + 0) w (omega arith) ∙ sym (count-start starts b v (getD starts v 0 + 0) w (omega arith))
+  agree-by zero h e =
+      count-start starts a v (getD starts v 0 + 0) w (omega arith)
+      ∙ sym (count-start starts b v (getD starts v 0 + 0) w (omega arith))
   agree-by (suc d) h e =
       let z : getD starts v 0 + suc d ≡ getD starts v 0 + d + 1 = omega arith in
       let o : Holds starts v (getD starts v 0 + d) = record { inside = k; low = omega arith; high = omega arith } in
@@ -56,7 +61,8 @@ module _ {starts a b : List ℕ} (i : Divided starts a) (j : Divided starts b) (
       let c = ap (λ (n : ℕ). mentions w (n ∷ [])) (e (getD starts v 0 + d) (omega arith) (omega arith)) in
       rw z (omega arith)
 
-  pub count-agree : {p : ℕ} → getD starts v 0 ≤ p → p ≤ getD starts (v + 1) 0 → ((q : ℕ) → getD starts v 0 ≤ q → q < p → getD a q 0 ≡ getD b q 0)
+  pub count-agree : {p : ℕ} → getD starts v 0 ≤ p → p ≤ getD starts (v + 1) 0
+      → ((q : ℕ) → getD starts v 0 ≤ q → q < p → getD a q 0 ≡ getD b q 0)
       → mentions w (upTo starts a v p) ≡ mentions w (upTo starts b v p)
   count-agree {p} l h e =
       let z : getD starts v 0 + (p - getD starts v 0) ≡ p = omega arith in

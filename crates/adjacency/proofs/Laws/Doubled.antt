@@ -51,11 +51,14 @@ module _ {starts nbrs : List ℕ} {n : ℕ} where
           let t = p .found e in
           let m = t .twice in
           sym (somewhere (doubled (cut starts nbrs)) (cut starts nbrs) u _ (t .who)
-          (mention-place (cut starts nbrs) u (t .who) (omega arith)) (lt-ltb 1 (mentions (t .who) (block (cut starts nbrs) u)) m))
+          (mention-place (cut starts nbrs) u (t .who) (omega arith))
+          (lt-ltb 1 (mentions (t .who) (block (cut starts nbrs) u)) m))
 
     pub doubled-none : n ≤ u → false ≡ anyPlace (doubled (cut starts nbrs)) (cut starts nbrs)
     unfolding doubled
-    doubled-none h = sym (nowhere (doubled (cut starts nbrs)) (cut starts nbrs) .1 (λ w j v p. le-ltb 1 (mentions v (block (cut starts nbrs) w)) (each w v (source p))))
+    doubled-none h =
+        sym (nowhere (doubled (cut starts nbrs)) (cut starts nbrs) .1
+        (λ w j v p. le-ltb 1 (mentions v (block (cut starts nbrs) w)) (each w v (source p))))
       where
         each : (w v : ℕ) → w < length (cut starts nbrs) → mentions v (block (cut starts nbrs) w) ≤ 1
         each w v k = o .single w (let a = length-cut starts nbrs in let b = o .sized .number in omega arith) v

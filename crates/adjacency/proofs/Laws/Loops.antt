@@ -1,4 +1,5 @@
--- What a loop over all terminals knows, and a loop over the places of one block: how the counts of the part passed go on from place to place.
+-- What a loop over all terminals knows, and a loop over the places of one block: how the counts of the part passed go
+-- on from place to place.
 use Prim.Native.Nat.{ℕ, _+_, _-_, _≤_, _<_}
 use mathlib.Core.Path.{_≡_, sym, _∙_, ap}
 use mathlib.Core.List.{List}
@@ -39,7 +40,10 @@ pub record Sized (starts nbrs : List ℕ) (n : ℕ) : Type 0 where
 
 module _ {starts nbrs : List ℕ} {n : ℕ} where
   pub sized-start : Arrays starts nbrs → n ≡ length starts - 1 → Sized starts nbrs n
-  sized-start i e = let a = i .divided .some in let b = i .divided .few-blocks in record { arrays = i; number = omega arith; small = omega arith }
+  sized-start i e =
+      let a = i .divided .some in
+      let b = i .divided .few-blocks in
+      record { arrays = i; number = omega arith; small = omega arith }
 
   pub sized-at : Sized starts nbrs n → {u : ℕ} → u < n → At starts nbrs u
   sized-at t h = record { arrays = t .arrays; inside = let e = t .number in omega arith }
@@ -54,7 +58,8 @@ pub record Along (starts : List ℕ) (u end p : ℕ) : Type 0 where
   pub high : p ≤ end
 
 module _ {starts : List ℕ} {u end p : ℕ} where
-  pub along-start : {nbrs : List ℕ} → Divided starts nbrs → u + 1 < length starts → end ≡ getD starts (u + 1) 0 → p ≡ getD starts u 0 → Along starts u end p
+  pub along-start : {nbrs : List ℕ} → Divided starts nbrs → u + 1 < length starts → end ≡ getD starts (u + 1) 0
+      → p ≡ getD starts u 0 → Along starts u end p
   along-start i k e s = let r = i .rising u k in record { inside = k; ends = e; low = omega arith; high = omega arith }
 
   module _ (a : Along starts u end p) where
@@ -82,7 +87,9 @@ module _ {starts nbrs : List ℕ} {u end p : ℕ} where
   module _ (s : Span starts nbrs u end p) where
     -- the block is passed
     pub span-whole : end ≤ p → (v : ℕ) → mentions v (upTo starts nbrs u p) ≡ mentions v (block (cut starts nbrs) u)
-    span-whole l v = let e = along-end (s .along) l in ap (mentions v) (upto-past (s .at .arrays .divided) u p (s .at .inside) (omega arith))
+    span-whole l v =
+        let e = along-end (s .along) l in
+        ap (mentions v) (upto-past (s .at .arrays .divided) u p (s .at .inside) (omega arith))
 
     module _ (l : p < end) where
       pub span-place : (p < length nbrs) × (length nbrs ≤ 32768)
@@ -99,5 +106,6 @@ module _ {starts nbrs : List ℕ} {u end p : ℕ} where
         pub span-hit : {w : ℕ} → w ≡ v → mentions w (upTo starts nbrs u (p + 1)) ≡ mentions w (upTo starts nbrs u p) + 1
         span-hit {w} q = count-hit (s .at .arrays .divided) u p w (along-holds (s .along) l) (q ∙ e)
 
-        pub span-miss : {w : ℕ} → (w ≡ v → ⊥) → mentions w (upTo starts nbrs u (p + 1)) ≡ mentions w (upTo starts nbrs u p)
+        pub span-miss : {w : ℕ} → (w ≡ v → ⊥)
+            → mentions w (upTo starts nbrs u (p + 1)) ≡ mentions w (upTo starts nbrs u p)
         span-miss {w} n = count-miss (s .at .arrays .divided) u p w (λ q. n (q ∙ sym e))

@@ -25,8 +25,15 @@ pub record Marked (starts nbrs : List ℕ) (u end p : ℕ) (last : List ℕ) : T
   pub seen : (v : ℕ) → Seen (mentions v (upTo starts nbrs u p)) (u + 1) (getD last v 0)
 
 module _ {starts nbrs : List ℕ} {u end p : ℕ} {last : List ℕ} where
-  pub marked-start : At starts nbrs u → Fresh starts (u + 1) last → end ≡ getD starts (u + 1) 0 → p ≡ getD starts u 0 → Marked starts nbrs u end p last
-  marked-start at f e s = record { span = span-start at e s; size = f .size; seen = λ v. never (count-start starts nbrs u p v (omega arith)) (f .below v) }
+  pub marked-start : At starts nbrs u → Fresh starts (u + 1) last → end ≡ getD starts (u + 1) 0 → p ≡ getD starts u 0
+      → Marked starts nbrs u end p last
+  marked-start at f e s =
+      record {
+        span = span-start at e s;
+        size = f .size;
+        seen = λ v. never (count-start starts nbrs u p v (omega arith))
+            (f .below v);
+      }
 
   module _ (m : Marked starts nbrs u end p last) where
     pub marked-end : end ≤ p → Repeats starts nbrs u last false
@@ -36,7 +43,8 @@ module _ {starts nbrs : List ℕ} {u end p : ℕ} {last : List ℕ} where
       fresh = λ t. record { size = m .size; below = λ v. low v (m .seen v) };
     }
       where
-        most : (v : ℕ) → Seen (mentions v (upTo starts nbrs u p)) (u + 1) (getD last v 0) → mentions v (block (cut starts nbrs) u) ≤ 1
+        most : (v : ℕ) → Seen (mentions v (upTo starts nbrs u p)) (u + 1) (getD last v 0)
+            → mentions v (block (cut starts nbrs) u) ≤ 1
         most v (never t x) = let e = span-whole (m .span) h v in omega arith
         most v (once t x) = let e = span-whole (m .span) h v in omega arith
 
@@ -47,7 +55,8 @@ module _ {starts nbrs : List ℕ} {u end p : ℕ} {last : List ℕ} where
     -- at a place where v stands
     module _ {v : ℕ} (l : p < end) (e : v ≡ getD nbrs p 0) where
       pub marked-found : {out : List ℕ} → getD last v 0 ≡ u + 1 → Repeats starts nbrs u out true
-      marked-found x = record { found = λ t. go (m .seen v); none = λ t. absurd (true≢false t); fresh = λ t. absurd (true≢false t) }
+      marked-found x =
+          record { found = λ t. go (m .seen v); none = λ t. absurd (true≢false t); fresh = λ t. absurd (true≢false t) }
         where
           go : Seen (mentions v (upTo starts nbrs u p)) (u + 1) (getD last v 0) → Twice (block (cut starts nbrs) u)
           go (never t y) = absurd (omega arith)
@@ -56,7 +65,8 @@ module _ {starts nbrs : List ℕ} {u end p : ℕ} {last : List ℕ} where
               let b = count-part starts nbrs u (p + 1) v in
               record { who = v; twice = omega arith }
 
-      pub marked-more : (getD last v 0 ≡ u + 1 → ⊥) → {out : List ℕ} → out ≡ set last v (u + 1) → Marked starts nbrs u end (p + 1) out
+      pub marked-more : (getD last v 0 ≡ u + 1 → ⊥) → {out : List ℕ} → out ≡ set last v (u + 1)
+          → Marked starts nbrs u end (p + 1) out
       marked-more n o = rw o (record {
         span = span-more (m .span) l;
         size = let l = length-set last v (u + 1) in let z = m .size in omega arith;
@@ -71,5 +81,6 @@ module _ {starts nbrs : List ℕ} {u end p : ℕ} {last : List ℕ} where
               let s = m .size in
               once (omega arith) (cell-same last (u + 1) q (omega arith))
           go w (yes q) (once t x) = absurd (n (ap (λ j. getD last j 0) (sym q) ∙ x))
-          go w (no q) (never t x) = never (span-miss (m .span) l e q ∙ t) (rw (cell-other last {i = v} {j = w} (u + 1) q) x)
+          go w (no q) (never t x) =
+              never (span-miss (m .span) l e q ∙ t) (rw (cell-other last {i = v} {j = w} (u + 1) q) x)
           go w (no q) (once t x) = once (span-miss (m .span) l e q ∙ t) (cell-other last (u + 1) q ∙ x)

@@ -67,17 +67,20 @@ module _ {starts reverse next : List ℕ} where
   pub matching-start : Divided starts reverse → AtStarts starts next → Matching starts reverse next 0
   matching-start i a = record { turned = turned-start i refl a (i .first); single = λ w h. absurd (omega arith) }
 
-  pub matching-end : {n u : ℕ} → Matching starts reverse next u → Round starts n u → n ≤ u → Matching starts reverse next (length starts - 1)
+  pub matching-end : {n u : ℕ} → Matching starts reverse next u → Round starts n u → n ≤ u
+      → Matching starts reverse next (length starts - 1)
   matching-end m r l = rw (round-end r l) at m
 
 module _ {starts reverse next : List ℕ} {u end p least : ℕ} where
-  pub matching-more : {before : List ℕ} → Matching starts reverse before u → Along starts u end p → end ≤ p → Turned starts reverse reverse next p → Rising starts reverse u p least
+  pub matching-more : {before : List ℕ} → Matching starts reverse before u → Along starts u end p → end ≤ p
+      → Turned starts reverse reverse next p → Rising starts reverse u p least
       → Matching starts reverse next (u + 1)
   matching-more m a l t r =
       let e = along-end a l in
       record {
         turned = rw e at t;
-        single = below-more (λ w. (v : ℕ) → mentions v (block (cut starts reverse) w) ≤ 1) u (m .single) (λ v. single v);
+        single =
+            below-more (λ w. (v : ℕ) → mentions v (block (cut starts reverse) w) ≤ 1) u (m .single) (λ v. single v);
       }
     where
       single : (v : ℕ) → mentions v (block (cut starts reverse) u) ≤ 1

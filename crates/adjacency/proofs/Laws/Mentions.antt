@@ -1,4 +1,5 @@
--- Mentions in a list: its parts, its length, one number, and the place of a mention; a list that mentions nothing more often is no longer.
+-- Mentions in a list: its parts, its length, one number, and the place of a mention; a list that mentions nothing more
+-- often is no longer.
 use Prim.Native.Nat.{ℕ, suc, _+_, _≤_, _<_}
 use mathlib.Core.Path.{_≡_, refl, sym, ap, _∙_}
 use mathlib.Core.Bool.{Bool, true, false}
@@ -18,7 +19,8 @@ mentions-append v [] m = sym (zero-add (mentions v m))
 mentions-append v (x ∷ l) m = go (eqb v x) (mentions-append v l m)
   where
     go : (b : Bool) → mentions v (l ++ m) ≡ mentions v l + mentions v m
-        → elim b [ true ↦ suc (mentions v (l ++ m)) | false ↦ mentions v (l ++ m) ] ≡ elim b [ true ↦ suc (mentions v l) | false ↦ mentions v l ] + mentions v m
+        → elim b [ true ↦ suc (mentions v (l ++ m)) | false ↦ mentions v (l ++ m) ]
+        ≡ elim b [ true ↦ suc (mentions v l) | false ↦ mentions v l ] + mentions v m
     go true e = omega arith
     go false e = e
 
@@ -27,7 +29,8 @@ unfolding mentions
 mentions-le v [] = omega arith
 mentions-le v (x ∷ l) = go (eqb v x) (mentions-le v l)
   where
-    go : (b : Bool) → mentions v l ≤ length l → elim b [ true ↦ suc (mentions v l) | false ↦ mentions v l ] ≤ suc (length l)
+    go : (b : Bool) → mentions v l ≤ length l
+        → elim b [ true ↦ suc (mentions v l) | false ↦ mentions v l ] ≤ suc (length l)
     go true h = omega arith
     go false h = omega arith
 

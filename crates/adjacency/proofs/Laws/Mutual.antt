@@ -31,9 +31,11 @@ module _ {starts nbrs reverse next : List ℕ} (done : TurnedBefore starts nbrs 
       sym (ap (mentions w) (upto-past (turned-divided t) v (getD next v 0) k (let e = f .ends v k in omega arith)))
       ∙ t .same v w k ∙ ap (mentions v) (upto-end (t .divided) w)
 
-module _ {starts nbrs reverse next next′ : List ℕ} (t : TurnedBefore starts nbrs reverse next (length starts - 1)) (f : AtEnds starts next)
+module _ {starts nbrs reverse next next′ : List ℕ} (t : TurnedBefore starts nbrs reverse next (length starts - 1))
+    (f : AtEnds starts next)
     (m : Matching starts reverse next′ (length starts - 1)) where
-  matched-le : (v : ℕ) → v + 1 < length starts → (w : ℕ) → mentions v (block (cut starts reverse) w) ≤ mentions w (block (cut starts reverse) v)
+  matched-le : (v : ℕ) → v + 1 < length starts → (w : ℕ)
+      → mentions v (block (cut starts reverse) w) ≤ mentions w (block (cut starts reverse) v)
   matched-le v k w =
       let i = m .turned .divided in
       let a = m .turned .same v w k in
@@ -50,7 +52,9 @@ module _ {starts nbrs reverse next next′ : List ℕ} (t : TurnedBefore starts 
     mentioned = let a = mention-found v (block (cut starts nbrs) u) j (p .fits) (p .leads) .counted in omega arith
 
     other : (v + 1 < length starts) × (v ≡ u → ⊥)
-    other = turned-end t .others u v (let e = ap (mentions v) (upto-end (t .turned .divided) u) in let k = mentioned in omega arith)
+    other =
+        turned-end t .others u v
+        (let e = ap (mentions v) (upto-end (t .turned .divided) u) in let k = mentioned in omega arith)
 
     once : mentions v (block (cut starts nbrs) u) ≤ 1
     once =
@@ -76,7 +80,9 @@ module _ {starts nbrs reverse next next′ : List ℕ} (t : TurnedBefore starts 
       record {
         no-stray = nowhere (stray g) g .1 (λ u j v p. six p);
         no-double = nowhere (doubled g) g .1 (λ u j v p. le-ltb 1 (mentions v (block g u)) (once p));
-        no-one-sided = nowhere (oneSided g) g .1 (λ u j v p. rw (eq-eqb (mentions v (block g u)) (mentions u (block g v)) (equal p)));
+        no-one-sided =
+            nowhere (oneSided g) g .1
+            (λ u j v p. rw (eq-eqb (mentions v (block g u)) (mentions u (block g v)) (equal p)));
       }
     where
       six : {u j v : ℕ} → Place (cut starts nbrs) u j v → (leb (length (cut starts nbrs)) v || eqb v u) ≡ false

@@ -17,8 +17,10 @@ pub record Nexts (starts next : List ℕ) (n v : ℕ) (of : ℕ → ℕ) : Type 
   pub done : (w : ℕ) → w < v → getD next w 0 ≡ getD starts (of w) 0
 
 module _ {starts next : List ℕ} {n v : ℕ} (of : ℕ → ℕ) where
-  pub nexts-start : (length starts < 4098) × (length next + 1 ≡ length starts) → n ≡ length starts - 1 → v ≡ 0 → Nexts starts next n v of
-  nexts-start s e z = record { number = omega arith; few = omega arith; cells = omega arith; done = λ w h. absurd (omega arith) }
+  pub nexts-start : (length starts < 4098) × (length next + 1 ≡ length starts) → n ≡ length starts - 1 → v ≡ 0
+      → Nexts starts next n v of
+  nexts-start s e z =
+      record { number = omega arith; few = omega arith; cells = omega arith; done = λ w h. absurd (omega arith) }
 
 module _ {starts next : List ℕ} {n v : ℕ} {of : ℕ → ℕ} (k : Nexts starts next n v of) where
   pub nexts-found : getD next v 0 ≡ getD starts (of v) 0 → Nexts starts next n (v + 1) of
@@ -29,7 +31,8 @@ module _ {starts next : List ℕ} {n v : ℕ} {of : ℕ → ℕ} (k : Nexts star
     done = below-more (λ w. getD next w 0 ≡ getD starts (of w) 0) v (k .done) e;
   }
 
-  pub nexts-set : v < n → {x : ℕ} → x ≡ getD starts (of v) 0 → {out : List ℕ} → out ≡ set next v x → Nexts starts out n (v + 1) of
+  pub nexts-set : v < n → {x : ℕ} → x ≡ getD starts (of v) 0 → {out : List ℕ} → out ≡ set next v x
+      → Nexts starts out n (v + 1) of
   nexts-set h {x} e o = rw o (record {
     number = k .number;
     few = k .few;
@@ -38,12 +41,19 @@ module _ {starts next : List ℕ} {n v : ℕ} {of : ℕ → ℕ} (k : Nexts star
   })
     where
       go : (w : ℕ) → w < v + 1 → Dec (w ≡ v) → getD (set next v x) w 0 ≡ getD starts (of w) 0
-      go w l (yes q) = cell-same next x q (let a = k .few in let b = k .cells in omega arith) ∙ e ∙ ap (λ (i : ℕ). getD starts (of i) 0) (sym q)
+      go w l (yes q) =
+          cell-same next x q (let a = k .few in let b = k .cells in omega arith) ∙ e
+          ∙ ap (λ (i : ℕ). getD starts (of i) 0) (sym q)
       go w l (no q) = cell-other next x q ∙ k .done w (omega arith)
 
 module _ {starts next : List ℕ} {n v : ℕ} where
   pub at-starts : Nexts starts next n v (λ w. w) → n ≤ v → AtStarts starts next
-  at-starts k h = record { cells = let e = k .number in let c = k .cells in omega arith; begins = λ w l. k .done w (let e = k .number in omega arith) }
+  at-starts k h =
+      record {
+        cells = let e = k .number in let c = k .cells in omega arith;
+        begins = λ w l. k .done w
+            (let e = k .number in omega arith);
+      }
 
   pub at-ends : Nexts starts next n v (λ w. w + 1) → n ≤ v → AtEnds starts next
   at-ends k h = record { ends = λ w l. k .done w (let e = k .number in omega arith) }

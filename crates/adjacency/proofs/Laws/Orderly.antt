@@ -1,4 +1,5 @@
--- A graph that keeps rules 6 to 8 passes every test: no part is full too early or too late, and the parts turned round again are their own.
+-- A graph that keeps rules 6 to 8 passes every test: no part is full too early or too late, and the parts turned round
+-- again are their own.
 use Prim.Native.Nat.{ℕ, zero, suc, _+_, _-_, _≤_, _<_}
 use mathlib.Core.Path.{_≡_, refl, sym, _∙_, ap}
 use mathlib.Core.List.{List, [], _∷_}
@@ -41,7 +42,8 @@ module _ {g : Blocks} (k : Kept g) where
       go (no h) = omega arith
 
 -- place p of block u
-module _ {starts nbrs : List ℕ} (i : Divided starts nbrs) {u p : ℕ} (h : Holds starts u p) {v : ℕ} (is-v : v ≡ getD nbrs p 0) where
+module _ {starts nbrs : List ℕ} (i : Divided starts nbrs) {u p : ℕ} (h : Holds starts u p) {v : ℕ}
+    (is-v : v ≡ getD nbrs p 0) where
   pub no-terminal : Kept (cut starts nbrs) → length starts - 1 ≤ v → ⊥
   no-terminal k l = let a = well k .in-range u _ v (place-at i h is-v) in let b = length-cut starts nbrs in omega arith
 
@@ -51,7 +53,8 @@ module _ {starts nbrs : List ℕ} (i : Divided starts nbrs) {u p : ℕ} (h : Hol
 -- ---- parts and blocks in which two terminals stand equally often
 
 -- a part that is full has no terminal to come
-module _ {starts nbrs reverse next : List ℕ} {p : ℕ} (t : Turned starts nbrs reverse next p) {u : ℕ} (h : Holds starts u p) {v : ℕ}
+module _ {starts nbrs reverse next : List ℕ} {p : ℕ} (t : Turned starts nbrs reverse next p) {u : ℕ}
+    (h : Holds starts u p) {v : ℕ}
     (is-v : v ≡ getD nbrs p 0) (k : v + 1 < length starts) where
   not-full : ((w : ℕ) → mentions w (block (cut starts nbrs) v) ≡ mentions v (block (cut starts nbrs) w))
       → getD next v 0 ≡ getD starts (v + 1) 0 → ⊥
@@ -64,7 +67,8 @@ module _ {starts nbrs reverse next : List ℕ} {p : ℕ} (t : Turned starts nbrs
       part : (x : ℕ) → mentions x (block (cut starts reverse) v) ≡ mentions v (upTo starts nbrs x p)
       part x = ap (mentions x) (sym (upto-past (turned-divided t) v (getD next v 0) k (omega arith))) ∙ t .same v x k
 
-      each : (x : ℕ) → Dec (x ≡ u) → mentions x (u ∷ block (cut starts reverse) v) ≤ mentions x (block (cut starts nbrs) v)
+      each : (x : ℕ) → Dec (x ≡ u)
+          → mentions x (u ∷ block (cut starts reverse) v) ≤ mentions x (block (cut starts nbrs) v)
       each x (yes q) =
           let a = mentions-append x (u ∷ []) (block (cut starts reverse) v) in
           let c = one-hit x u q in
@@ -86,7 +90,8 @@ module _ {starts nbrs reverse next : List ℕ} {p : ℕ} (t : Turned starts nbrs
   full-refused b is-q e = not-full (well b .balanced v) (sym is-q ∙ e)
 
 -- and in the end each is full
-module _ {starts nbrs reverse next : List ℕ} (done : TurnedBefore starts nbrs reverse next (length starts - 1)) (k : Kept (cut starts nbrs)) where
+module _ {starts nbrs reverse next : List ℕ} (done : TurnedBefore starts nbrs reverse next (length starts - 1))
+    (k : Kept (cut starts nbrs)) where
   pub filled : AtEnds starts next
   unfolding upTo
   filled = record { ends = λ v h. full v h }
@@ -100,7 +105,8 @@ module _ {starts nbrs reverse next : List ℕ} (done : TurnedBefore starts nbrs 
       full : (v : ℕ) → v + 1 < length starts → getD next v 0 ≡ getD starts (v + 1) 0
       full v h =
           let t = turned-end done .turned in
-          let l = fewer (block (cut starts nbrs) v) (upTo starts reverse v (getD next v 0)) (λ x. (let e = same v h x in omega arith)) in
+          let l = fewer (block (cut starts nbrs) v) (upTo starts reverse v (getD next v 0))
+          (λ x. (let e = same v h x in omega arith)) in
           let r = row-size (t .divided) v h in
           let n = t .near v h in
           omega (arith, length-take (getD next v 0 - getD starts v 0) (block (cut starts reverse) v))
@@ -112,10 +118,12 @@ module _ {starts nbrs reverse next : List ℕ} (done : TurnedBefore starts nbrs 
       none : (row : List ℕ) (w : ℕ) → length starts ≤ w + 1 → block (cut starts row) w ≡ []
       none row w l = let a = length-cut starts row in List·getD-eq-default (cut starts row) [] {n = w} (omega arith)
 
-      balanced : (v w : ℕ) → v + 1 < length starts → mentions w (block (cut starts reverse) v) ≡ mentions v (block (cut starts reverse) w)
+      balanced : (v w : ℕ) → v + 1 < length starts
+          → mentions w (block (cut starts reverse) v) ≡ mentions v (block (cut starts reverse) w)
       balanced v w h = turned-whole done filled v h w ∙ go (decLt (w + 1) (length starts))
         where
-          go : Dec (w + 1 < length starts) → mentions v (block (cut starts nbrs) w) ≡ mentions v (block (cut starts reverse) w)
+          go : Dec (w + 1 < length starts)
+              → mentions v (block (cut starts nbrs) w) ≡ mentions v (block (cut starts reverse) w)
           go (yes l) = well k .balanced w v ∙ sym (turned-whole done filled w l v)
           go (no l) = ap (mentions v) (none nbrs w (omega arith) ∙ sym (none reverse w (omega arith)))
 
@@ -129,12 +137,14 @@ module _ {starts nbrs reverse next : List ℕ} (done : TurnedBefore starts nbrs 
           let m = count-part starts reverse v (q + 1 + 1) x in
           let d = turned-whole done filled v (a .inside) x in
           let o = once k x v in
-          let n : getD reverse q 0 ≡ getD reverse (q + 1) 0 → ⊥ = (λ z. (let f = count-hit i v (q + 1) x b z in omega arith)) in
+          let n : getD reverse q 0 ≡ getD reverse (q + 1) 0 → ⊥ =
+          (λ z. (let f = count-hit i v (q + 1) x b z in omega arith)) in
           strict r n
 
 -- ---- the parts turned round once more
 
-module _ {starts reverse next : List ℕ} {p : ℕ} (t : Turned starts reverse reverse next p) (o : Orderly starts reverse) {u : ℕ}
+module _ {starts reverse next : List ℕ} {p : ℕ} (t : Turned starts reverse reverse next p) (o : Orderly starts reverse)
+    {u : ℕ}
     (h : Holds starts u p) {w : ℕ} (is-w : w ≡ getD reverse p 0) where
   -- part u has w once more from place p on
   more : mentions w (upTo starts reverse u p) + 1 ≤ mentions w (block (cut starts reverse) u)
@@ -145,7 +155,8 @@ module _ {starts reverse next : List ℕ} {p : ℕ} (t : Turned starts reverse r
   all-terminals l =
       let a = length-cut starts reverse in
       let b = o .balanced u w (h .inside) in
-      let e = ap (mentions u) (List·getD-eq-default (cut starts reverse) [] {n = w} (let s = t .divided .some in omega arith)) in
+      let e = ap (mentions u)
+      (List·getD-eq-default (cut starts reverse) [] {n = w} (let s = t .divided .some in omega arith)) in
       let m = more in
       omega arith
 
@@ -163,7 +174,8 @@ module _ {starts reverse next : List ℕ} {p : ℕ} (t : Turned starts reverse r
           let x : ℕ = getD reverse q 0 in
           let s = starts-mono (t .divided) (x + 1) u (omega arith) (let i = h .inside in omega arith) in
           let a = t .same w x k in
-          let b = ap (mentions w) (upto-past (t .divided) x p (let i = h .inside in omega arith) (let i = h .low in omega arith)) in
+          let b = ap (mentions w)
+          (upto-past (t .divided) x p (let i = h .inside in omega arith) (let i = h .low in omega arith)) in
           let c = ap (λ (y : ℕ). mentions x (upTo starts reverse w y)) is-q in
           let d = count-hit (t .divided) w q x at refl in
           let e = count-part starts reverse w (q + 1) x in
@@ -172,13 +184,15 @@ module _ {starts reverse next : List ℕ} {p : ℕ} (t : Turned starts reverse r
 
       -- past a greater terminal u is not found again
       beyond : u < getD reverse q 0 → (d : ℕ) → Holds starts w (q + d)
-          → (u < getD reverse (q + d) 0) × (mentions u (upTo starts reverse w (q + d + 1)) ≡ mentions u (upTo starts reverse w q))
+          → (u < getD reverse (q + d) 0)
+          × (mentions u (upTo starts reverse w (q + d + 1)) ≡ mentions u (upTo starts reverse w q))
       beyond l zero a =
           let z : q + 0 ≡ q = omega arith in
           rw z (l, count-miss (t .divided) w q u (λ e. omega arith))
       beyond l (suc d) a =
           let z : q + suc d ≡ q + d + 1 = omega arith in
-          let b : Holds starts w (q + d) = record { inside = k; low = let i = at .low in omega arith; high = let i = a .high in omega arith } in
+          let b : Holds starts w (q + d) =
+          record { inside = k; low = let i = at .low in omega arith; high = let i = a .high in omega arith } in
           let r = beyond l d b in
           let s = o .rising w (q + d) b (rw z at a) in
           rw z (omega arith, count-miss (t .divided) w (q + d + 1) u (λ e. (let i = r .0 in omega arith)) ∙ r .1)

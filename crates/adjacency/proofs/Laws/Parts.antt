@@ -17,7 +17,8 @@ module _ (starts nbrs : List ℕ) (u p : ℕ) where
   unfolding upTo
   upto-start h = let z : p - getD starts u 0 ≡ 0 = omega arith in rw z
 
-  upto-whole : length (block (cut starts nbrs) u) ≤ p - getD starts u 0 → upTo starts nbrs u p ≡ block (cut starts nbrs) u
+  upto-whole : length (block (cut starts nbrs) u) ≤ p - getD starts u 0
+      → upTo starts nbrs u p ≡ block (cut starts nbrs) u
   unfolding upTo
   upto-whole h = take-all (p - getD starts u 0) (block (cut starts nbrs) u) h
 
@@ -29,7 +30,8 @@ module _ (starts nbrs : List ℕ) (u p : ℕ) where
       upto-whole (omega arith)
 
 module _ {starts nbrs : List ℕ} (i : Divided starts nbrs) where
-  pub upto-past : (u p : ℕ) → u + 1 < length starts → getD starts (u + 1) 0 ≤ p → upTo starts nbrs u p ≡ block (cut starts nbrs) u
+  pub upto-past : (u p : ℕ) → u + 1 < length starts → getD starts (u + 1) 0 ≤ p
+      → upTo starts nbrs u p ≡ block (cut starts nbrs) u
   upto-past u p k h = let l = row-size i u k in upto-whole starts nbrs u p (omega arith)
 
   pub upto-end : (u : ℕ) → upTo starts nbrs u (length nbrs) ≡ block (cut starts nbrs) u
@@ -39,14 +41,16 @@ module _ {starts nbrs : List ℕ} (i : Divided starts nbrs) where
       go (yes k) = upto-past u (length nbrs) k (starts-fit i (u + 1) k)
       go (no k) = upto-none starts nbrs u (length nbrs) (omega arith)
 
-  pub upto-next : {u p : ℕ} → Holds starts u p → upTo starts nbrs u (p + 1) ≡ upTo starts nbrs u p ++ (getD nbrs p 0 ∷ [])
+  pub upto-next : {u p : ℕ} → Holds starts u p
+      → upTo starts nbrs u (p + 1) ≡ upTo starts nbrs u p ++ (getD nbrs p 0 ∷ [])
   unfolding upTo
   upto-next {u} {p} h =
       let l = row-size i u (h .inside) in
       let j : p + 1 - getD starts u 0 ≡ suc (p - getD starts u 0) = omega arith in
       let q : getD starts u 0 + (p - getD starts u 0) ≡ p = omega arith in
       let b : p - getD starts u 0 < length (block (cut starts nbrs) u) = omega arith in
-      let e : target (cut starts nbrs) u (p - getD starts u 0) ≡ getD nbrs p 0 = row-neighbour i u (h .inside) (p - getD starts u 0) b ∙ ap (λ k. getD nbrs k 0) q in
+      let e : target (cut starts nbrs) u (p - getD starts u 0) ≡ getD nbrs p 0 =
+      row-neighbour i u (h .inside) (p - getD starts u 0) b ∙ ap (λ k. getD nbrs k 0) q in
       rw (j, ← e) (take-suc (block (cut starts nbrs) u) (p - getD starts u 0) 0 b)
 
 -- place p is in u's block, or leaves its part as it is
@@ -58,9 +62,12 @@ module _ {starts nbrs : List ℕ} (i : Divided starts nbrs) where
   pub step : (u p : ℕ) → Step starts nbrs u p
   step u p = go (decLt (u + 1) (length starts)) (decLt p (getD starts u 0)) (decLt p (getD starts (u + 1) 0))
     where
-      go : Dec (u + 1 < length starts) → Dec (p < getD starts u 0) → Dec (p < getD starts (u + 1) 0) → Step starts nbrs u p
-      go (no k) l h = outside (upto-none starts nbrs u (p + 1) (omega arith) ∙ sym (upto-none starts nbrs u p (omega arith)))
-      go (yes k) (yes l) h = outside (upto-start starts nbrs u (p + 1) (omega arith) ∙ sym (upto-start starts nbrs u p (omega arith)))
+      go : Dec (u + 1 < length starts) → Dec (p < getD starts u 0) → Dec (p < getD starts (u + 1) 0)
+          → Step starts nbrs u p
+      go (no k) l h =
+          outside (upto-none starts nbrs u (p + 1) (omega arith) ∙ sym (upto-none starts nbrs u p (omega arith)))
+      go (yes k) (yes l) h =
+          outside (upto-start starts nbrs u (p + 1) (omega arith) ∙ sym (upto-start starts nbrs u p (omega arith)))
       go (yes k) (no l) (yes h) = inside (record { inside = k; low = omega arith; high = h })
       go (yes k) (no l) (no h) = outside (upto-past i u (p + 1) k (omega arith) ∙ sym (upto-past i u p k (omega arith)))
 

@@ -14,7 +14,8 @@ use Rattle.adjacency.specs.Arrays.{cut, Divided}
 use Rattle.adjacency.specs.Tally.{Tells, yea, nay, Stray}
 use Rattle.adjacency.specs.Laws.Anywhere.{somewhere, nowhere}
 use Rattle.adjacency.specs.Laws.Rows.{length-cut, starts-fit, place-at, place-held}
-use Rattle.adjacency.proofs.Laws.Loops.{Along, along-start, along-holds, along-more, Round, round-start, round-more}
+use Rattle.adjacency.proofs.Laws.Loops.{Along, along-start, along-holds, along-more, Round, round-start}
+use Rattle.adjacency.proofs.Laws.Loops.{round-more}
 
 -- ---- one block
 
@@ -38,12 +39,17 @@ module _ {starts nbrs : List ℕ} {u end p : ℕ} where
 
     module _ (h : p < end) where
       pub strayless-place : p < length nbrs
-      strayless-place = let f = starts-fit (s .divided) (u + 1) (s .along .inside) in let e = s .along .ends in omega arith
+      strayless-place =
+          let f = starts-fit (s .divided) (u + 1) (s .along .inside) in
+          let e = s .along .ends in
+          omega arith
 
       -- v stands at p
       module _ {v : ℕ} (is-v : v ≡ getD nbrs p 0) where
         found : stray (cut starts nbrs) u v ≡ true → Tells (Stray starts nbrs u) (Stray starts nbrs u) true
-        found e = yea (record { place = p; held = along-holds (s .along) h; stands = ap (stray (cut starts nbrs) u) (sym is-v) ∙ e })
+        found e =
+            yea (record
+            { place = p; held = along-holds (s .along) h; stands = ap (stray (cut starts nbrs) u) (sym is-v) ∙ e })
 
         pub no-terminal : length starts - 1 ≤ v → Tells (Stray starts nbrs u) (Stray starts nbrs u) true
         unfolding stray
@@ -65,7 +71,9 @@ module _ {starts nbrs : List ℕ} {u end p : ℕ} where
               record {
                 divided = s .divided;
                 along = along-more (s .along) h;
-                clean = below-more (λ q. getD starts u 0 ≤ q → stray (cut starts nbrs) u (getD nbrs q 0) ≡ false) p (s .clean) (λ m. e);
+                clean =
+                    below-more (λ q. getD starts u 0 ≤ q → stray (cut starts nbrs) u (getD nbrs q 0) ≡ false) p
+                    (s .clean) (λ m. e);
               }
 
 -- ---- all blocks
@@ -90,13 +98,18 @@ module _ {starts nbrs : List ℕ} {u : ℕ} (d : Divided starts nbrs) where
   stray-found x =
       sym (somewhere (stray (cut starts nbrs)) (cut starts nbrs) u _ _ (place-at d (x .held) refl) (x .stands))
 
-  pub stray-absent : {n : ℕ} → Clean starts nbrs n u → n ≤ u → false ≡ anyPlace (stray (cut starts nbrs)) (cut starts nbrs)
-  stray-absent {n} c h = sym (nowhere (stray (cut starts nbrs)) (cut starts nbrs) .1 (λ w j v p. go p (told (stray (cut starts nbrs) w v))))
+  pub stray-absent : {n : ℕ} → Clean starts nbrs n u → n ≤ u
+      → false ≡ anyPlace (stray (cut starts nbrs)) (cut starts nbrs)
+  stray-absent {n} c h =
+      sym (nowhere (stray (cut starts nbrs)) (cut starts nbrs) .1
+      (λ w j v p. go p (told (stray (cut starts nbrs) w v))))
     where
-      go : {w j v : ℕ} → Place (cut starts nbrs) w j v → Told (stray (cut starts nbrs) w v) → stray (cut starts nbrs) w v ≡ false
+      go : {w j v : ℕ} → Place (cut starts nbrs) w j v → Told (stray (cut starts nbrs) w v)
+          → stray (cut starts nbrs) w v ≡ false
       go p (fail e) = e
       go {w} {j} p (pass e) =
           let (k, f) = place-held d p in
           let b = c .round .number in
           let i = k .inside in
-          absurd (c .none w (omega arith) (record { place = _; held = k; stands = ap (stray (cut starts nbrs) w) (sym f) ∙ e }))
+          absurd (c .none w (omega arith)
+          (record { place = _; held = k; stands = ap (stray (cut starts nbrs) w) (sym f) ∙ e }))

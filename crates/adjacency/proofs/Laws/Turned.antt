@@ -15,21 +15,27 @@ use Rattle.adjacency.proofs.Laws.Counts.{count-start, count-hit, count-
 
 -- ---- nothing is turned round yet
 
-pub turned-start : {starts nbrs reverse next : List ℕ} {p : ℕ} → Divided starts nbrs → length reverse ≡ length nbrs → AtStarts starts next → p ≡ 0
+pub turned-start : {starts nbrs reverse next : List ℕ} {p : ℕ} → Divided starts nbrs → length reverse ≡ length nbrs
+    → AtStarts starts next → p ≡ 0
     → Turned starts nbrs reverse next p
 turned-start {starts} {nbrs} {reverse} {next} {p} i e a z = record {
   divided = i;
   size = e;
   cells = a .cells;
   near = λ v k. (let b = a .begins v k in let r = i .rising v k in (omega arith, omega arith));
-  same = λ v w k. (let b = a .begins v k in count-start starts reverse v (getD next v 0) w (omega arith)) ∙ sym (count-start starts nbrs w p v (omega arith));
+  same =
+      λ v w k. (let b = a .begins v k in count-start starts reverse v (getD next v 0) w (omega arith))
+      ∙ sym (count-start starts nbrs w p v (omega arith));
 }
 
-pub turning-start : {starts nbrs reverse next : List ℕ} → Divided starts nbrs → length reverse ≡ length nbrs → AtStarts starts next
+pub turning-start : {starts nbrs reverse next : List ℕ} → Divided starts nbrs → length reverse ≡ length nbrs
+    → AtStarts starts next
     → TurnedBefore starts nbrs reverse next 0
 turning-start {starts} {nbrs} {next = next} i e a = record {
   turned = turned-start i e a (i .first);
-  others = λ w v m. absurd (let z = i .first in let c = count-start starts nbrs w (getD starts 0 0) v (omega arith) in omega arith);
+  others =
+      λ w v m. absurd (let z = i .first in let c = count-start starts nbrs w (getD starts 0 0) v
+      (omega arith) in omega arith);
   rising = λ v q h l. absurd (none v q h (omega arith));
   below = λ v q h l. absurd (none v q h l);
 }
@@ -47,7 +53,8 @@ module _ {starts nbrs reverse next : List ℕ} {p : ℕ} (t : Turned starts nbrs
   turned-place {u} h = let f = starts-fit (t .divided) (u + 1) (h .inside) in omega arith
 
   -- the place of v's part that comes next
-  module _ (v : ℕ) {q : ℕ} (k : v + 1 < length starts) (is-next : q ≡ getD next v 0) (free : q ≡ getD starts (v + 1) 0 → ⊥) where
+  module _ (v : ℕ) {q : ℕ} (k : v + 1 < length starts) (is-next : q ≡ getD next v 0)
+      (free : q ≡ getD starts (v + 1) 0 → ⊥) where
     next-holds : Holds starts v q
     next-holds = let n = t .near v k in record { inside = k; low = omega arith; high = omega arith }
 
@@ -74,14 +81,17 @@ module _ {starts nbrs reverse next : List ℕ} {p : ℕ} (t : Turned starts nbrs
       cells = t .cells;
       near = t .near;
       same = λ x w h.
-          count-agree (divided-too (t .divided) (length-set reverse q u ∙ t .size)) turned-divided x w h (t .near x h .0) (t .near x h .1)
-          (λ r l m. cell-other reverse u (apart x r (let n = t .near x h in record { inside = h; low = l; high = omega arith }) m))
+          count-agree (divided-too (t .divided) (length-set reverse q u ∙ t .size)) turned-divided x w h
+          (t .near x h .0) (t .near x h .1)
+          (λ r l m. cell-other reverse u
+          (apart x r (let n = t .near x h in record { inside = h; low = l; high = omega arith }) m))
           ∙ t .same x w h;
     }
 
     -- u stands there
     module _ {u : ℕ} (h : Holds starts u p) (is-v : v ≡ getD nbrs p 0) where
-      pub turned-more : getD reverse q 0 ≡ u → {out : List ℕ} → out ≡ set next v (q + 1) → Turned starts nbrs reverse out (p + 1)
+      pub turned-more : getD reverse q 0 ≡ u → {out : List ℕ} → out ≡ set next v (q + 1)
+          → Turned starts nbrs reverse out (p + 1)
       turned-more there o = rw o (record {
         divided = t .divided;
         size = t .size;
@@ -94,12 +104,14 @@ module _ {starts nbrs reverse next : List ℕ} {p : ℕ} (t : Turned starts nbrs
           hit e = let a = next-place .0 in let b = t .cells in cell-same next (q + 1) e (omega arith)
 
           near : (x : ℕ) → x + 1 < length starts → Dec (x ≡ v)
-              → (getD starts x 0 ≤ getD (set next v (q + 1)) x 0) × (getD (set next v (q + 1)) x 0 ≤ getD starts (x + 1) 0)
+              → (getD starts x 0 ≤ getD (set next v (q + 1)) x 0)
+              × (getD (set next v (q + 1)) x 0 ≤ getD starts (x + 1) 0)
           near x l (yes e) = let a = hit e in let b = next-holds in rw (e, rw e at a) (omega arith, omega arith)
           near x l (no n) = rw (cell-other next {i = v} {j = x} (q + 1) n) (t .near x l)
 
           same : (x w : ℕ) → x + 1 < length starts → Dec (x ≡ v) → Dec (w ≡ u)
-              → mentions w (upTo starts reverse x (getD (set next v (q + 1)) x 0)) ≡ mentions x (upTo starts nbrs w (p + 1))
+              → mentions w (upTo starts reverse x (getD (set next v (q + 1)) x 0))
+              ≡ mentions x (upTo starts nbrs w (p + 1))
           same x w l (no n) d =
               ap (λ (y : ℕ). mentions w (upTo starts reverse x y)) (cell-other next (q + 1) n)
               ∙ t .same x w l ∙ sym (count-miss (t .divided) w p x (λ e. n (e ∙ sym is-v)))
@@ -122,7 +134,8 @@ module _ {starts nbrs reverse next : List ℕ} {p : ℕ} (t : Turned starts nbrs
 
 -- ---- the same while the blocks are turned round
 
-module _ {starts nbrs reverse next : List ℕ} {u p : ℕ} (t : Turning starts nbrs reverse next u p) (h : Holds starts u p) {v : ℕ}
+module _ {starts nbrs reverse next : List ℕ} {u p : ℕ} (t : Turning starts nbrs reverse next u p) (h : Holds starts u p)
+    {v : ℕ}
     (is-v : v ≡ getD nbrs p 0) where
   others-more : v + 1 < length starts → (v ≡ u → ⊥) → (w x : ℕ) → 0 < mentions x (upTo starts nbrs w (p + 1))
       → (x + 1 < length starts) × (x ≡ w → ⊥)
@@ -177,7 +190,8 @@ module _ {starts nbrs reverse next : List ℕ} {u p : ℕ} (t : Turning starts n
             omega arith
 
   pub turning-more : v < length starts - 1 → (v ≡ u → ⊥) → {q : ℕ} → q ≡ getD next v 0 → (q ≡ getD starts (v + 1) 0 → ⊥)
-      → {reverse′ next′ : List ℕ} → reverse′ ≡ set reverse q u → next′ ≡ set next v (q + 1) → Turning starts nbrs reverse′ next′ u (p + 1)
+      → {reverse′ next′ : List ℕ} → reverse′ ≡ set reverse q u → next′ ≡ set next v (q + 1)
+      → Turning starts nbrs reverse′ next′ u (p + 1)
   turning-more k o {q} is-q free e f =
       let l : v + 1 < length starts = omega arith in
       let s = store (t .turned) v l is-q free u in
@@ -189,7 +203,8 @@ module _ {starts nbrs reverse next : List ℕ} {u p : ℕ} (t : Turning starts n
       })
 
 -- the block ends
-pub turning-on : {starts nbrs reverse next : List ℕ} {u p : ℕ} → Turning starts nbrs reverse next u p → p ≡ getD starts (u + 1) 0
+pub turning-on : {starts nbrs reverse next : List ℕ} {u p : ℕ} → Turning starts nbrs reverse next u p
+    → p ≡ getD starts (u + 1) 0
     → TurnedBefore starts nbrs reverse next (u + 1)
 turning-on t e = rw (← e) (record {
   turned = t .turned;

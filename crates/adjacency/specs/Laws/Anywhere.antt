@@ -24,13 +24,15 @@ either false d e f = rw e
 any-in : (test : ℕ → Bool) (i : ℕ) (l : List ℕ) → anyIn test l ≡ not (eachOf (λ j v. not (test v)) i l)
 unfolding anyIn eachOf
 any-in test i [] = refl
-any-in test i (v ∷ l) = either (not (test v)) (eachOf (λ j w. not (test w)) (suc i) l) (sym (Bool·not-not (test v))) (any-in test (suc i) l)
+any-in test i (v ∷ l) =
+    either (not (test v)) (eachOf (λ j w. not (test w)) (suc i) l) (sym (Bool·not-not (test v))) (any-in test (suc i) l)
 
 any-from : (test : ℕ → ℕ → Bool) (u : ℕ) (g : Blocks) → anyFrom test u g ≡ not (eachFrom (λ w j v. not (test w v)) u g)
 unfolding anyFrom eachFrom
 any-from test u [] = refl
 any-from test u (b ∷ g) =
-    either (eachOf (λ j v. not (test u v)) 0 b) (eachFrom (λ w j v. not (test w v)) (suc u) g) (any-in (test u) 0 b) (any-from test (suc u) g)
+    either (eachOf (λ j v. not (test u v)) 0 b) (eachFrom (λ w j v. not (test w v)) (suc u) g) (any-in (test u) 0 b)
+    (any-from test (suc u) g)
 
 -- a test fails at a place
 fails : (ℕ → ℕ → Bool) → ℕ → ℕ → ℕ → Bool

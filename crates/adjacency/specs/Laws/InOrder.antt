@@ -16,13 +16,17 @@ pub order-start : (goal list : List ℕ) → length list ≡ length goal → InO
 order-start goal list e = record { upto = omega arith; size = e; same = refl }
 
 module _ {goal list : List ℕ} {i : ℕ} (o : InOrder goal list i) where
-  pub order-more : {next : List ℕ} (v : ℕ) → next ≡ set list i v → v ≡ getD goal i 0 → i < length goal → InOrder goal next (i + 1)
+  pub order-more : {next : List ℕ} (v : ℕ) → next ≡ set list i v → v ≡ getD goal i 0 → i < length goal
+      → InOrder goal next (i + 1)
   order-more v e g h =
       let s = o .size in
       rw e (record {
         upto = omega arith;
         size = length-set list i v ∙ s;
-        same = rw (add-one i) (take-suc-set list i v (omega arith) ∙ ap₂ (λ (l : List ℕ) (x : ℕ). l ++ (x ∷ [])) (o .same) g ∙ sym (take-suc goal i 0 h));
+        same =
+            rw (add-one i)
+            (take-suc-set list i v (omega arith) ∙ ap₂ (λ (l : List ℕ) (x : ℕ). l ++ (x ∷ [])) (o .same) g
+            ∙ sym (take-suc goal i 0 h));
       })
 
   pub order-end : length goal ≤ i → list ≡ goal

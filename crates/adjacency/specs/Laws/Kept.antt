@@ -29,5 +29,6 @@ module _ (g : Blocks) where
       let few = ltb-false 1 (mentions v (block g u)) (nowhere (doubled g) g .0 e u i v p) in
       let a = mention-found v (block g u) i (p .fits) (p .leads) in
       let b = mention-found v (block g u) j (q .fits) (q .leads) in
-      let c : mentions v (take i (block g u)) ≡ mentions v (take j (block g u)) = omega (arith, a .counted, b .counted) in
+      let c : mentions v (take i (block g u)) ≡ mentions v (take j (block g u)) =
+      omega (arith, a .counted, b .counted) in
       sym (a .found) ∙ ap (position v (block g u)) c ∙ b .found

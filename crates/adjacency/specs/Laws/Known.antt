@@ -17,11 +17,13 @@ use Rattle.adjacency.specs.Laws.Rows.{length-cut, flatten-cut}
 
 -- ---- the blocks' numbers in one list
 
-pub flatten-below : {k : ℕ} (g : Blocks) → 0 < k → ((u j v : ℕ) → Place g u j v → v < k) → (p : ℕ) → getD (flatten g) p 0 < k
+pub flatten-below : {k : ℕ} (g : Blocks) → 0 < k → ((u j v : ℕ) → Place g u j v → v < k) → (p : ℕ)
+    → getD (flatten g) p 0 < k
 unfolding flatten
 flatten-below [] some h p = some
 flatten-below {k} (b ∷ g) some h p =
-    go (decLt p (length b)) (flatten-below g some (λ u j v q. h (suc u) j v (record { fits = q .fits; leads = q .leads })) (p - length b))
+    go (decLt p (length b))
+    (flatten-below g some (λ u j v q. h (suc u) j v (record { fits = q .fits; leads = q .leads })) (p - length b))
   where
     go : Dec (p < length b) → getD (flatten g) (p - length b) 0 < k → getD (b ++ flatten g) p 0 < k
     go (yes l) r = rw (List·getD-append b (flatten g) 0 p l) (h 0 p (getD b p 0) (record { fits = l; leads = refl }))
@@ -36,14 +38,17 @@ unfolding stray
 not-stray g u v e = leb-false (length g) v (neither (leb (length g) v) (eqb v u) e .0)
 
 -- each neighbour is a vertex
-all-known : (g : Blocks) → anyPlace (stray g) g ≡ false → (p : ℕ) → p < length (flatten g) → getD (flatten g) p 0 < length g
+all-known : (g : Blocks) → anyPlace (stray g) g ≡ false → (p : ℕ) → p < length (flatten g)
+    → getD (flatten g) p 0 < length g
 unfolding flatten
 all-known [] e p h = absurd (omega arith)
 all-known (b ∷ g) e p h =
-    flatten-below (b ∷ g) (omega arith) (λ u j v q. not-stray (b ∷ g) u v (nowhere (stray (b ∷ g)) (b ∷ g) .0 e u j v q)) p
+    flatten-below (b ∷ g) (omega arith)
+    (λ u j v q. not-stray (b ∷ g) u v (nowhere (stray (b ∷ g)) (b ∷ g) .0 e u j v q)) p
 
 -- a graph in two arrays without a stray neighbour
-pub arrays-kept : {starts nbrs : List ℕ} → Divided starts nbrs → anyPlace (stray (cut starts nbrs)) (cut starts nbrs) ≡ false
+pub arrays-kept : {starts nbrs : List ℕ} → Divided starts nbrs
+    → anyPlace (stray (cut starts nbrs)) (cut starts nbrs) ≡ false
     → Arrays starts nbrs
 arrays-kept {starts} {nbrs} d e = record {
   divided = d;

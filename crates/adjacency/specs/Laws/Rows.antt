@@ -85,9 +85,11 @@ module _ {starts nbrs : List ℕ} (i : Divided starts nbrs) (u : ℕ) (k : u + 1
   pub row-size : length (block (cut starts nbrs) u) ≡ getD starts (u + 1) 0 - getD starts u 0
   row-size =
       let f = starts-fit i (u + 1) k in
-      ap length block-is ∙ length-take-le (getD starts (u + 1) 0 - getD starts u 0) (drop (getD starts u 0) nbrs) (simp length-drop (omega arith))
+      ap length block-is ∙ length-take-le (getD starts (u + 1) 0 - getD starts u 0) (drop (getD starts u 0) nbrs)
+      (simp length-drop (omega arith))
 
-  pub row-neighbour : (j : ℕ) → j < length (block (cut starts nbrs) u) → target (cut starts nbrs) u j ≡ getD nbrs (getD starts u 0 + j) 0
+  pub row-neighbour : (j : ℕ) → j < length (block (cut starts nbrs) u)
+      → target (cut starts nbrs) u j ≡ getD nbrs (getD starts u 0 + j) 0
   row-neighbour j h =
       let l = row-size in
       ap (λ b. getD b j 0) block-is
@@ -102,7 +104,8 @@ module _ {starts nbrs : List ℕ} (i : Divided starts nbrs) where
       let z : getD starts u 0 + (p - getD starts u 0) ≡ p = omega arith in
       record {
         fits = omega arith;
-        leads = row-neighbour i u (h .inside) (p - getD starts u 0) (omega arith) ∙ ap (λ (x : ℕ). getD nbrs x 0) z ∙ sym e;
+        leads =
+            row-neighbour i u (h .inside) (p - getD starts u 0) (omega arith) ∙ ap (λ (x : ℕ). getD nbrs x 0) z ∙ sym e;
       }
 
   pub place-held : {u j v : ℕ} → Place (cut starts nbrs) u j v
@@ -115,7 +118,8 @@ module _ {starts nbrs : List ℕ} (i : Divided starts nbrs) where
       (record { inside = k; low = omega arith; high = omega arith }, sym (p .leads) ∙ row-neighbour i u k j a)
 
 -- what a block mentions is a terminal
-pub place-known : {starts nbrs : List ℕ} {u j v : ℕ} → At starts nbrs u → Place (cut starts nbrs) u j v → v + 1 < length starts
+pub place-known : {starts nbrs : List ℕ} {u j v : ℕ} → At starts nbrs u → Place (cut starts nbrs) u j v
+    → v + 1 < length starts
 place-known {starts} {nbrs} {u} {j} at p =
     let (h, e) = place-held (at .arrays .divided) p in
     let f = starts-fit (at .arrays .divided) (u + 1) (h .inside) in
@@ -135,7 +139,8 @@ rise-last : (a : ℕ) (s : List ℕ) → Rise (a ∷ s) → a ≤ getD (a ∷ s)
 rise-last a [] r = omega arith
 rise-last a (b ∷ s) r = let i = rise-last b s (rise-tail a (b ∷ s) r) in let h = r 0 (omega arith) in omega arith
 
-flatten-from : (a : ℕ) (s l : List ℕ) → Rise (a ∷ s) → flatten (cut (a ∷ s) l) ≡ take (getD (a ∷ s) (length s) 0 - a) (drop a l)
+flatten-from : (a : ℕ) (s l : List ℕ) → Rise (a ∷ s)
+    → flatten (cut (a ∷ s) l) ≡ take (getD (a ∷ s) (length s) 0 - a) (drop a l)
 unfolding cut flatten
 flatten-from a [] l r = let e : a - a ≡ 0 = omega arith in rw e
 flatten-from a (b ∷ s) l r =
@@ -151,7 +156,8 @@ flatten-from a (b ∷ s) l r =
 pub flatten-cut : {starts nbrs : List ℕ} → Divided starts nbrs → flatten (cut starts nbrs) ≡ nbrs
 flatten-cut {starts} {nbrs} i = go starts (i .some) (i .first) (i .rising) (i .last)
   where
-    go : (s : List ℕ) → 0 < length s → getD s 0 0 ≡ 0 → Rise s → getD s (length s - 1) 0 ≡ length nbrs → flatten (cut s nbrs) ≡ nbrs
+    go : (s : List ℕ) → 0 < length s → getD s 0 0 ≡ 0 → Rise s → getD s (length s - 1) 0 ≡ length nbrs
+        → flatten (cut s nbrs) ≡ nbrs
     go [] h f r e = absurd (omega arith)
     go (a ∷ s) h f r e =
         let l : length (a ∷ s) - 1 ≡ length s = omega arith in

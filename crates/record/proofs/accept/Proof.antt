@@ -34,7 +34,8 @@ returns c =
     let at-r = c .before in
     let at-laid-out = at-r .before .before in
     let start = at-laid-out .before .before .before in
-    accept-unread (start .args .bytes .now) (start .args .list .now) (sym (ap shape (at-r .r .given .1)) ∙ at-laid-out .laid-out .ensures)
+    accept-unread (start .args .bytes .now) (start .args .list .now)
+    (sym (ap shape (at-r .r .given .1)) ∙ at-laid-out .laid-out .ensures)
 
 same-length : tie.Need-same-length
 same-length c = search needs
@@ -54,7 +55,9 @@ returns-3 c =
     let at-s = at-in-room .before .before .before in
     let at-laid-out = at-s .before .before in
     let start = at-laid-out .before .before .before in
-    accept-passed (at-in-room .in-room .ensures) (told-laid (start .args .bytes .now) (sym (ap shape (at-s .s .given .1)) ∙ at-laid-out .laid-out .ensures)) (ap verdict (c .enum-told .given .1))
+    accept-passed (at-in-room .in-room .ensures)
+    (told-laid (start .args .bytes .now) (sym (ap shape (at-s .s .given .1)) ∙ at-laid-out .laid-out .ensures))
+    (ap verdict (c .enum-told .given .1))
 
 pub accept-spec : {M : Type 1} → statement M
 accept-spec =

@@ -26,14 +26,16 @@ returns c =
     let at-r = c .before in
     let at-accept = at-r .before .before .before in
     let start = at-accept .before .before .before in
-    told-same (checkRules (start .args .bytes .now)) (sizesOf (start .args .bytes .now)) tt (sym (ap shape (at-r .r .given .1)) ∙ at-accept .accept .ensures .0)
+    told-same (checkRules (start .args .bytes .now)) (sizesOf (start .args .bytes .now)) tt
+    (sym (ap shape (at-r .r .given .1)) ∙ at-accept .accept .ensures .0)
 
 returns-2 : tie.Need-returns-2
 unfolding check
 returns-2 c =
     let at-accept = c .before .before .before in
     let start = at-accept .before .before .before in
-    untold-same (checkRules (start .args .bytes .now)) (sizesOf (start .args .bytes .now)) tt (sym (ap shape (c .enum-told .given .1)) ∙ at-accept .accept .ensures .0)
+    untold-same (checkRules (start .args .bytes .now)) (sizesOf (start .args .bytes .now)) tt
+    (sym (ap shape (c .enum-told .given .1)) ∙ at-accept .accept .ensures .0)
 
 pub check-spec : {M : Type 1} → statement M
 check-spec =

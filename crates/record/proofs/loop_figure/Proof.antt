@@ -31,7 +31,8 @@ add-more c =
     let at-s = c .before .before in
     let at-accept = at-s .before .before .before in
     let start = at-accept .before .before .before in
-    let s = check-sound (start .args .bytes .now) (sym (ap shape (at-s .s .given .1)) ∙ at-accept .accept .ensures .0) in
+    let s = check-sound (start .args .bytes .now)
+    (sym (ap shape (at-s .s .given .1)) ∙ at-accept .accept .ensures .0) in
     omega arith
 
 cast-t11 : tie.Need-cast-t11
@@ -39,7 +40,8 @@ cast-t11 c =
     let at-s = c .before .before in
     let at-accept = at-s .before .before .before in
     let start = at-accept .before .before .before in
-    let s = check-sound (start .args .bytes .now) (sym (ap shape (at-s .s .given .1)) ∙ at-accept .accept .ensures .0) in
+    let s = check-sound (start .args .bytes .now)
+    (sym (ap shape (at-s .s .given .1)) ∙ at-accept .accept .ensures .0) in
     small-fits (omega arith)
 
 cast-t12 : tie.Need-cast-t12
@@ -47,7 +49,8 @@ cast-t12 c =
     let at-s = c .before .before in
     let at-accept = at-s .before .before .before in
     let start = at-accept .before .before .before in
-    let s = check-sound (start .args .bytes .now) (sym (ap shape (at-s .s .given .1)) ∙ at-accept .accept .ensures .0) in
+    let s = check-sound (start .args .bytes .now)
+    (sym (ap shape (at-s .s .given .1)) ∙ at-accept .accept .ensures .0) in
     small-fits (omega arith)
 
 sub-t13 : tie.Need-sub-t13
@@ -55,7 +58,8 @@ sub-t13 c =
     let at-s = c .before .before in
     let at-accept = at-s .before .before .before in
     let start = at-accept .before .before .before in
-    let s = check-sound (start .args .bytes .now) (sym (ap shape (at-s .s .given .1)) ∙ at-accept .accept .ensures .0) in
+    let s = check-sound (start .args .bytes .now)
+    (sym (ap shape (at-s .s .given .1)) ∙ at-accept .accept .ensures .0) in
     difference-fits (at-s .s .given .0 .0 .m + 1) (at-s .s .given .0 .0 .n) (omega arith) (omega arith)
 
 returns : tie.Need-returns
@@ -64,7 +68,9 @@ returns c =
     let at-r = c .before in
     let at-accept = at-r .before .before .before in
     let start = at-accept .before .before .before in
-    told-same (checkRules (start .args .bytes .now)) (sizesOf (start .args .bytes .now)) (subℕ (wires (start .args .bytes .now) + 1) (terminals (start .args .bytes .now))) (sym (ap shape (at-r .r .given .1)) ∙ at-accept .accept .ensures .0)
+    told-same (checkRules (start .args .bytes .now)) (sizesOf (start .args .bytes .now))
+    (subℕ (wires (start .args .bytes .now) + 1) (terminals (start .args .bytes .now)))
+    (sym (ap shape (at-r .r .given .1)) ∙ at-accept .accept .ensures .0)
 
 returns-2 : tie.Need-returns-2
 unfolding loopFigure
@@ -75,7 +81,11 @@ returns-2 c =
     let e = sym (ap shape (at-s .s .given .1)) ∙ at-accept .accept .ensures .0 in
     let s = check-sound (start .args .bytes .now) e in
     let z : ℕ → ℕ → Answer ℤ = λ x y. answered (subℕ (x + 1) y) in
-    ap (λ (x : ℤ). answered x) (difference-told (at-s .s .given .0 .0 .m + 1) (at-s .s .given .0 .0 .n) (omega arith) (omega arith)) ∙ ap₂ z (s .is-m) (s .is-n) ∙ untold (subℕ (wires (start .args .bytes .now) + 1) (terminals (start .args .bytes .now))) (check-kept (start .args .bytes .now) e)
+    ap (λ (x : ℤ). answered x)
+    (difference-told (at-s .s .given .0 .0 .m + 1) (at-s .s .given .0 .0 .n) (omega arith) (omega arith))
+    ∙ ap₂ z (s .is-m) (s .is-n)
+    ∙ untold (subℕ (wires (start .args .bytes .now) + 1) (terminals (start .args .bytes .now)))
+    (check-kept (start .args .bytes .now) e)
 
 pub loop-figure-spec : {M : Type 1} → statement M
 loop-figure-spec =

@@ -22,7 +22,8 @@ mul-if1 c =
     let at-s = c .before .before in
     let at-accept = at-s .before .before .before .before in
     let start = at-accept .before .before .before .before in
-    let s = check-sound (start .args .bytes .now) (sym (ap shape (at-s .s .given .1)) ∙ at-accept .accept .ensures .0) in
+    let s = check-sound (start .args .bytes .now)
+    (sym (ap shape (at-s .s .given .1)) ∙ at-accept .accept .ensures .0) in
     omega arith
 
 same-length : tie.Need-same-length
@@ -35,7 +36,8 @@ returns c =
     let start = at-accept .before .before .before .before in
     let e = sym (ap shape (at-s .s .given .1)) ∙ at-accept .accept .ensures .0 in
     let s = check-sound (start .args .bytes .now) e in
-    let m = unpack-misfit (start .args .bytes .now) (start .args .list .now) (check-kept (start .args .bytes .now) e) (s .is-m) (λ same. omega arith) in
+    let m = unpack-misfit (start .args .bytes .now) (start .args .list .now) (check-kept (start .args .bytes .now) e)
+    (s .is-m) (λ same. omega arith) in
     (m .0, at-accept .accept .ensures .1)
 
 same-length-2 : tie.Need-same-length-2
@@ -45,8 +47,11 @@ returns-2 : tie.Need-returns-2
 returns-2 c =
     let at-r = c .before in
     let at-accept = at-r .before .before .before .before in
-    let start = at-accept .before .before .before .before in
-    (unpack-refused (start .args .bytes .now) (start .args .list .now) (sizesOf (start .args .bytes .now)) (sym (ap shape (at-r .r .given .1)) ∙ at-accept .accept .ensures .0) .0, at-accept .accept .ensures .1)
+    let start = at-accept .before .before .before .before in (
+      unpack-refused (start .args .bytes .now) (start .args .list .now) (sizesOf (start .args .bytes .now))
+          (sym (ap shape (at-r .r .given .1)) ∙ at-accept .accept .ensures .0) .0,
+      at-accept .accept .ensures .1,
+    )
 
 same-length-3 : tie.Need-same-length-3
 same-length-3 c = search needs
@@ -58,7 +63,8 @@ returns-3 c =
     let start = at-accept .before .before .before .before in
     let e = sym (ap shape (at-s .s .given .1)) ∙ at-accept .accept .ensures .0 in
     let s = check-sound (start .args .bytes .now) e in
-    let d = unpack-done (start .args .bytes .now) (start .args .list .now) (check-kept (start .args .bytes .now) e) (s .is-m) (omega arith) in
+    let d = unpack-done (start .args .bytes .now) (start .args .list .now) (check-kept (start .args .bytes .now) e)
+    (s .is-m) (omega arith) in
     (d .0, at-accept .accept .ensures .1)
 
 pub unpack-spec : {M : Type 1} → statement M

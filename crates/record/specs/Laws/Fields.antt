@@ -19,7 +19,8 @@ unfolding fieldsFrom
 length-fieldsFrom s start zero = refl
 length-fieldsFrom s start (suc k) = ap suc (length-fieldsFrom s (start + 12) k)
 
-pub fieldsFrom-at : (s : List Bool) (start k p : ℕ) → p < k → getD (fieldsFrom s start k) p 0 ≡ field 12 s (start + 12 * p)
+pub fieldsFrom-at : (s : List Bool) (start k p : ℕ) → p < k
+    → getD (fieldsFrom s start k) p 0 ≡ field 12 s (start + 12 * p)
 unfolding fieldsFrom
 fieldsFrom-at s start zero p h = absurd (omega arith)
 fieldsFrom-at s start (suc k) zero h = ap (field 12 s) (omega arith)
@@ -30,15 +31,19 @@ fieldsFrom-at s start (suc k) (suc p) h = fieldsFrom-at s (start + 12) k p (omeg
 pub length-fieldBits : (xs : List ℕ) → length (fieldBits xs) ≡ 12 * length xs
 unfolding fieldBits
 length-fieldBits [] = refl
-length-fieldBits (x ∷ xs) = length-append (toBits 12 x) (fieldBits xs) ∙ omega (arith, length-toBits 12 x, length-fieldBits xs)
+length-fieldBits (x ∷ xs) =
+    length-append (toBits 12 x) (fieldBits xs) ∙ omega (arith, length-toBits 12 x, length-fieldBits xs)
 
 pub fieldBits-append : (x y : List ℕ) → fieldBits (x ++ y) ≡ fieldBits x ++ fieldBits y
 unfolding fieldBits
 fieldBits-append [] y = refl
-fieldBits-append (v ∷ x) y = ap (λ (t : List Bool). toBits 12 v ++ t) (fieldBits-append x y) ∙ sym (append-assoc (toBits 12 v) (fieldBits x) (fieldBits y))
+fieldBits-append (v ∷ x) y =
+    ap (λ (t : List Bool). toBits 12 v ++ t) (fieldBits-append x y)
+    ∙ sym (append-assoc (toBits 12 v) (fieldBits x) (fieldBits y))
 
 -- fields that were read write the bits that they were read from
-pub fieldBits-from : (s : List Bool) (start k : ℕ) → start + 12 * k ≤ length s → fieldBits (fieldsFrom s start k) ≡ take (12 * k) (drop start s)
+pub fieldBits-from : (s : List Bool) (start k : ℕ) → start + 12 * k ≤ length s
+    → fieldBits (fieldsFrom s start k) ≡ take (12 * k) (drop start s)
 unfolding fieldBits fieldsFrom field
 fieldBits-from s start zero h = refl
 fieldBits-from s start (suc k) h =
@@ -53,9 +58,11 @@ pub from-fieldBits : (xs : List ℕ) (s t : List Bool) (start : ℕ) → length 
 unfolding fieldBits fieldsFrom
 from-fieldBits [] s t start e h = refl
 from-fieldBits (x ∷ xs) s t start e h =
-    let f : length (s ++ toBits 12 x) ≡ start + 12 = length-append s (toBits 12 x) ∙ omega (arith, length-toBits 12 x) in
+    let f : length (s ++ toBits 12 x) ≡ start + 12 =
+    length-append s (toBits 12 x) ∙ omega (arith, length-toBits 12 x) in
     rw (append-assoc (toBits 12 x) (fieldBits xs) t)
     (ap₂ (λ (y : ℕ) (ys : List ℕ). y ∷ ys)
     (field-laid 12 x s (fieldBits xs ++ t) start e ∙ mod-eq-of-lt (h 0))
-    (ap (λ (r : List Bool). fieldsFrom r (start + 12) (length xs)) (sym (append-assoc s (toBits 12 x) (fieldBits xs ++ t)))
+    (ap (λ (r : List Bool). fieldsFrom r (start + 12) (length xs))
+    (sym (append-assoc s (toBits 12 x) (fieldBits xs ++ t)))
     ∙ from-fieldBits xs (s ++ toBits 12 x) t (start + 12) f (λ p. h (suc p))))

@@ -34,7 +34,8 @@ pub data Numbered : List Rule → Type 0 where
   rule : {k : ℕ} {b : Bool} {rules : List Rule} → Numbered rules → Numbered ((suc k, b) ∷ rules)
 
 -- where none is broken, the first is not, nor one of the rest
-pub rule-kept : (k : ℕ) (b : Bool) (rules : List Rule) → firstBroken ((suc k, b) ∷ rules) ≡ 0 → (b ≡ false) × (firstBroken rules ≡ 0)
+pub rule-kept : (k : ℕ) (b : Bool) (rules : List Rule) → firstBroken ((suc k, b) ∷ rules) ≡ 0
+    → (b ≡ false) × (firstBroken rules ≡ 0)
 unfolding firstBroken
 rule-kept k true rules e = absurd (omega arith)
 rule-kept k false rules e = (refl, e)
@@ -42,7 +43,8 @@ rule-kept k false rules e = (refl, e)
 -- ---- one list of rules and then another
 
 -- the first list is unbroken
-pub append-kept : {a : List Rule} → Numbered a → (c : List Rule) → firstBroken a ≡ 0 → firstBroken (a ++ c) ≡ firstBroken c
+pub append-kept : {a : List Rule} → Numbered a → (c : List Rule) → firstBroken a ≡ 0
+    → firstBroken (a ++ c) ≡ firstBroken c
 append-kept none c e = refl
 append-kept (rule {k} {b} {rules} r) c e =
     let (f, g) = rule-kept k b rules e in
@@ -56,7 +58,8 @@ append-broken ((n, true) ∷ a) c k e = e
 append-broken ((n, false) ∷ a) c k e = append-broken a c k e
 
 -- neither is broken
-pub both-kept : {a : List Rule} → Numbered a → (c : List Rule) → firstBroken (a ++ c) ≡ 0 → (firstBroken a ≡ 0) × (firstBroken c ≡ 0)
+pub both-kept : {a : List Rule} → Numbered a → (c : List Rule) → firstBroken (a ++ c) ≡ 0
+    → (firstBroken a ≡ 0) × (firstBroken c ≡ 0)
 unfolding firstBroken
 both-kept none c e = (refl, e)
 both-kept (rule {k} {b} {rules} r) c e =

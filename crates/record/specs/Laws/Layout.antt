@@ -1,4 +1,5 @@
--- The layout of a record that order R does not refuse: where D and the fields stand, and how many blocks and places they make.
+-- The layout of a record that order R does not refuse: where D and the fields stand, and how many blocks and places
+-- they make.
 use mathlib.Core.Path.{_≡_, sym, ap, _∙_}
 use mathlib.Core.List.{List}
 use Prim.Native.Nat.{ℕ, _+_, _-_, _*_, _≤_, _<_}
@@ -26,7 +27,8 @@ module _ (bytes : List ℕ) where
   unfolding fields
   length-fields = length-fieldsFrom (bits bytes) (28 + (terminals bytes + 2 * wires bytes)) (2 * wires bytes)
 
-  pub fields-at : (p : ℕ) → p < 2 * wires bytes → getD (fields bytes) p 0 ≡ field 12 (bits bytes) (28 + (terminals bytes + 2 * wires bytes) + 12 * p)
+  pub fields-at : (p : ℕ) → p < 2 * wires bytes
+      → getD (fields bytes) p 0 ≡ field 12 (bits bytes) (28 + (terminals bytes + 2 * wires bytes) + 12 * p)
   unfolding fields
   fields-at p h = fieldsFrom-at (bits bytes) (28 + (terminals bytes + 2 * wires bytes)) (2 * wires bytes) p h
 
@@ -54,7 +56,8 @@ module _ {bytes : List ℕ} (s : Shaped bytes) where
   unfolding usedBits
   unary-held = omega (arith, used-held)
 
-  pub field-held : (p : ℕ) → p < 2 * wires bytes → 28 + (terminals bytes + 2 * wires bytes) + 12 * p + 12 ≤ 8 * length bytes
+  pub field-held : (p : ℕ) → p < 2 * wires bytes
+      → 28 + (terminals bytes + 2 * wires bytes) + 12 * p + 12 ≤ 8 * length bytes
   unfolding usedBits
   field-held p h = omega (arith, used-held)
 
@@ -65,7 +68,8 @@ module _ {bytes : List ℕ} (s : Shaped bytes) where
   unary-is = held bytes 28 (terminals bytes + 2 * wires bytes) (le-leb _ _ unary-held)
 
   pub length-unary : length (unary bytes) ≡ terminals bytes + 2 * wires bytes
-  length-unary = ap length unary-is ∙ length-take-le _ _ (simp length-drop (omega (arith, unary-held, length-bits bytes)))
+  length-unary =
+      ap length unary-is ∙ length-take-le _ _ (simp length-drop (omega (arith, unary-held, length-bits bytes)))
 
   -- D has a zero for each field
   pub unary-whole : length (unary bytes) ≡ count (unary bytes) + length (fields bytes)

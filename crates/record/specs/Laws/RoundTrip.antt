@@ -1,5 +1,5 @@
--- Records and blocks, each read from and written to the other: an accepted record is the record of its blocks, and blocks that fit are
--- the blocks of their record.
+-- Records and blocks, each read from and written to the other: an accepted record is the record of its blocks, and
+-- blocks that fit are the blocks of their record.
 use mathlib.Core.Path.{_≡_, refl, sym, ap, ap₂, _∙_}
 use mathlib.Core.Bool.{Bool, true, false}
 use mathlib.Core.List.{List, [], _∷_, _++_, append-assoc, flatten}
@@ -17,14 +17,16 @@ use Rattle.bits.specs.Laws.Fields.{field-laid}
 use Rattle.bits.specs.Laws.Packing.{length-pack, bits-pack, pack-bytes, bits-injective}
 use Rattle.bits.specs.Laws.Rank.{held}
 use Rattle.graph.specs.Graph.{Blocks, Place}
-use Rattle.record.specs.Record.{terminals, wires, usedBits, recordLength, unary, fields, parts, blocks, unaryOf, fieldBits, recordBits, recordOf}
+use Rattle.record.specs.Record.{terminals, wires, usedBits, recordLength, unary, fields, parts, blocks, unaryOf}
+use Rattle.record.specs.Record.{fieldBits, recordBits, recordOf}
 use Rattle.record.specs.Rules.{beginsWithZero, spareSet}
 use Rattle.record.specs.Operations.{Accepted}
 use Rattle.record.specs.Laws.First.{Shaped, checked}
 use Rattle.record.specs.Laws.Fields.{length-fieldBits, fieldBits-from, from-fieldBits}
 use Rattle.record.specs.Laws.Layout.{length-fields, used-held, unary-is, unary-whole, length-blocks}
 use Rattle.adjacency.specs.Laws.Known.{flatten-below}
-use Rattle.record.specs.Laws.Unary.{length-unaryOf, count-unaryOf, begins-unaryOf, parts-unaryOf, unaryOf-parts, flatten-parts}
+use Rattle.record.specs.Laws.Unary.{length-unaryOf, count-unaryOf, begins-unaryOf, parts-unaryOf, unaryOf-parts}
+use Rattle.record.specs.Laws.Unary.{flatten-parts}
 
 -- the number of used bits
 abbrev used : List ℕ → ℕ
@@ -45,7 +47,8 @@ joined : (s : List Bool) (k l : ℕ)
 joined s k l =
     let e : take (28 + k + l) s ≡ take 13 s ++ take 15 (drop 13 s) ++ take k (drop 28 s) ++ take l (drop (28 + k) s) =
     take-add (28 + k) l s
-    ∙ ap (λ (t : List Bool). t ++ take l (drop (28 + k) s)) (take-add 28 k s ∙ ap (λ (t : List Bool). t ++ take k (drop 28 s)) (take-add 13 15 s)) in
+    ∙ ap (λ (t : List Bool). t ++ take l (drop (28 + k) s))
+    (take-add 28 k s ∙ ap (λ (t : List Bool). t ++ take k (drop 28 s)) (take-add 13 15 s)) in
     sym (e ∙ simp append-assoc)
 
 module _ {bytes : List ℕ} (s : Shaped bytes) where
@@ -62,17 +65,24 @@ module _ {bytes : List ℕ} (s : Shaped bytes) where
 
   terminals-bits : toBits 13 (length (blocks bytes)) ≡ take 13 (bits bytes)
   unfolding terminals field usedBits
-  terminals-bits = ap (toBits 13) (length-blocks s) ∙ toBits-value 13 (take 13 (bits bytes)) (length-take-le 13 (bits bytes) (omega (arith, room)))
+  terminals-bits =
+      ap (toBits 13) (length-blocks s)
+      ∙ toBits-value 13 (take 13 (bits bytes)) (length-take-le 13 (bits bytes) (omega (arith, room)))
 
   wires-bits : toBits 15 (length (flatten (blocks bytes)) / 2) ≡ take 15 (drop 13 (bits bytes))
   unfolding wires field usedBits
   wires-bits =
-      let e : length (flatten (blocks bytes)) / 2 ≡ wires bytes = omega (arith, ap length flatten-blocks, length-fields bytes) in
-      ap (toBits 15) e ∙ toBits-value 15 (take 15 (drop 13 (bits bytes))) (length-take-le 15 (drop 13 (bits bytes)) (simp length-drop (omega (arith, room))))
+      let e : length (flatten (blocks bytes)) / 2 ≡ wires bytes =
+      omega (arith, ap length flatten-blocks, length-fields bytes) in
+      ap (toBits 15) e ∙ toBits-value 15 (take 15 (drop 13 (bits bytes)))
+      (length-take-le 15 (drop 13 (bits bytes)) (simp length-drop (omega (arith, room))))
 
-  fields-bits : fieldBits (flatten (blocks bytes)) ≡ take (12 * (2 * wires bytes)) (drop (28 + (terminals bytes + 2 * wires bytes)) (bits bytes))
+  fields-bits : fieldBits (flatten (blocks bytes))
+      ≡ take (12 * (2 * wires bytes)) (drop (28 + (terminals bytes + 2 * wires bytes)) (bits bytes))
   unfolding fields usedBits
-  fields-bits = ap fieldBits flatten-blocks ∙ fieldBits-from (bits bytes) (28 + (terminals bytes + 2 * wires bytes)) (2 * wires bytes) room
+  fields-bits =
+      ap fieldBits flatten-blocks
+      ∙ fieldBits-from (bits bytes) (28 + (terminals bytes + 2 * wires bytes)) (2 * wires bytes) room
 
   -- the used bits are what the blocks write
   recordBits-blocks : recordBits (blocks bytes) ≡ take (used bytes) (bits bytes)
@@ -96,7 +106,8 @@ module _ {bytes : List ℕ} (s : Shaped bytes) where
   unfolding recordLength
   bits-again e =
       let c : List Bool = recordBits (blocks bytes) in
-      let k : 8 * ((length c + 7) / 8) - length c ≡ 8 * length bytes - used bytes = rw (length-recordBits-blocks, s .sized) in
+      let k : 8 * ((length c + 7) / 8) - length c ≡ 8 * length bytes - used bytes =
+      rw (length-recordBits-blocks, s .sized) in
       bits-pack c
       ∙ ap₂ _++_ recordBits-blocks (ap (λ (j : ℕ). replicate j false) k ∙ sym (rest-bits e))
       ∙ take-append-drop (used bytes) (bits bytes)
@@ -141,7 +152,8 @@ module _ {g : Blocks} {m : ℕ} (f : Fits g m) where
   unfolding recordOf recordLength recordBits
   length-recordOf = length-pack (recordBits g) ∙ ap (λ (k : ℕ). (k + 7) / 8) length-recordBits
 
-  bits-recordOf : bits (recordOf g) ≡ toBits 13 (length g) ++ (toBits 15 m ++ (unaryOf g ++ (fieldBits (flatten g) ++ fill g)))
+  bits-recordOf : bits (recordOf g) ≡ toBits 13 (length g)
+      ++ (toBits 15 m ++ (unaryOf g ++ (fieldBits (flatten g) ++ fill g)))
   unfolding recordOf recordBits fill
   bits-recordOf =
       bits-pack (recordBits g)
@@ -169,7 +181,8 @@ module _ {g : Blocks} {m : ℕ} (f : Fits g m) where
   unfolding wires
   wires-recordOf =
       ap (λ (s : List Bool). field 15 s 13) bits-recordOf
-      ∙ field-laid 15 m (toBits 13 (length g)) _ 13 (length-toBits 13 (length g)) ∙ mod-eq-of-lt (omega (arith, f .wires-fit))
+      ∙ field-laid 15 m (toBits 13 (length g)) _ 13 (length-toBits 13 (length g))
+      ∙ mod-eq-of-lt (omega (arith, f .wires-fit))
 
   pub unary-recordOf : unary (recordOf g) ≡ unaryOf g
   unfolding unary recordLength usedBits
@@ -183,8 +196,16 @@ module _ {g : Blocks} {m : ℕ} (f : Fits g m) where
   pub fields-recordOf : fields (recordOf g) ≡ flatten g
   unfolding fields
   fields-recordOf =
-      rw (terminals-recordOf, wires-recordOf, bits-front, ← append-assoc (front (length g) m) (unaryOf g) (fieldBits (flatten g) ++ fill g), ← f .even)
-      (from-fieldBits (flatten g) (front (length g) m ++ unaryOf g) (fill g) _ length-before (flatten-below g (lit< tt) (f .small)))
+      rw (
+        terminals-recordOf,
+        wires-recordOf,
+        bits-front,
+        ← append-assoc (front (length g) m) (unaryOf g)
+            (fieldBits (flatten g) ++ fill g),
+        ← f .even,
+      )
+      (from-fieldBits (flatten g) (front (length g) m ++ unaryOf g) (fill g) _ length-before
+      (flatten-below g (lit< tt) (f .small)))
 
   pub blocks-recordOf : blocks (recordOf g) ≡ g
   unfolding blocks

@@ -68,7 +68,8 @@ told-sound bytes e =
     sound-of bytes f (ap (λ (x : Sizes). x .n) g) (ap (λ (x : Sizes). x .m) g)
 
 -- the sizes that order R and rule 5 hand on
-pub told-laid : (bytes : List ℕ) {s : Sizes} → answered s ≡ tried (layoutRules bytes) (sizesOf bytes) → Laid bytes (s .n) (s .m)
+pub told-laid : (bytes : List ℕ) {s : Sizes} → answered s ≡ tried (layoutRules bytes) (sizesOf bytes)
+    → Laid bytes (s .n) (s .m)
 unfolding layoutRules
 told-laid bytes e =
     let (f, g) = untold-back (firstBroken (layoutRules bytes)) (sizesOf bytes) e in

@@ -28,7 +28,8 @@ module _ {bytes : List ℕ} {n m : ℕ} (s : Sound bytes n m) {u : ℕ} (h : u <
       let f = starts-fit 0 (unary bytes) (u + 1) (omega arith) in
       omega arith
 
-  pub span-size : length (block (blocks bytes) u) ≡ getD (startsOf (unary bytes)) (u + 1) 0 - getD (startsOf (unary bytes)) u 0
+  pub span-size : length (block (blocks bytes) u)
+      ≡ getD (startsOf (unary bytes)) (u + 1) 0 - getD (startsOf (unary bytes)) u 0
   span-size = let e = s .is-n in degree-starts (sound-shaped s) u (omega arith)
 
   -- the place of its one in D
@@ -44,5 +45,6 @@ module _ {bytes : List ℕ} {n m : ℕ} (s : Sound bytes n m) {u : ℕ} (h : u <
   unfolding blocks
   span-neighbour j k =
       ap (λ (x : List ℕ). getD x j 0) (part-block (unary bytes) (sound-shaped s .begins) (fields bytes) u counted)
-      ∙ getD-take (getD (startsOf (unary bytes)) (u + 1) 0 - getD (startsOf (unary bytes)) u 0) (drop (getD (startsOf (unary bytes)) u 0) (fields bytes)) j 0 k
+      ∙ getD-take (getD (startsOf (unary bytes)) (u + 1) 0 - getD (startsOf (unary bytes)) u 0)
+      (drop (getD (startsOf (unary bytes)) u 0) (fields bytes)) j 0 k
       ∙ getD-drop (getD (startsOf (unary bytes)) u 0) (fields bytes) j 0

@@ -31,7 +31,8 @@ module _ {A : Type 0} where
   untold-back (suc j) a e = absurd (let z : _≡_ {A = ℕ} 0 1 = cc in omega arith)
 
 -- a refusal by the first rules is the refusal by all
-pub told-append : {A B : Type 0} (first more : List Rule) (a : A) (b : B) {k : ℕ} → refused k ≡ tried first a → refused k ≡ tried (first ++ more) b
+pub told-append : {A B : Type 0} (first more : List Rule) (a : A) (b : B) {k : ℕ} → refused k ≡ tried first a
+    → refused k ≡ tried (first ++ more) b
 told-append first more a b e =
     let (i, f, g) = told-back (firstBroken first) a e in
     rw g (told b (append-broken first more i f))
@@ -53,7 +54,8 @@ module _ {A : Type 0} where
   unfolding otherwise
   otherwise-told a e = rw e
 
-  pub then-told : (rules : List Rule) (a : Answer A) {k : ℕ} → firstBroken rules ≡ suc k → refused (suc k) ≡ triedThen rules a
+  pub then-told : (rules : List Rule) (a : Answer A) {k : ℕ} → firstBroken rules ≡ suc k
+      → refused (suc k) ≡ triedThen rules a
   then-told rules a e = otherwise-told a e
 
   pub then-untold : (rules : List Rule) (a : Answer A) → firstBroken rules ≡ 0 → a ≡ triedThen rules a
@@ -61,13 +63,15 @@ module _ {A : Type 0} where
   then-untold rules a e = rw e
 
   -- the refusal of the first rules, by an operation that tells another value
-  pub then-refused : {B : Type 0} (first more : List Rule) (b : B) (a : Answer A) {k : ℕ} → refused k ≡ tried first b → refused k ≡ triedThen (first ++ more) a
+  pub then-refused : {B : Type 0} (first more : List Rule) (b : B) (a : Answer A) {k : ℕ} → refused k ≡ tried first b
+      → refused k ≡ triedThen (first ++ more) a
   then-refused first more b a e =
       let (i, f, g) = told-back (firstBroken first) b e in
       rw g (then-told (first ++ more) a (append-broken first more i f))
 
   -- the first rules are kept
-  pub then-passed : {first : List Rule} (more : List Rule) (a : Answer A) → Numbered first → firstBroken first ≡ 0 → triedThen more a ≡ triedThen (first ++ more) a
+  pub then-passed : {first : List Rule} (more : List Rule) (a : Answer A) → Numbered first → firstBroken first ≡ 0
+      → triedThen more a ≡ triedThen (first ++ more) a
   then-passed more a n e = ap (λ (j : ℕ). otherwise j a) (sym (append-kept n more e))
 
 -- ---- the result buffer afterwards
@@ -75,7 +79,9 @@ module _ {A : Type 0} where
 module _ {A : Type 0} (rules : List Rule) (written former : A) where
   pub buffer-kept : {k : ℕ} → firstBroken rules ≡ suc k → former ≡ bufferAfter rules written former
   unfolding bufferAfter
-  buffer-kept e = let f : eqb (firstBroken rules) 0 ≡ false = ne-eqb (firstBroken rules) 0 (λ z. omega arith) in rw (f, bufferAfter)
+  buffer-kept e =
+      let f : eqb (firstBroken rules) 0 ≡ false = ne-eqb (firstBroken rules) 0 (λ z. omega arith) in
+      rw (f, bufferAfter)
 
   pub buffer-written : firstBroken rules ≡ 0 → written ≡ bufferAfter rules written former
   unfolding bufferAfter

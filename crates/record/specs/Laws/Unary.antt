@@ -24,12 +24,19 @@ pub length-unaryOf : (g : Blocks) → length (unaryOf g) ≡ length g + length (
 unfolding unaryOf layOut flatten
 length-unaryOf [] = refl
 length-unaryOf (b ∷ g) =
-    omega (arith, length-append (replicate (length b) false) (unaryOf g), length-replicate (length b) false, length-append b (flatten g), length-unaryOf g)
+    omega (
+      arith,
+      length-append (replicate (length b) false) (unaryOf g),
+      length-replicate (length b) false,
+      length-append b (flatten g),
+      length-unaryOf g,
+    )
 
 pub count-unaryOf : (g : Blocks) → count (unaryOf g) ≡ length g
 unfolding unaryOf layOut count
 count-unaryOf [] = refl
-count-unaryOf (b ∷ g) = omega (arith, count-append (replicate (length b) false) (unaryOf g), count-zeros (length b), count-unaryOf g)
+count-unaryOf (b ∷ g) =
+    omega (arith, count-append (replicate (length b) false) (unaryOf g), count-zeros (length b), count-unaryOf g)
 
 pub begins-unaryOf : (g : Blocks) → beginsWithZero (unaryOf g) ≡ false
 unfolding unaryOf layOut beginsWithZero
@@ -52,7 +59,8 @@ pub parts-unaryOf : (g : Blocks) → parts (unaryOf g) (flatten g) ≡ g
 unfolding parts unaryOf layOut flatten
 parts-unaryOf [] = refl
 parts-unaryOf (b ∷ g) =
-    let e : zeros (replicate (length b) false ++ unaryOf g) ≡ length b = zeros-run (length b) (unaryOf g) (zeros-none (unaryOf g) (begins-unaryOf g)) in
+    let e : zeros (replicate (length b) false ++ unaryOf g) ≡ length b =
+    zeros-run (length b) (unaryOf g) (zeros-none (unaryOf g) (begins-unaryOf g)) in
     rw (e, take-at b (flatten g) (length b) refl, drop-at b (flatten g) (length b) refl)
     (ap (λ (h : Blocks). b ∷ h) (parts-run (length b) (unaryOf g) (flatten g) ∙ parts-unaryOf g))
 

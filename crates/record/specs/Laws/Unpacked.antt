@@ -29,7 +29,8 @@ use Rattle.record.specs.Laws.Sounded.{sound-shaped}
 -- ---- the arrays
 
 -- the starts and the fields are read
-pub arrays-read : {bytes starts nbrs : List ℕ} {n m k : ℕ} → Sound bytes n m → k ≡ 2 * m → starts ≡ startsOf (unary bytes)
+pub arrays-read : {bytes starts nbrs : List ℕ} {n m k : ℕ} → Sound bytes n m → k ≡ 2 * m
+    → starts ≡ startsOf (unary bytes)
     → nbrs ≡ fieldsFrom (bits bytes) (28 + (n + 2 * m)) k → ArraysOf bytes starts nbrs n m
 unfolding fields
 arrays-read s h e f = record { sound = s; are-starts = e; are-fields = f ∙ rw (h, s .is-n, s .is-m) }
@@ -70,7 +71,8 @@ module _ {bytes starts nbrs : List ℕ} {n m : ℕ} (r : ArraysOf bytes starts n
 
 -- ---- an accepted record
 
-pub arrays-of : {bytes starts nbrs : List ℕ} {n m : ℕ} → ArraysOf bytes starts nbrs n m → Accepted bytes → Arrays starts nbrs
+pub arrays-of : {bytes starts nbrs : List ℕ} {n m : ℕ} → ArraysOf bytes starts nbrs n m → Accepted bytes
+    → Arrays starts nbrs
 arrays-of {bytes} r a =
     arrays-kept (divided-of r) (ap (λ (x : Blocks). anyPlace (stray x) x) (graph-of r) ∙ checked a .no-stray)
 
@@ -80,12 +82,14 @@ laid-kept : {bytes : List ℕ} {n m : ℕ} → Laid bytes n m → firstBroken (l
 unfolding layoutRules firstBroken
 laid-kept {bytes} l = append-kept (order-numbered bytes) _ (l .sound .kept) ∙ first-kept 5 [] (l .clear)
 
-pub check-left : {bytes : List ℕ} {n m : ℕ} → Laid bytes n m → firstBroken (checkRules bytes) ≡ firstBroken (placeRules (blocks bytes))
+pub check-left : {bytes : List ℕ} {n m : ℕ} → Laid bytes n m
+    → firstBroken (checkRules bytes) ≡ firstBroken (placeRules (blocks bytes))
 unfolding checkRules
 check-left {bytes} l = append-kept (layout-numbered bytes) (placeRules (blocks bytes)) (laid-kept l)
 
 -- so what is said of the arrays' graph is said of the record
-pub check-told : {bytes starts nbrs : List ℕ} {n m : ℕ} {a : Answer (Unit {0})} → Laid bytes n m → ArraysOf bytes starts nbrs n m
+pub check-told : {bytes starts nbrs : List ℕ} {n m : ℕ} {a : Answer (Unit {0})} → Laid bytes n m
+    → ArraysOf bytes starts nbrs n m
     → a ≡ checkGraph (cut starts nbrs) → a ≡ check bytes
 unfolding check checkGraph
 check-told {bytes} l r e = e ∙ ap checkGraph (graph-of r) ∙ ap (λ (k : ℕ). outcome k tt) (sym (check-left l))

@@ -31,16 +31,26 @@ get-requires-3 : tie.Need-get-requires-3 Inv-loop μ-loop
 get-requires-3 c κs = span-place (c .before .loop .inv .span) (c .loop-test .taken) .0
 
 get-requires-4 : tie.Need-get-requires-4 Inv-loop μ-loop
-get-requires-4 c κs = let k = span-known (c .before .before .before .loop .inv .span) (c .before .before .loop-test .taken) (c .before .get3 .ensures .0) in omega arith
+get-requires-4 c κs =
+    let k = span-known (c .before .before .before .loop .inv .span) (c .before .before .loop-test .taken)
+    (c .before .get3 .ensures .0) in
+    omega arith
 
 same-length : tie.Need-same-length Inv-loop μ-loop
 same-length c = omega arith
 
 returns : tie.Need-returns Inv-loop μ-loop
-returns c = marked-found (c .before .before .before .before .before .loop .inv) (c .before .before .before .before .loop-test .taken) (c .before .before .before .get3 .ensures .0) (sym (c .before .get4 .ensures .0) ∙ c .if1 .taken)
+returns c =
+    marked-found (c .before .before .before .before .before .loop .inv)
+    (c .before .before .before .before .loop-test .taken) (c .before .before .before .get3 .ensures .0)
+    (sym (c .before .get4 .ensures .0) ∙ c .if1 .taken)
 
 put-requires : tie.Need-put-requires Inv-loop μ-loop
-put-requires c κs = let k = span-known (c .before .before .before .before .before .before .loop .inv .span) (c .before .before .before .before .before .loop-test .taken) (c .before .before .before .before .get3 .ensures .0) in omega arith
+put-requires c κs =
+    let k = span-known (c .before .before .before .before .before .before .loop .inv .span)
+    (c .before .before .before .before .before .loop-test .taken)
+    (c .before .before .before .before .get3 .ensures .0) in
+    omega arith
 
 add-p : tie.Need-add-p Inv-loop μ-loop
 add-p c = omega arith
@@ -53,7 +63,9 @@ loop-again c =
     let loop = c .before .before .before .before .before .before .before .before .before .loop in
     let loop-test = c .before .before .before .before .before .before .before .before .loop-test in
     let get3 = c .before .before .before .before .before .before .before .get3 in
-    marked-more (loop .inv) (loop-test .taken) (get3 .ensures .0) (λ e. c .before .before .before .before .if1 .left (c .before .before .before .before .before .get4 .ensures .0 ∙ e)) (c .before .before .put .ensures)
+    marked-more (loop .inv) (loop-test .taken) (get3 .ensures .0)
+    (λ e. c .before .before .before .before .if1 .left
+    (c .before .before .before .before .before .get4 .ensures .0 ∙ e)) (c .before .before .put .ensures)
 
 same-length-2 : tie.Need-same-length-2 Inv-loop μ-loop
 same-length-2 c = omega arith

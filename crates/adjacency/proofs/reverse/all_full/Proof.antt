@@ -34,7 +34,8 @@ returns c =
     let at-get = at-get2 .before in
     let at-loop = at-get .before .before in
     let k = at-loop .loop .inv .number in
-    nay (λ e. c .if1 .taken (at-get .get .ensures .0 ∙ e .ends (at-loop .loop .v) (omega arith) ∙ sym (at-get2 .get2 .ensures .0)))
+    nay (λ e. c .if1 .taken
+    (at-get .get .ensures .0 ∙ e .ends (at-loop .loop .v) (omega arith) ∙ sym (at-get2 .get2 .ensures .0)))
 
 add-v : tie.Need-add-v Inv-loop μ-loop
 add-v c = omega arith

@@ -12,7 +12,8 @@ use Rattle.adjacency.proofs.reverse.turn_block.Statement.{statement}
 use Rattle.adjacency.proofs.reverse.turn_block.Tie as tie
 
 abbrev Inv-loop : tie.InvT-loop
-Inv-loop starts nbrs u reverse₀ next₀ end p₀ reverse next p = (Turning starts nbrs reverse next u p) × (Along starts u end p)
+Inv-loop starts nbrs u reverse₀ next₀ end p₀ reverse next p =
+    (Turning starts nbrs reverse next u p) × (Along starts u end p)
 
 abbrev μ-loop : tie.MeasureT-loop
 μ-loop starts nbrs u reverse₀ next₀ end p₀ reverse next p = end - p

@@ -48,7 +48,8 @@ loop-again c =
     let at-loop-test = at-stray-in .before in
     let at-loop = at-loop-test .before in
     let start = at-loop .before .before .before in
-    clean-more (start .pre) (at-loop .loop .inv) (at-loop-test .loop-test .taken) (told-no (at-stray-in .stray-in .ensures) (c .if1 .left))
+    clean-more (start .pre) (at-loop .loop .inv) (at-loop-test .loop-test .taken)
+    (told-no (at-stray-in .stray-in .ensures) (c .if1 .left))
 
 returns-2 : tie.Need-returns-2 Inv-loop μ-loop
 returns-2 c =

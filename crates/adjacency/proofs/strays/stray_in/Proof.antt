@@ -57,7 +57,8 @@ returns-2 c =
     let at-get3 = at-if1 .before in
     let at-loop-test = at-get3 .before in
     let at-loop = at-loop-test .before in
-    own-neighbour (at-loop .loop .inv) (at-loop-test .loop-test .taken) (at-get3 .get3 .ensures .0) (at-if1 .if1 .left) (c .if2 .taken)
+    own-neighbour (at-loop .loop .inv) (at-loop-test .loop-test .taken) (at-get3 .get3 .ensures .0) (at-if1 .if1 .left)
+    (c .if2 .taken)
 
 add-p : tie.Need-add-p Inv-loop μ-loop
 add-p c = omega arith
@@ -71,7 +72,8 @@ loop-again c =
     let at-get3 = at-if1 .before in
     let at-loop-test = at-get3 .before in
     let at-loop = at-loop-test .before in
-    strayless-more (at-loop .loop .inv) (at-loop-test .loop-test .taken) (at-get3 .get3 .ensures .0) (at-if1 .if1 .left) (c .if2 .left)
+    strayless-more (at-loop .loop .inv) (at-loop-test .loop-test .taken) (at-get3 .get3 .ensures .0) (at-if1 .if1 .left)
+    (c .if2 .left)
 
 returns-3 : tie.Need-returns-3 Inv-loop μ-loop
 returns-3 c =

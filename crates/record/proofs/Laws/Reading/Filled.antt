@@ -32,9 +32,19 @@ module _ {d : List Bool} {starts : List ℕ} {i k : ℕ} (f : Filling d starts i
       let c : drop i d ≡ true ∷ drop (suc i) d = drop-cons d i false h ∙ ap (λ (x : Bool). x ∷ drop (suc i) d) e in
       record {
         upto = omega arith;
-        ones = rw (add-one i, take-suc d i false h, count-append (take i d) (getD d i false ∷ []), e) (ap (λ (x : ℕ). x + 1) (f .ones));
+        ones =
+            rw (add-one i, take-suc d i false h, count-append (take i d) (getD d i false ∷ []), e)
+            (ap (λ (x : ℕ). x + 1) (f .ones));
         size = length-set starts k (i - k) ∙ s;
-        filled = rw (z, add-one i, add-one k, take-suc-set starts k (i - k) (omega arith), append-assoc (take k starts) ((i - k) ∷ []) (startsFrom (i - k) (drop (suc i) d)))
+        filled =
+            rw (
+              z,
+              add-one i,
+              add-one k,
+              take-suc-set starts k (i - k) (omega arith),
+              append-assoc (take k starts)
+                  ((i - k) ∷ []) (startsFrom (i - k) (drop (suc i) d)),
+            )
             (ap (λ (x : List Bool). take k starts ++ startsFrom (i - k) x) (sym c) ∙ f .filled);
       }
 
@@ -46,7 +56,9 @@ module _ {d : List Bool} {starts : List ℕ} {i k : ℕ} (f : Filling d starts i
       let c : drop i d ≡ false ∷ drop (suc i) d = drop-cons d i false h ∙ ap (λ (x : Bool). x ∷ drop (suc i) d) e in
       record {
         upto = omega arith;
-        ones = rw (add-one i, take-suc d i false h, count-append (take i d) (getD d i false ∷ []), e) (omega (arith, f .ones));
+        ones =
+            rw (add-one i, take-suc d i false h, count-append (take i d) (getD d i false ∷ []), e)
+            (omega (arith, f .ones));
         size = f .size;
         filled = rw (z, add-one i) (ap (λ (x : List Bool). take k starts ++ startsFrom (i - k) x) (sym c) ∙ f .filled);
       }
@@ -64,16 +76,19 @@ module _ {d : List Bool} {starts : List ℕ} {i k : ℕ} (f : Filling d starts i
       ∙ sym (ap (λ (x : List Bool). take k starts ++ startsFrom (i - k) x) m) ∙ f .filled
 
 -- past j zeros
-filling-zeros : {d : List Bool} {starts : List ℕ} {i k : ℕ} (j : ℕ) → Filling d starts i k → i + j ≤ length d → field j d i ≡ 0 → Filling d starts (i + j) k
+filling-zeros : {d : List Bool} {starts : List ℕ} {i k : ℕ} (j : ℕ) → Filling d starts i k → i + j ≤ length d
+    → field j d i ≡ 0 → Filling d starts (i + j) k
 filling-zeros {i} zero f h z = let n : i + 0 ≡ i = omega arith in rw n f
 filling-zeros {d} {i} (suc j) f h z =
     let o : suc j ≡ 1 + j = omega arith in
     let y : field (1 + j) d i ≡ 0 = rw o at z in
     let e : i + 1 + j ≡ i + suc j = omega arith in
-    rw e at (filling-zeros j (filling-zero f (omega arith) (none-first d i j (omega arith) y)) (omega arith) (none-rest d i j (omega arith) y))
+    rw e at (filling-zeros j (filling-zero f (omega arith) (none-first d i j (omega arith) y)) (omega arith)
+    (none-rest d i j (omega arith) y))
 
 -- past a zeros and a one: the one is the highest of the number that a + 1 + h bits write
-entering-one : {d : List Bool} {starts : List ℕ} {p k : ℕ} → Filling d starts p k → (a h : ℕ) → p + (a + 1 + h) ≤ length d
+entering-one : {d : List Bool} {starts : List ℕ} {p k : ℕ} → Filling d starts p k → (a h : ℕ)
+    → p + (a + 1 + h) ≤ length d
     → 2 ^ h ≤ field (a + 1 + h) d p → field (a + 1 + h) d p < 2 ^ (h + 1)
     → Entering d (set starts k (p + a - k)) (field (a + 1 + h) d p - 2 ^ h) (p + (a + 1 + h)) (k + 1)
 entering-one {d} {starts} {p} {k} f a h i l u =
@@ -83,11 +98,13 @@ entering-one {d} {starts} {p} {k} f a h i l u =
       place = p + a + 1;
       before = omega arith;
       inside = i;
-      filling = filling-one (filling-zeros a f (omega arith) (top-zeros d p a h i l u)) (omega arith) (top-one d p a h i l u);
+      filling =
+          filling-one (filling-zeros a f (omega arith) (top-zeros d p a h i l u)) (omega arith) (top-one d p a h i l u);
       left = sym (top-rest d p a h i l u) ∙ ap₂ (λ (x y : ℕ). field x d y) size to;
     }
 
-pub entering-start : {d : List Bool} {starts : List ℕ} {i w k : ℕ} (end : ℕ) → Filling d starts i k → i ≤ end → end ≤ length d → w ≡ field (end - i) d i
+pub entering-start : {d : List Bool} {starts : List ℕ} {i w k : ℕ} (end : ℕ) → Filling d starts i k → i ≤ end
+    → end ≤ length d → w ≡ field (end - i) d i
     → Entering d starts w end k
 entering-start {i} end f b h e = record { place = i; before = b; inside = h; filling = f; left = e }
 
@@ -103,7 +120,8 @@ module _ {d : List Bool} {starts : List ℕ} {w end k : ℕ} (e : Entering d sta
       let g = highest h l in
       omega arith
 
-  pub entering-more : {next : List ℕ} {r : ℕ} (h : ℕ) → 2 ^ h ≤ w → w < 2 ^ (h + 1) → next ≡ set starts k (end - (h + 1) - k) → r ≡ w - 2 ^ h
+  pub entering-more : {next : List ℕ} {r : ℕ} (h : ℕ) → 2 ^ h ≤ w → w < 2 ^ (h + 1)
+      → next ≡ set starts k (end - (h + 1) - k) → r ≡ w - 2 ^ h
       → Entering d next r end (k + 1)
   entering-more h l u n r =
       let b = e .before in
@@ -111,7 +129,8 @@ module _ {d : List Bool} {starts : List ℕ} {w end k : ℕ} (e : Entering d sta
       let g = highest h l in
       rw (n, r) (go (end - (h + 1) - e .place) (omega arith) (omega arith))
     where
-      go : (a : ℕ) → e .place + (a + 1 + h) ≡ end → end - e .place ≡ a + 1 + h → Entering d (set starts k (end - (h + 1) - k)) (w - 2 ^ h) end (k + 1)
+      go : (a : ℕ) → e .place + (a + 1 + h) ≡ end → end - e .place ≡ a + 1 + h
+          → Entering d (set starts k (end - (h + 1) - k)) (w - 2 ^ h) end (k + 1)
       go a to size =
           let i = e .inside in
           let q : w ≡ field (a + 1 + h) d (e .place) = e .left ∙ ap (λ (x : ℕ). field x d (e .place)) size in

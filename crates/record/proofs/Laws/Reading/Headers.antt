@@ -48,7 +48,9 @@ module _ (bytes : List ℕ) where
 
         module _ (sized : length bytes ≡ recordLength (terminals bytes) (wires bytes)) {b : Bool}
             (tested : b ≡ (not (eqb (count (unary bytes)) (terminals bytes)) || beginsWithZero (unary bytes))) where
-          rule-last : firstBroken (orderR bytes) ≡ firstBroken ((4, not (eqb (count (unary bytes)) (terminals bytes)) || beginsWithZero (unary bytes)) ∷ [])
+          rule-last : firstBroken (orderR bytes)
+              ≡ firstBroken
+              ((4, not (eqb (count (unary bytes)) (terminals bytes)) || beginsWithZero (unary bytes)) ∷ [])
           unfolding orderR
           rule-last =
               first-kept 1 _ (le-ltb (length bytes) 4 long) ∙ first-kept 2 _ sizes-fit
@@ -74,45 +76,58 @@ module _ {bytes : List ℕ} {n m : ℕ} (headed : Headed bytes n m) where
 
   pub unary-held : unary bytes ≡ take (n + 2 * m) (drop 28 (bits bytes))
   unfolding unary usedBits
-  unary-held = let h = holds-all in ap (string bytes 28) (sym same-places) ∙ held bytes 28 (n + 2 * m) (le-leb (28 + (n + 2 * m)) (8 * length bytes) (omega arith))
+  unary-held =
+      let h = holds-all in
+      ap (string bytes 28) (sym same-places)
+      ∙ held bytes 28 (n + 2 * m) (le-leb (28 + (n + 2 * m)) (8 * length bytes) (omega arith))
 
   pub count-unary : rank (string bytes 28 (n + 2 * m)) (n + 2 * m) ≡ count (unary bytes)
   unfolding unary
-  count-unary = rank-past (string bytes 28 (n + 2 * m)) (n + 2 * m) (length-string bytes 28 (n + 2 * m)) ∙ ap (λ (k : ℕ). count (string bytes 28 k)) same-places
+  count-unary =
+      rank-past (string bytes 28 (n + 2 * m)) (n + 2 * m) (length-string bytes 28 (n + 2 * m))
+      ∙ ap (λ (k : ℕ). count (string bytes 28 k)) same-places
 
   -- rule 4, by the first bit of D and its ones
   module _ {r : ℕ} (ranked : r ≡ rank (string bytes 28 (n + 2 * m)) (n + 2 * m)) where
-    pub ones-differ : (r ≡ n → ⊥) → true ≡ (not (eqb (count (unary bytes)) (terminals bytes)) || beginsWithZero (unary bytes))
+    pub ones-differ : (r ≡ n → ⊥)
+        → true ≡ (not (eqb (count (unary bytes)) (terminals bytes)) || beginsWithZero (unary bytes))
     ones-differ h =
         let e = headed .is-n in
-        let d : count (unary bytes) ≡ terminals bytes → ⊥ = λ (z : count (unary bytes) ≡ terminals bytes). h (omega (arith, count-unary)) in
+        let d : count (unary bytes) ≡ terminals bytes → ⊥ =
+        λ (z : count (unary bytes) ≡ terminals bytes). h (omega (arith, count-unary)) in
         rw (ne-eqb (count (unary bytes)) (terminals bytes) d)
 
     module _ (same : r ≡ n) where
-      ones-agree : (not (eqb (count (unary bytes)) (terminals bytes)) || beginsWithZero (unary bytes)) ≡ beginsWithZero (unary bytes)
+      ones-agree : (not (eqb (count (unary bytes)) (terminals bytes)) || beginsWithZero (unary bytes))
+          ≡ beginsWithZero (unary bytes)
       ones-agree =
           let e = headed .is-n in
           rw (eq-eqb (count (unary bytes)) (terminals bytes) (omega (arith, count-unary)))
 
-      pub no-first : n + 2 * m ≡ 0 → false ≡ (not (eqb (count (unary bytes)) (terminals bytes)) || beginsWithZero (unary bytes))
+      pub no-first : n + 2 * m ≡ 0
+          → false ≡ (not (eqb (count (unary bytes)) (terminals bytes)) || beginsWithZero (unary bytes))
       unfolding beginsWithZero
       no-first z = sym (ones-agree ∙ ap beginsWithZero (unary-held ∙ ap (λ (k : ℕ). take k (drop 28 (bits bytes))) z))
 
-      pub first-is : 0 < n + 2 * m → not (getD (bits bytes) 28 false) ≡ (not (eqb (count (unary bytes)) (terminals bytes)) || beginsWithZero (unary bytes))
+      pub first-is : 0 < n + 2 * m
+          → not (getD (bits bytes) 28 false)
+          ≡ (not (eqb (count (unary bytes)) (terminals bytes)) || beginsWithZero (unary bytes))
       unfolding beginsWithZero usedBits
       first-is h = sym (ones-agree ∙ go (n + 2 * m) h unary-held)
         where
           inside : 28 < length (bits bytes)
           inside = let a = holds-all in rw (length-bits bytes) (omega arith)
 
-          go : (k : ℕ) → 0 < k → unary bytes ≡ take k (drop 28 (bits bytes)) → beginsWithZero (unary bytes) ≡ not (getD (bits bytes) 28 false)
+          go : (k : ℕ) → 0 < k → unary bytes ≡ take k (drop 28 (bits bytes))
+              → beginsWithZero (unary bytes) ≡ not (getD (bits bytes) 28 false)
           go zero h e = absurd (omega arith)
           go (suc k) h e = ap beginsWithZero (e ∙ ap (take (suc k)) (drop-cons (bits bytes) 28 false inside))
 
 -- ---- order R, and then rule 5
 
 module _ (bytes : List ℕ) where
-  pub layout-refused : {k : ℕ} → refused k ≡ tried (orderR bytes) (sizesOf bytes) → refused k ≡ tried (layoutRules bytes) (sizesOf bytes)
+  pub layout-refused : {k : ℕ} → refused k ≡ tried (orderR bytes) (sizesOf bytes)
+      → refused k ≡ tried (layoutRules bytes) (sizesOf bytes)
   unfolding layoutRules
   layout-refused e = told-append (orderR bytes) _ (sizesOf bytes) (sizesOf bytes) e
 

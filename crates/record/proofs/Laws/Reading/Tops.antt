@@ -1,4 +1,5 @@
--- The highest one of the number that some bits write: zeros before it, and after it the bits of what is left of the number.
+-- The highest one of the number that some bits write: zeros before it, and after it the bits of what is left of the
+-- number.
 use mathlib.Core.Path.{_≡_, sym, ap, _∙_}
 use mathlib.Core.Bool.{Bool, true, false}
 use mathlib.Core.List.{List}
@@ -54,7 +55,8 @@ top-inside w s g h l = go (decLe w h)
     go (no n) = omega arith
 
 -- a bits before the highest one of the field of a + 1 + h bits from bit g on, and h after it
-module _ (s : List Bool) (g a h : ℕ) (i : g + (a + 1 + h) ≤ length s) (l : 2 ^ h ≤ field (a + 1 + h) s g) (u : field (a + 1 + h) s g < 2 ^ (h + 1)) where
+module _ (s : List Bool) (g a h : ℕ) (i : g + (a + 1 + h) ≤ length s) (l : 2 ^ h ≤ field (a + 1 + h) s g)
+    (u : field (a + 1 + h) s g < 2 ^ (h + 1)) where
   pub top-zeros : field a s g ≡ 0
   top-zeros =
       let e : a + (h + 1) ≡ a + 1 + h = omega arith in
@@ -63,7 +65,8 @@ module _ (s : List Bool) (g a h : ℕ) (i : g + (a + 1 + h) ≤ length s) (l : 2
   pub top-one : getD s (g + a) false ≡ true
   top-one =
       is-one (getD s (g + a) false)
-      (sym (field-one s (g + a) (omega arith)) ∙ field-inside s g a 1 h i ∙ ap (λ (y : ℕ). y % 2 ^ 1) (top-high (field (a + 1 + h) s g) h l u))
+      (sym (field-one s (g + a) (omega arith)) ∙ field-inside s g a 1 h i
+      ∙ ap (λ (y : ℕ). y % 2 ^ 1) (top-high (field (a + 1 + h) s g) h l u))
 
   pub top-rest : field h s (g + (a + 1)) ≡ field (a + 1 + h) s g - 2 ^ h
   top-rest = field-back s g (a + 1) h i ∙ top-low (field (a + 1 + h) s g) h l u

@@ -31,7 +31,8 @@ module _ {s : List Bool} {start k : ℕ} {list : List ℕ} {i : ℕ} (r : Readin
       let e = r .size in
       record { upto = omega arith; size = omega arith; same = r .same }
 
-  pub reads-more : {next : List ℕ} (x : ℕ) → i < k → x ≡ field 12 s (start + 12 * i) → next ≡ set list i x → Reading s start k next (i + 1)
+  pub reads-more : {next : List ℕ} (x : ℕ) → i < k → x ≡ field 12 s (start + 12 * i) → next ≡ set list i x
+      → Reading s start k next (i + 1)
   reads-more x h e n =
       let l = length-fieldsFrom s start k in
       in-reading s start k (order-more in-order x n (e ∙ sym (fieldsFrom-at s start k i h)) (omega arith))
@@ -41,7 +42,8 @@ module _ {s : List Bool} {start k : ℕ} {list : List ℕ} {i : ℕ} (r : Readin
 
 -- four fields more
 pub reads-four : {s : List Bool} {start k i a b c d : ℕ} {l l₁ l₂ l₃ l₄ : List ℕ} → Reading s start k l i → i + 4 ≤ k
-    → FourAt s (start + 12 * i) a b c d → l₁ ≡ set l i a → l₂ ≡ set l₁ (i + 1) b → l₃ ≡ set l₂ (i + 2) c → l₄ ≡ set l₃ (i + 3) d
+    → FourAt s (start + 12 * i) a b c d → l₁ ≡ set l i a → l₂ ≡ set l₁ (i + 1) b → l₃ ≡ set l₂ (i + 2) c
+    → l₄ ≡ set l₃ (i + 3) d
     → Reading s start k l₄ (i + 4)
 reads-four {s} {i = i} {a = a} {b = b} {c = c} {d = d} r h f e₁ e₂ e₃ e₄ =
     let n₂ : i + 1 + 1 ≡ i + 2 = omega arith in

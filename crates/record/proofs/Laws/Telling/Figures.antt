@@ -14,7 +14,9 @@ pub small-fits : {a : ℕ} → a < 65536 → SFits w32 (pos a)
 small-fits h = record { sfits = omega arith }
 
 minus : (a b : ℕ) → pos a -ℤ pos b ≡ subℕ a b
-minus a zero = ap pos (let e : a + 0 ≡ a - 0 = omega arith in e) ∙ sym (ap (λ (c : Bool). cond c (negsuc (0 - suc a)) (pos (a - 0))) (le-ltb a 0 (omega arith)))
+minus a zero =
+    ap pos (let e : a + 0 ≡ a - 0 = omega arith in e)
+    ∙ sym (ap (λ (c : Bool). cond c (negsuc (0 - suc a)) (pos (a - 0))) (le-ltb a 0 (omega arith)))
 minus a (suc b) = refl
 
 module _ (a b : ℕ) (ha : a < 65536) (hb : b < 65536) where

@@ -44,7 +44,10 @@ module _ (g : Blocks) {a : Bool} (tested-a : a ≡ anyPlace (stray g) g) where
         where
           go : Told (anyPlace (oneSided g) g) → refused 8 ≡ checkGraph g
           go (pass e) = told tt (past-7 ∙ first-broken 8 [] e)
-          go (fail e) = absurd (broken (record { no-stray = sym tested-a ∙ no-stray; no-double = sym tested-b ∙ no-double; no-one-sided = e }))
+          go (fail e) =
+              absurd (broken
+              (record
+              { no-stray = sym tested-a ∙ no-stray; no-double = sym tested-b ∙ no-double; no-one-sided = e }))
 
 -- none is broken
 pub kept-told : {g : Blocks} → Kept g → answered tt ≡ checkGraph g

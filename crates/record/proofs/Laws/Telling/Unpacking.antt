@@ -13,7 +13,8 @@ use Rattle.record.specs.Operations.{otherLength, check, unpackRules, unp
 use Rattle.record.specs.Steps.{Laid, ArraysOf, Short, Handed}
 use Rattle.record.specs.declared.Sizes.{Sizes}
 use Rattle.record.specs.Laws.First.{first-broken, first-kept, append-kept, append-broken, check-numbered}
-use Rattle.record.specs.Laws.Told.{told, untold, told-back, untold-back, told-append, told-same, buffer-kept, buffer-written}
+use Rattle.record.specs.Laws.Told.{told, untold, told-back, untold-back, told-append, told-same, buffer-kept}
+use Rattle.record.specs.Laws.Told.{buffer-written}
 use Rattle.record.specs.Laws.Layout.{field-small}
 use Rattle.record.specs.Laws.Unpacked.{nbrs-of}
 
@@ -46,7 +47,8 @@ module _ (bytes list : List ℕ) where
         let f = list-told ∙ first-broken 10 [] (ap not d) in
         (told tt f, left-alone f)
 
-    pub unpack-done : length list ≡ 2 * m → (answered tt ≡ unpack bytes list) × (map suc (fields bytes) ≡ unpacked bytes list)
+    pub unpack-done : length list ≡ 2 * m
+        → (answered tt ≡ unpack bytes list) × (map suc (fields bytes) ≡ unpacked bytes list)
     unfolding unpack otherLength firstBroken
     unpack-done h =
         let d = eq-eqb (length list) (2 * wires bytes) (omega arith) in
@@ -75,9 +77,14 @@ module _ {bytes list : List ℕ} where
     pub handed-misfit : (length list ≡ length nbrs → ⊥) → Handed bytes list list (answered tt)
     handed-misfit d =
         let l = nbrs-of r in
-        record { told = e; left = unpack-misfit bytes list (accepted bytes e) (r .sound .is-m) (λ z. d (omega arith)) .1 }
+        record {
+          told = e;
+          left = unpack-misfit bytes list (accepted bytes e) (r .sound .is-m)
+              (λ z. d (omega arith)) .1;
+        }
 
-    pub handed-done : length list ≡ length nbrs → {after : List ℕ} → after ≡ map suc nbrs → Handed bytes list after (answered tt)
+    pub handed-done : length list ≡ length nbrs → {after : List ℕ} → after ≡ map suc nbrs
+        → Handed bytes list after (answered tt)
     handed-done s a =
         let l = nbrs-of r in
         let w = unpack-done bytes list (accepted bytes e) (r .sound .is-m) (omega arith) .1 in
@@ -94,7 +101,8 @@ module _ (bytes list : List ℕ) where
       (t, unpack-refused bytes list (sizesOf bytes) t .1)
 
 module _ {bytes list after : List ℕ} {a : Answer (Unit {0})} (h : Handed bytes list after a) where
-  pub accept-refused : {k : ℕ} → a ≡ refused k → (refused k ≡ tried (checkRules bytes) (sizesOf bytes)) × (after ≡ unpacked bytes list)
+  pub accept-refused : {k : ℕ} → a ≡ refused k
+      → (refused k ≡ tried (checkRules bytes) (sizesOf bytes)) × (after ≡ unpacked bytes list)
   unfolding check
   accept-refused e = (told-same (checkRules bytes) tt (sizesOf bytes) (sym e ∙ h .told), h .left)
 

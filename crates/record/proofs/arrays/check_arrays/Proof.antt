@@ -47,8 +47,10 @@ returns : tie.Need-returns
 returns c =
     let at-try-rules = c .before .before .before .before in
     let at-fill-arrays = at-try-rules .before .before .before .before .before .before .before .before .before in
-    let start = at-fill-arrays .before .before .before .before .before .before .before .before in
-    (check-told (start .pre .0) (at-fill-arrays .fill-arrays .ensures) (at-try-rules .try-rules .ensures), at-fill-arrays .fill-arrays .ensures)
+    let start = at-fill-arrays .before .before .before .before .before .before .before .before in (
+      check-told (start .pre .0) (at-fill-arrays .fill-arrays .ensures) (at-try-rules .try-rules .ensures),
+      at-fill-arrays .fill-arrays .ensures,
+    )
 
 pub check-arrays-spec : {M : Type 1} → statement M
 check-arrays-spec =

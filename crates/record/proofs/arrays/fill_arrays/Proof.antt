@@ -34,7 +34,8 @@ returns c =
     let at-read-fields = c .before .before in
     let at-fill-starts = at-read-fields .before .before .before .before in
     let start = at-fill-starts .before .before .before .before .before in
-    arrays-read (start .pre .0) (start .pre .2) (at-fill-starts .fill-starts .ensures) (at-read-fields .read-fields .ensures)
+    arrays-read (start .pre .0) (start .pre .2) (at-fill-starts .fill-starts .ensures)
+    (at-read-fields .read-fields .ensures)
 
 pub fill-arrays-spec : {M : Type 1} → statement M
 fill-arrays-spec =

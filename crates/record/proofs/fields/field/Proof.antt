@@ -24,7 +24,11 @@ read12-requires : tie.Need-read12-requires
 read12-requires c κs = search needs
 
 returns : tie.Need-returns
-returns c = (c .read12 .ensures .0 ∙ sound-field (c .before .before .pre .0) (c .before .before .args .p) (c .before .before .pre .1), c .read12 .ensures .1)
+returns c = (
+  c .read12 .ensures .0 ∙ sound-field (c .before .before .pre .0) (c .before .before .args .p)
+      (c .before .before .pre .1),
+  c .read12 .ensures .1,
+)
 
 pub field-spec : {M : Type 1} → statement M
 field-spec =

@@ -12,7 +12,8 @@ use Rattle.record.proofs.header.order_r.Statement.{statement}
 use Rattle.record.proofs.header.order_r.Tie as tie
 
 returns : tie.Need-returns
-returns c = told (sizesOf (c .before .before .args .bytes .now)) (rule-1 (c .before .before .args .bytes .now) (c .if1 .taken))
+returns c =
+    told (sizesOf (c .before .before .args .bytes .now)) (rule-1 (c .before .before .args .bytes .now) (c .if1 .taken))
 
 read13-requires : tie.Need-read13-requires
 read13-requires c κs = search needs
@@ -39,7 +40,9 @@ returns-4 : tie.Need-returns-4
 unfolding terminals wires
 returns-4 c =
     let bytes = c .before .before .before .before .before .before .before .before .args .bytes .now in
-    let e = c .before .record-length .ensures ∙ ap₂ recordLength (c .before .before .before .before .before .read13 .ensures .0) (c .before .before .before .before .read15 .ensures .0) in
+    let e = c .before .record-length .ensures
+    ∙ ap₂ recordLength (c .before .before .before .before .before .read13 .ensures .0)
+    (c .before .before .before .before .read15 .ensures .0) in
     told (sizesOf bytes) (rule-3 bytes (omega arith) (omega arith) (omega arith) (λ z. c .if4 .taken (z ∙ sym e)))
 
 bad-unary-requires : tie.Need-bad-unary-requires
@@ -58,8 +61,12 @@ unfolding terminals wires
 returns-5 c =
     let bytes = c .before .before .before .before .before .before .before .before .before .before .args .bytes .now in
     let read13 = c .before .before .before .before .before .before .before .read13 in
-    let e = c .before .before .before .record-length .ensures ∙ ap₂ recordLength (read13 .ensures .0) (c .before .before .before .before .before .before .read15 .ensures .0) in
-    told (sizesOf bytes) (rule-4 bytes (omega arith) (omega arith) (omega arith) (c .before .before .if4 .left ∙ e) (c .before .bad-unary .ensures) (c .if5 .taken))
+    let e = c .before .before .before .record-length .ensures
+    ∙ ap₂ recordLength (read13 .ensures .0)
+    (c .before .before .before .before .before .before .read15 .ensures .0) in
+    told (sizesOf bytes)
+    (rule-4 bytes (omega arith) (omega arith) (omega arith) (c .before .before .if4 .left ∙ e)
+    (c .before .bad-unary .ensures) (c .if5 .taken))
 
 returns-6 : tie.Need-returns-6
 unfolding terminals wires
@@ -67,10 +74,13 @@ returns-6 c =
     let bytes = c .before .before .before .before .before .before .before .before .before .before .args .bytes .now in
     let read13 = c .before .before .before .before .before .before .before .read13 in
     let read15 = c .before .before .before .before .before .before .read15 in
-    let e = c .before .before .before .record-length .ensures ∙ ap₂ recordLength (read13 .ensures .0) (read15 .ensures .0) in
+    let e = c .before .before .before .record-length .ensures
+    ∙ ap₂ recordLength (read13 .ensures .0) (read15 .ensures .0) in
     let sized : ℕ → ℕ → Answer Sizes = λ x y. answered (record { n = x; m = y }) in
     ap₂ sized (read13 .ensures .0) (read15 .ensures .0)
-    ∙ untold (sizesOf bytes) (rules-kept bytes (omega arith) (omega arith) (omega arith) (c .before .before .if4 .left ∙ e) (c .before .bad-unary .ensures) (c .if5 .left))
+    ∙ untold (sizesOf bytes)
+    (rules-kept bytes (omega arith) (omega arith) (omega arith) (c .before .before .if4 .left ∙ e)
+    (c .before .bad-unary .ensures) (c .if5 .left))
 
 pub order-r-spec : {M : Type 1} → statement M
 order-r-spec =

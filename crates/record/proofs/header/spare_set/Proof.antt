@@ -38,7 +38,10 @@ rank-requires c κs = search needs
 returns : tie.Need-returns
 returns c =
     let start = c .before .before in
-    spare-counted (start .pre) (8 * length (start .args .bytes .now) - (28 + (start .args .n + 2 * start .args .m) + 12 * (2 * start .args .m))) refl (c .rank .ensures)
+    spare-counted (start .pre)
+    (8 * length
+    (start .args .bytes .now) - (28 + (start .args .n + 2 * start .args .m) + 12 * (2 * start .args .m))) refl
+    (c .rank .ensures)
 
 pub spare-set-spec : {M : Type 1} → statement M
 spare-set-spec =

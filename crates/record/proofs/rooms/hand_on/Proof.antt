@@ -51,7 +51,8 @@ loop-again c =
     let at-loop = c .before .before in
     let start = at-loop .before in
     let l = length-map (start .args .nbrs .now) suc in
-    order-more (at-loop .loop .inv) (getD (start .args .nbrs .now) (at-loop .loop .i) 0 + 1) refl (add-one _ ∙ sym (raised-at (start .args .nbrs .now) (at-loop .loop .i) (omega arith))) (omega arith)
+    order-more (at-loop .loop .inv) (getD (start .args .nbrs .now) (at-loop .loop .i) 0 + 1) refl
+    (add-one _ ∙ sym (raised-at (start .args .nbrs .now) (at-loop .loop .i) (omega arith))) (omega arith)
 
 same-length : tie.Need-same-length Inv-loop μ-loop
 same-length c =

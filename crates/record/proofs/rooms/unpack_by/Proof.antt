@@ -18,7 +18,8 @@ enum-told c = search needs
 hand-on-requires : tie.Need-hand-on-requires
 hand-on-requires c κs =
     let at-if1 = c .before .before in
-    let at-check-arrays = at-if1 .before .before .before .before .before .before .before .before .before .before .before in
+    let past-check = at-if1 .before .before .before .before .before .before .before in
+    let at-check-arrays = past-check .before .before .before .before in
     (at-if1 .if1 .taken, short-of (at-check-arrays .check-arrays .ensures .1))
 
 same-length : tie.Need-same-length
@@ -59,8 +60,10 @@ returns-2 c =
     let at-hand-on = c .before .before in
     let at-if1 = at-hand-on .before .before .before in
     let at-enum-told = at-if1 .before in
-    let at-check-arrays = at-enum-told .before .before .before .before .before .before .before .before .before .before in
-    handed-done (at-check-arrays .check-arrays .ensures .1) (sym (ap verdict (at-enum-told .enum-told .given .1)) ∙ at-check-arrays .check-arrays .ensures .0)
+    let past-check = at-enum-told .before .before .before .before .before .before in
+    let at-check-arrays = past-check .before .before .before .before in
+    handed-done (at-check-arrays .check-arrays .ensures .1)
+    (sym (ap verdict (at-enum-told .enum-told .given .1)) ∙ at-check-arrays .check-arrays .ensures .0)
     (at-if1 .if1 .taken) (at-hand-on .hand-on .ensures)
 
 same-length-10 : tie.Need-same-length-10
@@ -78,8 +81,11 @@ same-length-13 c = search needs
 returns-3 : tie.Need-returns-3
 returns-3 c =
     let at-enum-told = c .before in
-    let at-check-arrays = at-enum-told .before .before .before .before .before .before .before .before .before .before in
-    handed-misfit (at-check-arrays .check-arrays .ensures .1) (sym (ap verdict (at-enum-told .enum-told .given .1)) ∙ at-check-arrays .check-arrays .ensures .0) (c .if1 .left)
+    let past-check = at-enum-told .before .before .before .before .before .before in
+    let at-check-arrays = past-check .before .before .before .before in
+    handed-misfit (at-check-arrays .check-arrays .ensures .1)
+    (sym (ap verdict (at-enum-told .enum-told .given .1)) ∙ at-check-arrays .check-arrays .ensures .0)
+    (c .if1 .left)
 
 pub unpack-by-spec : {M : Type 1} → statement M
 unpack-by-spec =

@@ -1,4 +1,5 @@
--- `rules::try_rules` meets its contract: a rule is broken where the quick test says no, and rule 8 where it is neither of the first two.
+-- `rules::try_rules` meets its contract: a rule is broken where the quick test says no, and rule 8 where it is neither
+-- of the first two.
 use mathlib.Core.Path.{sym, _∙_}
 use native.Mathlib.Omega.{arith}
 use Rattle.adjacency.specs.Laws.Known.{arrays-kept}
@@ -40,7 +41,8 @@ some-doubled-requires : tie.Need-some-doubled-requires
 some-doubled-requires c κs =
     let at-if2 = c .before in
     let at-some-stray = at-if2 .before in
-    let start = at-some-stray .before .before .before .before .before .before .before .before .before .before .before .before .before in
+    let at-all-mutual = at-some-stray .before .before .before .before .before .before in
+    let start = at-all-mutual .before .before .before .before .before .before .before in
     (arrays-kept (start .pre .0) (sym (at-some-stray .some-stray .ensures) ∙ at-if2 .if2 .left), omega arith)
 
 same-length-5 : tie.Need-same-length-5
@@ -54,7 +56,8 @@ returns-3 c =
     let at-some-doubled = c .before .before .before in
     let at-if2 = at-some-doubled .before .before in
     let at-some-stray = at-if2 .before in
-    turn-7 _ (at-some-stray .some-stray .ensures) (at-if2 .if2 .left) (at-some-doubled .some-doubled .ensures) (c .if3 .taken)
+    turn-7 _ (at-some-stray .some-stray .ensures) (at-if2 .if2 .left) (at-some-doubled .some-doubled .ensures)
+    (c .if3 .taken)
 
 same-length-7 : tie.Need-same-length-7
 same-length-7 c = search needs
@@ -69,7 +72,8 @@ returns-4 c =
     let at-some-stray = at-if2 .before in
     let at-if1 = at-some-stray .before in
     let at-all-mutual = at-if1 .before .before .before .before .before in
-    turn-8 _ (at-some-stray .some-stray .ensures) (at-if2 .if2 .left) (at-some-doubled .some-doubled .ensures) (c .if3 .left)
+    turn-8 _ (at-some-stray .some-stray .ensures) (at-if2 .if2 .left) (at-some-doubled .some-doubled .ensures)
+    (c .if3 .left)
     (told-no (at-all-mutual .all-mutual .ensures) (at-if1 .if1 .left))
 
 pub try-rules-spec : {M : Type 1} → statement M
