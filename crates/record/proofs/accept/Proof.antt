@@ -7,27 +7,12 @@ use Rattle.record.proofs.Laws.Telling.Unpacking.{accept-unread, accept-
 use Rattle.record.proofs.accept.Statement.{statement}
 use Rattle.record.proofs.accept.Tie as tie
 
-laid-out-requires : tie.Need-laid-out-requires
-laid-out-requires c κs = search needs
-
-enum-known-r : tie.Need-enum-known-r
-enum-known-r c = search needs
-
-enum-known-s : tie.Need-enum-known-s
-enum-known-s c = search needs
-
 in-room-requires : tie.Need-in-room-requires
 in-room-requires c κs =
     let at-s = c .before .before in
     let at-laid-out = at-s .before .before in
     let start = at-laid-out .before .before .before in
     told-laid (start .args .bytes .now) (sym (ap shape (at-s .s .given .1)) ∙ at-laid-out .laid-out .ensures)
-
-enum-known-r-2 : tie.Need-enum-known-r-2
-enum-known-r-2 c = search needs
-
-enum-told : tie.Need-enum-told
-enum-told c = search needs
 
 returns : tie.Need-returns
 returns c =
@@ -37,17 +22,11 @@ returns c =
     accept-unread (start .args .bytes .now) (start .args .list .now)
     (sym (ap shape (at-r .r .given .1)) ∙ at-laid-out .laid-out .ensures)
 
-same-length : tie.Need-same-length
-same-length c = search needs
-
 returns-2 : tie.Need-returns-2
 returns-2 c =
     let at-r2 = c .before in
     let at-in-room = at-r2 .before .before .before .before in
     accept-refused (at-in-room .in-room .ensures) (ap verdict (at-r2 .r2 .given .1))
-
-same-length-2 : tie.Need-same-length-2
-same-length-2 c = search needs
 
 returns-3 : tie.Need-returns-3
 returns-3 c =
@@ -62,15 +41,5 @@ returns-3 c =
 pub accept-spec : {M : Type 1} → statement M
 accept-spec =
     tie.close
-    (tie.spec
-    laid-out-requires
-    enum-known-r
-    enum-known-s
-    in-room-requires
-    enum-known-r-2
-    enum-told
-    returns
-    same-length
-    returns-2
-    same-length-2
-    returns-3)
+    (tie.spec (λ c κs. search needs) (λ c. search needs) (λ c. search needs) in-room-requires (λ c. search needs)
+    (λ c. search needs) returns (λ c. search needs) returns-2 (λ c. search needs) returns-3)

@@ -14,15 +14,6 @@ use Rattle.record.specs.Laws.Told.{told-append}
 use Rattle.record.proofs.degree.Statement.{statement}
 use Rattle.record.proofs.degree.Tie as tie
 
-order-r-requires : tie.Need-order-r-requires
-order-r-requires c κs = search needs
-
-enum-known-r : tie.Need-enum-known-r
-enum-known-r c = search needs
-
-enum-known-s : tie.Need-enum-known-s
-enum-known-s c = search needs
-
 degree-in-requires : tie.Need-degree-in-requires
 degree-in-requires c κs =
     let args = c .before .before .before .before .before .args in
@@ -41,10 +32,8 @@ returns c =
     told-append (orderR bytes) ((11, outOfRange (terminals bytes) v) ∷ []) (sizesOf bytes)
     (length (block (blocks bytes) (v - 1))) (sym (ap shape (r .given .1)) ∙ order-r .ensures)
 
-returns-2 : tie.Need-returns-2
-returns-2 c = search needs
-
 pub degree-spec : {M : Type 1} → statement M
 degree-spec =
     tie.close
-    (tie.spec order-r-requires enum-known-r enum-known-s degree-in-requires returns returns-2)
+    (tie.spec (λ c κs. search needs) (λ c. search needs) (λ c. search needs) degree-in-requires returns
+    (λ c. search needs))

@@ -14,18 +14,6 @@ use Rattle.record.proofs.Laws.Telling.Figures.{small-fits, difference-f
 use Rattle.record.proofs.loop_figure.Statement.{statement}
 use Rattle.record.proofs.loop_figure.Tie as tie
 
-slice-aggregate-accept : tie.Need-slice-aggregate-accept
-slice-aggregate-accept c = search needs
-
-accept-requires : tie.Need-accept-requires
-accept-requires c κs = search needs
-
-enum-known-r : tie.Need-enum-known-r
-enum-known-r c = search needs
-
-enum-known-s : tie.Need-enum-known-s
-enum-known-s c = search needs
-
 add-more : tie.Need-add-more
 add-more c =
     let at-s = c .before .before in
@@ -90,14 +78,5 @@ returns-2 c =
 pub loop-figure-spec : {M : Type 1} → statement M
 loop-figure-spec =
     tie.close
-    (tie.spec
-    slice-aggregate-accept
-    accept-requires
-    enum-known-r
-    enum-known-s
-    add-more
-    cast-t11
-    cast-t12
-    sub-t13
-    returns
-    returns-2)
+    (tie.spec (λ c. search needs) (λ c κs. search needs) (λ c. search needs) (λ c. search needs) add-more cast-t11
+    cast-t12 sub-t13 returns returns-2)

@@ -7,20 +7,11 @@ use Rattle.record.specs.Laws.OneBlock.{part-fits, part-listed, part-near
 use Rattle.record.proofs.neighbours.Statement.{statement}
 use Rattle.record.proofs.neighbours.Tie as tie
 
-part-of-requires : tie.Need-part-of-requires
-part-of-requires c κs = search needs
-
 add-to : tie.Need-add-to
 add-to c = let n = part-near (c .before .part-of .ensures) in omega arith
 
 mul-result : tie.Need-mul-result
 mul-result c = let n = part-near (c .before .part-of .ensures) in omega arith
-
-sub-result : tie.Need-sub-result
-sub-result c = search needs
-
-part-result-start : tie.Need-part-result-start
-part-result-start c = search needs
 
 part-result-end : tie.Need-part-result-end
 part-result-end c =
@@ -39,11 +30,4 @@ returns c =
 pub neighbours-spec : {M : Type 1} → statement M
 neighbours-spec =
     tie.close
-    (tie.spec
-    part-of-requires
-    add-to
-    mul-result
-    sub-result
-    part-result-start
-    part-result-end
-    returns)
+    (tie.spec (λ c κs. search needs) add-to mul-result (λ c. search needs) (λ c. search needs) part-result-end returns)

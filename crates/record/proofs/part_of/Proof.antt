@@ -7,15 +7,6 @@ use Rattle.record.specs.Laws.Sounded.{told-sound}
 use Rattle.record.proofs.part_of.Statement.{statement}
 use Rattle.record.proofs.part_of.Tie as tie
 
-order-r-requires : tie.Need-order-r-requires
-order-r-requires c κs = search needs
-
-enum-told : tie.Need-enum-told
-enum-told c = search needs
-
-enum-known-s : tie.Need-enum-known-s
-enum-known-s c = search needs
-
 part-in-requires : tie.Need-part-in-requires
 part-in-requires c κs =
     let args = c .before .before .before .before .before .args in
@@ -28,9 +19,8 @@ returns c =
     let order-r = c .before .before .order-r in
     part-unread (args .bytes .now) (args .v .0) (sym (ap shape (c .enum-told .given .1)) ∙ order-r .ensures)
 
-returns-2 : tie.Need-returns-2
-returns-2 c = search needs
-
 pub part-of-spec : {M : Type 1} → statement M
 part-of-spec =
-    tie.close (tie.spec order-r-requires enum-told enum-known-s part-in-requires returns returns-2)
+    tie.close
+    (tie.spec (λ c κs. search needs) (λ c. search needs) (λ c. search needs) part-in-requires returns
+    (λ c. search needs))

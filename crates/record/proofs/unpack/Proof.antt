@@ -8,15 +8,6 @@ use Rattle.record.proofs.Laws.Telling.Unpacking.{unpack-refused, unpack
 use Rattle.record.proofs.unpack.Statement.{statement}
 use Rattle.record.proofs.unpack.Tie as tie
 
-accept-requires : tie.Need-accept-requires
-accept-requires c κs = search needs
-
-enum-known-r : tie.Need-enum-known-r
-enum-known-r c = search needs
-
-enum-known-s : tie.Need-enum-known-s
-enum-known-s c = search needs
-
 mul-if1 : tie.Need-mul-if1
 mul-if1 c =
     let at-s = c .before .before in
@@ -25,9 +16,6 @@ mul-if1 c =
     let s = check-sound (start .args .bytes .now)
     (sym (ap shape (at-s .s .given .1)) ∙ at-accept .accept .ensures .0) in
     omega arith
-
-same-length : tie.Need-same-length
-same-length c = search needs
 
 returns : tie.Need-returns
 returns c =
@@ -40,9 +28,6 @@ returns c =
     (s .is-m) (λ same. omega arith) in
     (m .0, at-accept .accept .ensures .1)
 
-same-length-2 : tie.Need-same-length-2
-same-length-2 c = search needs
-
 returns-2 : tie.Need-returns-2
 returns-2 c =
     let at-r = c .before in
@@ -52,9 +37,6 @@ returns-2 c =
           (sym (ap shape (at-r .r .given .1)) ∙ at-accept .accept .ensures .0) .0,
       at-accept .accept .ensures .1,
     )
-
-same-length-3 : tie.Need-same-length-3
-same-length-3 c = search needs
 
 returns-3 : tie.Need-returns-3
 returns-3 c =
@@ -70,14 +52,5 @@ returns-3 c =
 pub unpack-spec : {M : Type 1} → statement M
 unpack-spec =
     tie.close
-    (tie.spec
-    accept-requires
-    enum-known-r
-    enum-known-s
-    mul-if1
-    same-length
-    returns
-    same-length-2
-    returns-2
-    same-length-3
-    returns-3)
+    (tie.spec (λ c κs. search needs) (λ c. search needs) (λ c. search needs) mul-if1 (λ c. search needs) returns
+    (λ c. search needs) returns-2 (λ c. search needs) returns-3)

@@ -13,15 +13,6 @@ Inv-loop starts nbrs u last₀ mark end p₀ last p = Marked starts nbrs u end p
 abbrev μ-loop : tie.MeasureT-loop
 μ-loop starts nbrs u last₀ mark end p₀ last p = end - p
 
-add-mark : tie.Need-add-mark Inv-loop μ-loop
-add-mark c = omega arith
-
-get-requires : tie.Need-get-requires Inv-loop μ-loop
-get-requires c κs = omega arith
-
-get-requires-2 : tie.Need-get-requires-2 Inv-loop μ-loop
-get-requires-2 c κs = omega arith
-
 loop-holds : tie.Need-loop-holds Inv-loop μ-loop
 loop-holds c =
     let pre = c .before .before .before .before .before .pre in
@@ -36,9 +27,6 @@ get-requires-4 c κs =
     (c .before .get3 .ensures .0) in
     omega arith
 
-same-length : tie.Need-same-length Inv-loop μ-loop
-same-length c = omega arith
-
 returns : tie.Need-returns Inv-loop μ-loop
 returns c =
     marked-found (c .before .before .before .before .before .loop .inv)
@@ -52,12 +40,6 @@ put-requires c κs =
     (c .before .before .before .before .get3 .ensures .0) in
     omega arith
 
-add-p : tie.Need-add-p Inv-loop μ-loop
-add-p c = omega arith
-
-loop-less : tie.Need-loop-less Inv-loop μ-loop
-loop-less c = omega arith
-
 loop-again : tie.Need-loop-again Inv-loop μ-loop
 loop-again c =
     let loop = c .before .before .before .before .before .before .before .before .before .loop in
@@ -67,29 +49,12 @@ loop-again c =
     (λ e. c .before .before .before .before .if1 .left
     (c .before .before .before .before .before .get4 .ensures .0 ∙ e)) (c .before .before .put .ensures)
 
-same-length-2 : tie.Need-same-length-2 Inv-loop μ-loop
-same-length-2 c = omega arith
-
 returns-2 : tie.Need-returns-2 Inv-loop μ-loop
 returns-2 c = marked-end (c .before .loop .inv) (c .loop-test .left)
 
 pub repeats-spec : {M : Type 1} → statement M
 repeats-spec =
     tie.close
-    (tie.spec
-    Inv-loop
-    μ-loop
-    add-mark
-    get-requires
-    get-requires-2
-    loop-holds
-    get-requires-3
-    get-requires-4
-    same-length
-    returns
-    put-requires
-    add-p
-    loop-less
-    loop-again
-    same-length-2
-    returns-2)
+    (tie.spec Inv-loop μ-loop (λ c. omega arith) (λ c κs. omega arith) (λ c κs. omega arith) loop-holds get-requires-3
+    get-requires-4 (λ c. omega arith) returns put-requires (λ c. omega arith) (λ c. omega arith) loop-again
+    (λ c. omega arith) returns-2)

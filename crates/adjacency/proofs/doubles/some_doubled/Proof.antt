@@ -15,12 +15,6 @@ Inv-loop starts nbrs last₀ n u₀ last u = Single starts nbrs n u last
 abbrev μ-loop : tie.MeasureT-loop
 μ-loop starts nbrs last₀ n u₀ last u = n - u
 
-clear-requires : tie.Need-clear-requires Inv-loop μ-loop
-clear-requires c κs = search needs
-
-sub-n : tie.Need-sub-n Inv-loop μ-loop
-sub-n c = omega arith
-
 loop-holds : tie.Need-loop-holds Inv-loop μ-loop
 loop-holds c =
     let at-clear = c .before .before in
@@ -33,20 +27,11 @@ repeats-requires c κs =
     let at-loop = at-loop-test .before in
     (sized-at (at-loop .loop .inv .sized) (at-loop-test .loop-test .taken), at-loop .loop .inv .fresh)
 
-same-length : tie.Need-same-length Inv-loop μ-loop
-same-length c = omega arith
-
 returns : tie.Need-returns Inv-loop μ-loop
 returns c =
     let at-repeats = c .before .before .before in
     let at-loop = at-repeats .before .before .before in
     doubled-found (at-loop .loop .inv) (at-repeats .repeats .ensures) (c .if1 .taken)
-
-add-u : tie.Need-add-u Inv-loop μ-loop
-add-u c = omega arith
-
-loop-less : tie.Need-loop-less Inv-loop μ-loop
-loop-less c = omega arith
 
 loop-again : tie.Need-loop-again Inv-loop μ-loop
 loop-again c =
@@ -54,26 +39,11 @@ loop-again c =
     let at-loop = at-repeats .before .before .before in
     single-more (at-loop .loop .inv) (at-repeats .repeats .ensures) (c .if1 .left)
 
-same-length-2 : tie.Need-same-length-2 Inv-loop μ-loop
-same-length-2 c = omega arith
-
 returns-2 : tie.Need-returns-2 Inv-loop μ-loop
 returns-2 c = doubled-none (c .before .loop .inv) (c .loop-test .left)
 
 pub some-doubled-spec : {M : Type 1} → statement M
 some-doubled-spec =
     tie.close
-    (tie.spec
-    Inv-loop
-    μ-loop
-    clear-requires
-    sub-n
-    loop-holds
-    repeats-requires
-    same-length
-    returns
-    add-u
-    loop-less
-    loop-again
-    same-length-2
-    returns-2)
+    (tie.spec Inv-loop μ-loop (λ c κs. search needs) (λ c. omega arith) loop-holds repeats-requires (λ c. omega arith)
+    returns (λ c. omega arith) (λ c. omega arith) loop-again (λ c. omega arith) returns-2)

@@ -13,17 +13,11 @@ Inv-loop starts next n v₀ v = Nexts starts next n v (λ w. w + 1)
 abbrev μ-loop : tie.MeasureT-loop
 μ-loop starts next n v₀ v = n - v
 
-sub-n : tie.Need-sub-n Inv-loop μ-loop
-sub-n c = omega arith
-
 loop-holds : tie.Need-loop-holds Inv-loop μ-loop
 loop-holds c = nexts-start (λ w. w + 1) (c .before .before .pre) refl refl
 
 get-requires : tie.Need-get-requires Inv-loop μ-loop
 get-requires c κs = let k = c .before .loop .inv .few in omega arith
-
-add-get : tie.Need-add-get Inv-loop μ-loop
-add-get c = omega arith
 
 get-requires-2 : tie.Need-get-requires-2 Inv-loop μ-loop
 get-requires-2 c κs = let k = c .before .before .loop .inv .number in omega arith
@@ -36,12 +30,6 @@ returns c =
     let k = at-loop .loop .inv .number in
     nay (λ e. c .if1 .taken
     (at-get .get .ensures .0 ∙ e .ends (at-loop .loop .v) (omega arith) ∙ sym (at-get2 .get2 .ensures .0)))
-
-add-v : tie.Need-add-v Inv-loop μ-loop
-add-v c = omega arith
-
-loop-less : tie.Need-loop-less Inv-loop μ-loop
-loop-less c = omega arith
 
 loop-again : tie.Need-loop-again Inv-loop μ-loop
 loop-again c =
@@ -56,16 +44,5 @@ returns-2 c = yea (at-ends (c .before .loop .inv) (c .loop-test .left))
 pub all-full-spec : {M : Type 1} → statement M
 all-full-spec =
     tie.close
-    (tie.spec
-    Inv-loop
-    μ-loop
-    sub-n
-    loop-holds
-    get-requires
-    add-get
-    get-requires-2
-    returns
-    add-v
-    loop-less
-    loop-again
-    returns-2)
+    (tie.spec Inv-loop μ-loop (λ c. omega arith) loop-holds get-requires (λ c. omega arith) get-requires-2 returns
+    (λ c. omega arith) (λ c. omega arith) loop-again returns-2)

@@ -9,29 +9,8 @@ use borrow.Author.Needs.{needs}
 use Rattle.adjacency.proofs.reverse.all_mutual.Statement.{statement}
 use Rattle.adjacency.proofs.reverse.all_mutual.Tie as tie
 
-rewind-requires : tie.Need-rewind-requires
-rewind-requires c κs = search needs
-
-turn-all-requires : tie.Need-turn-all-requires
-turn-all-requires c κs = search needs
-
-same-length : tie.Need-same-length
-same-length c = search needs
-
-same-length-2 : tie.Need-same-length-2
-same-length-2 c = search needs
-
 returns : tie.Need-returns
 returns c = nay (told-no (c .before .before .before .before .before .turn-all .ensures) (not-true _ (c .if1 .taken)))
-
-all-full-requires : tie.Need-all-full-requires
-all-full-requires c κs = search needs
-
-same-length-3 : tie.Need-same-length-3
-same-length-3 c = search needs
-
-same-length-4 : tie.Need-same-length-4
-same-length-4 c = search needs
 
 returns-2 : tie.Need-returns-2
 returns-2 c =
@@ -41,9 +20,6 @@ returns-2 c =
     let turned = told-yes (at-turn-all .turn-all .ensures) (not-false _ (at-if1 .if1 .left)) in
     nay (λ k. told-no (at-all-full .all-full .ensures) (not-true _ (c .if2 .taken)) (filled turned k))
 
-rewind-requires-2 : tie.Need-rewind-requires-2
-rewind-requires-2 c κs = search needs
-
 match-all-requires : tie.Need-match-all-requires
 match-all-requires c κs =
     let at-rewind2 = c .before .before .before .before in
@@ -51,12 +27,6 @@ match-all-requires c κs =
     let at-turn-all = at-if1 .before .before .before .before .before in
     let turned = told-yes (at-turn-all .turn-all .ensures) (not-false _ (at-if1 .if1 .left)) in
     (turned-divided (turned .turned), at-rewind2 .rewind2 .ensures)
-
-same-length-5 : tie.Need-same-length-5
-same-length-5 c = search needs
-
-same-length-6 : tie.Need-same-length-6
-same-length-6 c = search needs
 
 returns-3 : tie.Need-returns-3
 returns-3 c =
@@ -72,18 +42,6 @@ returns-3 c =
 pub all-mutual-spec : {M : Type 1} → statement M
 all-mutual-spec =
     tie.close
-    (tie.spec
-    rewind-requires
-    turn-all-requires
-    same-length
-    same-length-2
-    returns
-    all-full-requires
-    same-length-3
-    same-length-4
-    returns-2
-    rewind-requires-2
-    match-all-requires
-    same-length-5
-    same-length-6
-    returns-3)
+    (tie.spec (λ c κs. search needs) (λ c κs. search needs) (λ c. search needs) (λ c. search needs) returns
+    (λ c κs. search needs) (λ c. search needs) (λ c. search needs) returns-2 (λ c κs. search needs) match-all-requires
+    (λ c. search needs) (λ c. search needs) returns-3)

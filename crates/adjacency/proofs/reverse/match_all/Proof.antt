@@ -31,17 +31,8 @@ match-block-requires c κs =
     let inv = at-test .before .loop .inv in
     (inv .0, round-inside (inv .1) (at-test .loop-test .taken))
 
-same-length : tie.Need-same-length Inv-loop μ-loop
-same-length c = omega arith
-
 returns : tie.Need-returns Inv-loop μ-loop
 returns c = nay (told-no (c .before .before .before .match-block .ensures) (not-true _ (c .if1 .taken)))
-
-add-u : tie.Need-add-u Inv-loop μ-loop
-add-u c = omega arith
-
-loop-less : tie.Need-loop-less Inv-loop μ-loop
-loop-less c = omega arith
 
 loop-again : tie.Need-loop-again Inv-loop μ-loop
 loop-again c =
@@ -51,9 +42,6 @@ loop-again c =
       round-more (at-test .before .loop .inv .1) (at-test .loop-test .taken),
     )
 
-same-length-2 : tie.Need-same-length-2 Inv-loop μ-loop
-same-length-2 c = omega arith
-
 returns-2 : tie.Need-returns-2 Inv-loop μ-loop
 returns-2 c =
     let inv = c .before .loop .inv in
@@ -62,16 +50,5 @@ returns-2 c =
 pub match-all-spec : {M : Type 1} → statement M
 match-all-spec =
     tie.close
-    (tie.spec
-    Inv-loop
-    μ-loop
-    sub-n
-    loop-holds
-    match-block-requires
-    same-length
-    returns
-    add-u
-    loop-less
-    loop-again
-    same-length-2
-    returns-2)
+    (tie.spec Inv-loop μ-loop sub-n loop-holds match-block-requires (λ c. omega arith) returns (λ c. omega arith)
+    (λ c. omega arith) loop-again (λ c. omega arith) returns-2)

@@ -19,15 +19,6 @@ Inv-loop starts reverse u next₀ end p₀ least₀ next p least =
 abbrev μ-loop : tie.MeasureT-loop
 μ-loop starts reverse u next₀ end p₀ least₀ next p least = end - p
 
-add-get : tie.Need-add-get Inv-loop μ-loop
-add-get c = omega arith
-
-get-requires : tie.Need-get-requires Inv-loop μ-loop
-get-requires c κs = omega arith
-
-get-requires-2 : tie.Need-get-requires-2 Inv-loop μ-loop
-get-requires-2 c κs = omega arith
-
 loop-holds : tie.Need-loop-holds Inv-loop μ-loop
 loop-holds c =
     let at-get = c .before in
@@ -43,9 +34,6 @@ get-requires-3 c κs =
     let inv = c .before .loop .inv in
     turned-place (inv .0) (along-holds (inv .2) (c .loop-test .taken))
 
-same-length : tie.Need-same-length Inv-loop μ-loop
-same-length c = omega arith
-
 returns : tie.Need-returns Inv-loop μ-loop
 returns c =
     let at-get3 = c .before in
@@ -60,20 +48,8 @@ match-place-requires c κs =
     let inv = at-test .before .loop .inv in
     (inv .0, along-holds (inv .2) (at-test .loop-test .taken))
 
-same-length-2 : tie.Need-same-length-2 Inv-loop μ-loop
-same-length-2 c = omega arith
-
 returns-2 : tie.Need-returns-2 Inv-loop μ-loop
 returns-2 c = nay (told-no (c .before .before .before .match-place .ensures) (not-true _ (c .if2 .taken)))
-
-add-least : tie.Need-add-least Inv-loop μ-loop
-add-least c = omega arith
-
-add-p : tie.Need-add-p Inv-loop μ-loop
-add-p c = omega arith
-
-loop-less : tie.Need-loop-less Inv-loop μ-loop
-loop-less c = omega arith
 
 loop-again : tie.Need-loop-again Inv-loop μ-loop
 loop-again c =
@@ -88,9 +64,6 @@ loop-again c =
       along-more (inv .2) (at-test .loop-test .taken),
     )
 
-same-length-3 : tie.Need-same-length-3 Inv-loop μ-loop
-same-length-3 c = omega arith
-
 returns-3 : tie.Need-returns-3 Inv-loop μ-loop
 returns-3 c =
     let inv = c .before .loop .inv in
@@ -100,22 +73,6 @@ returns-3 c =
 pub match-block-spec : {M : Type 1} → statement M
 match-block-spec =
     tie.close
-    (tie.spec
-    Inv-loop
-    μ-loop
-    add-get
-    get-requires
-    get-requires-2
-    loop-holds
-    get-requires-3
-    same-length
-    returns
-    match-place-requires
-    same-length-2
-    returns-2
-    add-least
-    add-p
-    loop-less
-    loop-again
-    same-length-3
-    returns-3)
+    (tie.spec Inv-loop μ-loop (λ c. omega arith) (λ c κs. omega arith) (λ c κs. omega arith) loop-holds get-requires-3
+    (λ c. omega arith) returns match-place-requires (λ c. omega arith) returns-2 (λ c. omega arith) (λ c. omega arith)
+    (λ c. omega arith) loop-again (λ c. omega arith) returns-3)

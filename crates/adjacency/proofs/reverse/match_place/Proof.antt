@@ -13,26 +13,11 @@ get-requires c κs =
     let start = c .before .before .before in
     turned-place (start .pre .0) (start .pre .1)
 
-sub-if1 : tie.Need-sub-if1
-sub-if1 c = search needs
-
 returns : tie.Need-returns
 returns c =
     let at-get = c .before in
     let start = at-get .before .before .before .before in
     nay (λ o. all-terminals (start .pre .0) o (start .pre .1) (at-get .get .ensures .0) (c .if1 .taken))
-
-get-requires-2 : tie.Need-get-requires-2
-get-requires-2 c κs = search needs
-
-add-get : tie.Need-add-get
-add-get c = search needs
-
-get-requires-3 : tie.Need-get-requires-3
-get-requires-3 c κs = search needs
-
-same-length : tie.Need-same-length
-same-length c = search needs
 
 returns-2 : tie.Need-returns-2
 returns-2 c =
@@ -52,9 +37,6 @@ get-requires-4 c κs =
     next-place (start .pre .0) (at-get .get .result) (omega arith) (at-get2 .get2 .ensures .0)
     (λ e. c .if2 .left (e ∙ sym (at-get3 .get3 .ensures .0))) .1
 
-same-length-2 : tie.Need-same-length-2
-same-length-2 c = search needs
-
 returns-3 : tie.Need-returns-3
 returns-3 c =
     let at-get4 = c .before in
@@ -67,9 +49,6 @@ returns-3 c =
     ∙ next-is (start .pre .0) o (start .pre .1) (at-get .get .ensures .0) (omega arith) (at-get2 .get2 .ensures .0)
     (λ e. at-if2 .if2 .left (e ∙ sym (at-get3 .get3 .ensures .0)))))
 
-add-put : tie.Need-add-put
-add-put c = search needs
-
 put-requires : tie.Need-put-requires
 put-requires c κs =
     let at-if2 = c .before .before .before in
@@ -81,9 +60,6 @@ put-requires c κs =
     let m = next-place (start .pre .0) (at-get .get .result) (omega arith) (at-get2 .get2 .ensures .0)
     (λ e. at-if2 .if2 .left (e ∙ sym (at-get3 .get3 .ensures .0))) in
     (omega arith, omega arith)
-
-same-length-3 : tie.Need-same-length-3
-same-length-3 c = search needs
 
 returns-4 : tie.Need-returns-4
 returns-4 c =
@@ -102,19 +78,6 @@ returns-4 c =
 pub match-place-spec : {M : Type 1} → statement M
 match-place-spec =
     tie.close
-    (tie.spec
-    get-requires
-    sub-if1
-    returns
-    get-requires-2
-    add-get
-    get-requires-3
-    same-length
-    returns-2
-    get-requires-4
-    same-length-2
-    returns-3
-    add-put
-    put-requires
-    same-length-3
-    returns-4)
+    (tie.spec get-requires (λ c. search needs) returns (λ c κs. search needs) (λ c. search needs)
+    (λ c κs. search needs) (λ c. search needs) returns-2 get-requires-4 (λ c. search needs) returns-3
+    (λ c. search needs) put-requires (λ c. search needs) returns-4)

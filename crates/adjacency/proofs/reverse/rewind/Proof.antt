@@ -12,9 +12,6 @@ Inv-loop starts next₀ n v₀ next v = Nexts starts next n v (λ w. w)
 abbrev μ-loop : tie.MeasureT-loop
 μ-loop starts next₀ n v₀ next v = n - v
 
-sub-n : tie.Need-sub-n Inv-loop μ-loop
-sub-n c = omega arith
-
 loop-holds : tie.Need-loop-holds Inv-loop μ-loop
 loop-holds c = nexts-start (λ w. w) (c .before .before .pre) refl refl
 
@@ -24,20 +21,11 @@ get-requires c κs = let k = c .before .loop .inv .number in omega arith
 put-requires : tie.Need-put-requires Inv-loop μ-loop
 put-requires c κs = let k = c .before .before .before .loop .inv .few in omega arith
 
-add-v : tie.Need-add-v Inv-loop μ-loop
-add-v c = omega arith
-
-loop-less : tie.Need-loop-less Inv-loop μ-loop
-loop-less c = omega arith
-
 loop-again : tie.Need-loop-again Inv-loop μ-loop
 loop-again c =
     nexts-set (c .before .before .before .before .before .before .loop .inv)
     (c .before .before .before .before .before .loop-test .taken)
     (c .before .before .before .before .get .ensures .0) (c .before .before .put .ensures)
-
-same-length : tie.Need-same-length Inv-loop μ-loop
-same-length c = omega arith
 
 returns : tie.Need-returns Inv-loop μ-loop
 returns c = at-starts (c .before .loop .inv) (c .loop-test .left)
@@ -45,15 +33,5 @@ returns c = at-starts (c .before .loop .inv) (c .loop-test .left)
 pub rewind-spec : {M : Type 1} → statement M
 rewind-spec =
     tie.close
-    (tie.spec
-    Inv-loop
-    μ-loop
-    sub-n
-    loop-holds
-    get-requires
-    put-requires
-    add-v
-    loop-less
-    loop-again
-    same-length
-    returns)
+    (tie.spec Inv-loop μ-loop (λ c. omega arith) loop-holds get-requires put-requires (λ c. omega arith)
+    (λ c. omega arith) loop-again (λ c. omega arith) returns)

@@ -18,15 +18,6 @@ Inv-loop starts nbrs u reverse₀ next₀ end p₀ reverse next p =
 abbrev μ-loop : tie.MeasureT-loop
 μ-loop starts nbrs u reverse₀ next₀ end p₀ reverse next p = end - p
 
-add-get : tie.Need-add-get Inv-loop μ-loop
-add-get c = omega arith
-
-get-requires : tie.Need-get-requires Inv-loop μ-loop
-get-requires c κs = omega arith
-
-get-requires-2 : tie.Need-get-requires-2 Inv-loop μ-loop
-get-requires-2 c κs = omega arith
-
 loop-holds : tie.Need-loop-holds Inv-loop μ-loop
 loop-holds c =
     let at-get = c .before in
@@ -42,20 +33,8 @@ turn-place-requires c κs =
     let at-loop = at-test .before in
     (at-loop .loop .inv .0, along-holds (at-loop .loop .inv .1) (at-test .loop-test .taken))
 
-same-length : tie.Need-same-length Inv-loop μ-loop
-same-length c = omega arith
-
-same-length-2 : tie.Need-same-length-2 Inv-loop μ-loop
-same-length-2 c = omega arith
-
 returns : tie.Need-returns Inv-loop μ-loop
 returns c = nay (told-no (c .before .before .before .before .before .turn-place .ensures) (not-true _ (c .if1 .taken)))
-
-add-p : tie.Need-add-p Inv-loop μ-loop
-add-p c = omega arith
-
-loop-less : tie.Need-loop-less Inv-loop μ-loop
-loop-less c = omega arith
 
 loop-again : tie.Need-loop-again Inv-loop μ-loop
 loop-again c =
@@ -65,12 +44,6 @@ loop-again c =
       along-more (at-test .before .loop .inv .1) (at-test .loop-test .taken),
     )
 
-same-length-3 : tie.Need-same-length-3 Inv-loop μ-loop
-same-length-3 c = omega arith
-
-same-length-4 : tie.Need-same-length-4 Inv-loop μ-loop
-same-length-4 c = omega arith
-
 returns-2 : tie.Need-returns-2 Inv-loop μ-loop
 returns-2 c =
     let inv = c .before .loop .inv in
@@ -79,20 +52,6 @@ returns-2 c =
 pub turn-block-spec : {M : Type 1} → statement M
 turn-block-spec =
     tie.close
-    (tie.spec
-    Inv-loop
-    μ-loop
-    add-get
-    get-requires
-    get-requires-2
-    loop-holds
-    turn-place-requires
-    same-length
-    same-length-2
-    returns
-    add-p
-    loop-less
-    loop-again
-    same-length-3
-    same-length-4
-    returns-2)
+    (tie.spec Inv-loop μ-loop (λ c. omega arith) (λ c κs. omega arith) (λ c κs. omega arith) loop-holds
+    turn-place-requires (λ c. omega arith) (λ c. omega arith) returns (λ c. omega arith) (λ c. omega arith) loop-again
+    (λ c. omega arith) (λ c. omega arith) returns-2)

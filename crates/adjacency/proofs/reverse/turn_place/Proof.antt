@@ -13,9 +13,6 @@ get-requires c κs =
     let start = c .before .before .before .before in
     turned-place (start .pre .0 .turned) (start .pre .1)
 
-sub-if1 : tie.Need-sub-if1
-sub-if1 c = search needs
-
 returns : tie.Need-returns
 returns c =
     let at-get = c .before in
@@ -27,18 +24,6 @@ returns-2 c =
     let at-get = c .before .before in
     let start = at-get .before .before .before .before .before in
     nay (λ k. no-own (start .pre .0 .turned .divided) (start .pre .1) (at-get .get .ensures .0) k (c .if2 .taken))
-
-get-requires-2 : tie.Need-get-requires-2
-get-requires-2 c κs = search needs
-
-add-get : tie.Need-add-get
-add-get c = search needs
-
-get-requires-3 : tie.Need-get-requires-3
-get-requires-3 c κs = search needs
-
-same-length : tie.Need-same-length
-same-length c = search needs
 
 returns-3 : tie.Need-returns-3
 returns-3 c =
@@ -62,9 +47,6 @@ put-requires c κs =
     (λ e. at-if3 .if3 .left (e ∙ sym (at-get3 .get3 .ensures .0))) in
     (m .1, omega arith)
 
-add-put : tie.Need-add-put
-add-put c = search needs
-
 put-requires-2 : tie.Need-put-requires-2
 put-requires-2 c κs =
     let at-if3 = c .before .before .before .before .before in
@@ -76,12 +58,6 @@ put-requires-2 c κs =
     let m = next-place (start .pre .0 .turned) (at-get .get .result) (omega arith) (at-get2 .get2 .ensures .0)
     (λ e. at-if3 .if3 .left (e ∙ sym (at-get3 .get3 .ensures .0))) in
     (omega arith, omega arith)
-
-same-length-2 : tie.Need-same-length-2
-same-length-2 c = search needs
-
-same-length-3 : tie.Need-same-length-3
-same-length-3 c = search needs
 
 returns-4 : tie.Need-returns-4
 returns-4 c =
@@ -100,19 +76,6 @@ returns-4 c =
 pub turn-place-spec : {M : Type 1} → statement M
 turn-place-spec =
     tie.close
-    (tie.spec
-    get-requires
-    sub-if1
-    returns
-    returns-2
-    get-requires-2
-    add-get
-    get-requires-3
-    same-length
-    returns-3
-    put-requires
-    add-put
-    put-requires-2
-    same-length-2
-    same-length-3
-    returns-4)
+    (tie.spec get-requires (λ c. search needs) returns returns-2 (λ c κs. search needs) (λ c. search needs)
+    (λ c κs. search needs) (λ c. search needs) returns-3 put-requires (λ c. search needs) put-requires-2
+    (λ c. search needs) (λ c. search needs) returns-4)

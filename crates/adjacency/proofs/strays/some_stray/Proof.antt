@@ -36,12 +36,6 @@ returns c =
     let start = at-stray-in .before .before .before .before .before in
     stray-found (start .pre) (told-yes (at-stray-in .stray-in .ensures) (c .if1 .taken))
 
-add-u : tie.Need-add-u Inv-loop μ-loop
-add-u c = omega arith
-
-loop-less : tie.Need-loop-less Inv-loop μ-loop
-loop-less c = omega arith
-
 loop-again : tie.Need-loop-again Inv-loop μ-loop
 loop-again c =
     let at-stray-in = c .before in
@@ -60,14 +54,5 @@ returns-2 c =
 pub some-stray-spec : {M : Type 1} → statement M
 some-stray-spec =
     tie.close
-    (tie.spec
-    Inv-loop
-    μ-loop
-    sub-n
-    loop-holds
-    stray-in-requires
-    returns
-    add-u
-    loop-less
-    loop-again
-    returns-2)
+    (tie.spec Inv-loop μ-loop sub-n loop-holds stray-in-requires returns (λ c. omega arith) (λ c. omega arith)
+    loop-again returns-2)

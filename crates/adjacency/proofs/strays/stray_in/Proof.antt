@@ -24,15 +24,6 @@ sub-n c =
     let start = c .before .before in
     let s = start .pre .0 .some in omega arith
 
-add-get : tie.Need-add-get Inv-loop μ-loop
-add-get c = omega arith
-
-get-requires : tie.Need-get-requires Inv-loop μ-loop
-get-requires c κs = omega arith
-
-get-requires-2 : tie.Need-get-requires-2 Inv-loop μ-loop
-get-requires-2 c κs = omega arith
-
 loop-holds : tie.Need-loop-holds Inv-loop μ-loop
 loop-holds c =
     let at-get = c .before in
@@ -60,12 +51,6 @@ returns-2 c =
     own-neighbour (at-loop .loop .inv) (at-loop-test .loop-test .taken) (at-get3 .get3 .ensures .0) (at-if1 .if1 .left)
     (c .if2 .taken)
 
-add-p : tie.Need-add-p Inv-loop μ-loop
-add-p c = omega arith
-
-loop-less : tie.Need-loop-less Inv-loop μ-loop
-loop-less c = omega arith
-
 loop-again : tie.Need-loop-again Inv-loop μ-loop
 loop-again c =
     let at-if1 = c .before in
@@ -83,18 +68,5 @@ returns-3 c =
 pub stray-in-spec : {M : Type 1} → statement M
 stray-in-spec =
     tie.close
-    (tie.spec
-    Inv-loop
-    μ-loop
-    sub-n
-    add-get
-    get-requires
-    get-requires-2
-    loop-holds
-    get-requires-3
-    returns
-    returns-2
-    add-p
-    loop-less
-    loop-again
-    returns-3)
+    (tie.spec Inv-loop μ-loop sub-n (λ c. omega arith) (λ c κs. omega arith) (λ c κs. omega arith) loop-holds
+    get-requires-3 returns returns-2 (λ c. omega arith) (λ c. omega arith) loop-again returns-3)

@@ -22,26 +22,11 @@ tried-by l r =
     let b = l .all-next in
     (divided-of r, (omega arith, omega arith))
 
-fill-arrays-requires : tie.Need-fill-arrays-requires
-fill-arrays-requires c κs = search needs
-
 try-rules-requires : tie.Need-try-rules-requires
 try-rules-requires c κs =
     let at-fill-arrays = c .before .before .before .before .before .before .before .before in
     let start = at-fill-arrays .before .before .before .before .before .before .before .before in
     tried-by (start .pre .1) (at-fill-arrays .fill-arrays .ensures)
-
-same-length : tie.Need-same-length
-same-length c = search needs
-
-same-length-2 : tie.Need-same-length-2
-same-length-2 c = search needs
-
-same-length-3 : tie.Need-same-length-3
-same-length-3 c = search needs
-
-same-length-4 : tie.Need-same-length-4
-same-length-4 c = search needs
 
 returns : tie.Need-returns
 returns c =
@@ -55,11 +40,5 @@ returns c =
 pub check-arrays-spec : {M : Type 1} → statement M
 check-arrays-spec =
     tie.close
-    (tie.spec
-    fill-arrays-requires
-    try-rules-requires
-    same-length
-    same-length-2
-    same-length-3
-    same-length-4
-    returns)
+    (tie.spec (λ c κs. search needs) try-rules-requires (λ c. search needs) (λ c. search needs) (λ c. search needs)
+    (λ c. search needs) returns)

@@ -14,9 +14,6 @@ use Rattle.record.specs.Laws.OneBlock.{outside, places-rise, degree-span
 use Rattle.record.proofs.blocks.degree_in.Statement.{statement}
 use Rattle.record.proofs.blocks.degree_in.Tie as tie
 
-out-of-range-requires : tie.Need-out-of-range-requires
-out-of-range-requires c κs = search needs
-
 returns : tie.Need-returns
 unfolding degree
 returns c =
@@ -55,4 +52,5 @@ returns-2 c =
 
 pub degree-in-spec : {M : Type 1} → statement M
 degree-in-spec =
-    tie.close (tie.spec out-of-range-requires returns sub-span-of span-of-requires sub-t9 returns-2)
+    tie.close
+    (tie.spec (λ c κs. search needs) returns sub-span-of span-of-requires sub-t9 returns-2)

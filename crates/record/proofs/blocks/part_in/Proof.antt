@@ -10,17 +10,11 @@ use Rattle.record.specs.Laws.OneBlock.{outside, places-rise, part-outsid
 use Rattle.record.proofs.blocks.part_in.Statement.{statement}
 use Rattle.record.proofs.blocks.part_in.Tie as tie
 
-out-of-range-requires : tie.Need-out-of-range-requires
-out-of-range-requires c κs = search needs
-
 returns : tie.Need-returns
 returns c =
     let args = c .before .before .before .args in
     let pre = c .before .before .before .pre in
     part-outside pre (args .v .0) (outside pre (args .v .0) (sym (c .before .out-of-range .ensures) ∙ c .if1 .taken))
-
-mul-if2 : tie.Need-mul-if2
-mul-if2 c = search needs
 
 -- v is a terminal
 abbrev start : tie.Else1 → tie.Start
@@ -44,9 +38,6 @@ span-of-requires : tie.Need-span-of-requires
 span-of-requires c κs = let (z, u) = upto (c .before) in (start (c .before) .pre, omega arith)
 
 -- its part, by the places of D
-sub-from : tie.Need-sub-from
-sub-from c = search needs
-
 sub-t10 : tie.Need-sub-t10
 sub-t10 c =
     let else = c .before .before .before .before in
@@ -62,13 +53,5 @@ returns-3 c =
 pub part-in-spec : {M : Type 1} → statement M
 part-in-spec =
     tie.close
-    (tie.spec
-    out-of-range-requires
-    returns
-    mul-if2
-    returns-2
-    sub-span-of
-    span-of-requires
-    sub-from
-    sub-t10
-    returns-3)
+    (tie.spec (λ c κs. search needs) returns (λ c. search needs) returns-2 sub-span-of span-of-requires
+    (λ c. search needs) sub-t10 returns-3)

@@ -23,21 +23,6 @@ loop-holds c =
     let read-fours = c .before .before .read-fours in
     rw (read-fours .ensures .size) (read-fours .ensures)
 
-mul-read12 : tie.Need-mul-read12 Inv-loop μ-loop
-mul-read12 c = omega arith
-
-add-read12 : tie.Need-add-read12 Inv-loop μ-loop
-add-read12 c = omega arith
-
-read12-requires : tie.Need-read12-requires Inv-loop μ-loop
-read12-requires c κs = omega arith
-
-put-requires : tie.Need-put-requires Inv-loop μ-loop
-put-requires c κs = omega arith
-
-add-i : tie.Need-add-i Inv-loop μ-loop
-add-i c = omega arith
-
 loop-less : tie.Need-loop-less Inv-loop μ-loop
 loop-less c =
     let at-put = c .before .before in
@@ -67,17 +52,5 @@ returns c =
 pub read-fields-spec : {M : Type 1} → statement M
 read-fields-spec =
     tie.close
-    (tie.spec
-    Inv-loop
-    μ-loop
-    read-fours-requires
-    loop-holds
-    mul-read12
-    add-read12
-    read12-requires
-    put-requires
-    add-i
-    loop-less
-    loop-again
-    same-length
-    returns)
+    (tie.spec Inv-loop μ-loop read-fours-requires loop-holds (λ c. omega arith) (λ c. omega arith)
+    (λ c κs. omega arith) (λ c κs. omega arith) (λ c. omega arith) loop-less loop-again same-length returns)

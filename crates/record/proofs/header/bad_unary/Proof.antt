@@ -8,15 +8,6 @@ use Rattle.record.proofs.Laws.Reading.Headers.{holds-all, ones-differ, 
 use Rattle.record.proofs.header.bad_unary.Statement.{statement}
 use Rattle.record.proofs.header.bad_unary.Tie as tie
 
-mul-places : tie.Need-mul-places
-mul-places c = search needs
-
-add-places : tie.Need-add-places
-add-places c = search needs
-
-rank-requires : tie.Need-rank-requires
-rank-requires c κs = search needs
-
 returns : tie.Need-returns
 returns c = ones-differ (c .before .before .before .pre) (c .before .rank .ensures) (c .if1 .taken)
 
@@ -44,12 +35,5 @@ returns-4 c =
 pub bad-unary-spec : {M : Type 1} → statement M
 bad-unary-spec =
     tie.close
-    (tie.spec
-    mul-places
-    add-places
-    rank-requires
-    returns
-    returns-2
-    read-bit-requires
-    returns-3
-    returns-4)
+    (tie.spec (λ c. search needs) (λ c. search needs) (λ c κs. search needs) returns returns-2 read-bit-requires
+    returns-3 returns-4)

@@ -7,15 +7,6 @@ use Rattle.record.proofs.Laws.Reading.Headers.{layout-refused, layout-s
 use Rattle.record.proofs.header.laid_out.Statement.{statement}
 use Rattle.record.proofs.header.laid_out.Tie as tie
 
-order-r-requires : tie.Need-order-r-requires
-order-r-requires c κs = search needs
-
-enum-known-r : tie.Need-enum-known-r
-enum-known-r c = search needs
-
-enum-known-s : tie.Need-enum-known-s
-enum-known-s c = search needs
-
 spare-set-requires : tie.Need-spare-set-requires
 spare-set-requires c κs =
     let at-s = c .before in
@@ -51,11 +42,5 @@ returns-3 c =
 pub laid-out-spec : {M : Type 1} → statement M
 laid-out-spec =
     tie.close
-    (tie.spec
-    order-r-requires
-    enum-known-r
-    enum-known-s
-    spare-set-requires
-    returns
-    returns-2
+    (tie.spec (λ c κs. search needs) (λ c. search needs) (λ c. search needs) spare-set-requires returns returns-2
     returns-3)

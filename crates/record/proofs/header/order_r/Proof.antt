@@ -15,12 +15,6 @@ returns : tie.Need-returns
 returns c =
     told (sizesOf (c .before .before .args .bytes .now)) (rule-1 (c .before .before .args .bytes .now) (c .if1 .taken))
 
-read13-requires : tie.Need-read13-requires
-read13-requires c κs = search needs
-
-read15-requires : tie.Need-read15-requires
-read15-requires c κs = search needs
-
 returns-2 : tie.Need-returns-2
 unfolding terminals wires
 returns-2 c =
@@ -32,9 +26,6 @@ unfolding terminals wires
 returns-3 c =
     let bytes = c .before .before .before .before .before .before .args .bytes .now in
     told (sizesOf bytes) (rule-2-m bytes (c .before .before .before .before .if1 .left) (omega arith) (omega arith))
-
-record-length-requires : tie.Need-record-length-requires
-record-length-requires c κs = search needs
 
 returns-4 : tie.Need-returns-4
 unfolding terminals wires
@@ -85,14 +76,5 @@ returns-6 c =
 pub order-r-spec : {M : Type 1} → statement M
 order-r-spec =
     tie.close
-    (tie.spec
-    returns
-    read13-requires
-    read15-requires
-    returns-2
-    returns-3
-    record-length-requires
-    returns-4
-    bad-unary-requires
-    returns-5
-    returns-6)
+    (tie.spec returns (λ c κs. search needs) (λ c κs. search needs) returns-2 returns-3 (λ c κs. search needs)
+    returns-4 bad-unary-requires returns-5 returns-6)

@@ -8,33 +8,6 @@ use Rattle.record.specs.Laws.Sounded.{spare-counted}
 use Rattle.record.proofs.header.spare_set.Statement.{statement}
 use Rattle.record.proofs.header.spare_set.Tie as tie
 
-mul-used : tie.Need-mul-used
-mul-used c = search needs
-
-add-used : tie.Need-add-used
-add-used c = search needs
-
-add-used-2 : tie.Need-add-used-2
-add-used-2 c = search needs
-
-mul-used-2 : tie.Need-mul-used-2
-mul-used-2 c = search needs
-
-mul-used-3 : tie.Need-mul-used-3
-mul-used-3 c = search needs
-
-add-used-3 : tie.Need-add-used-3
-add-used-3 c = search needs
-
-mul-spare : tie.Need-mul-spare
-mul-spare c = omega arith
-
-sub-spare : tie.Need-sub-spare
-sub-spare c = omega arith
-
-rank-requires : tie.Need-rank-requires
-rank-requires c κs = search needs
-
 returns : tie.Need-returns
 returns c =
     let start = c .before .before in
@@ -46,14 +19,5 @@ returns c =
 pub spare-set-spec : {M : Type 1} → statement M
 spare-set-spec =
     tie.close
-    (tie.spec
-    mul-used
-    add-used
-    add-used-2
-    mul-used-2
-    mul-used-3
-    add-used-3
-    mul-spare
-    sub-spare
-    rank-requires
-    returns)
+    (tie.spec (λ c. search needs) (λ c. search needs) (λ c. search needs) (λ c. search needs) (λ c. search needs)
+    (λ c. search needs) (λ c. omega arith) (λ c. omega arith) (λ c κs. search needs) returns)

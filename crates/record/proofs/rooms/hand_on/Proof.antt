@@ -22,29 +22,14 @@ loop-holds c =
     let l = length-map (c .args .nbrs .now) suc in
     order-start (map suc (c .args .nbrs .now)) (c .args .list .now) (c .pre .0 ∙ sym l)
 
-mul-list : tie.Need-mul-list Inv-loop μ-loop
-mul-list c = search needs
-
-shared-slice-read-list : tie.Need-shared-slice-read-list Inv-loop μ-loop
-shared-slice-read-list c = omega arith
-
 add-list : tie.Need-add-list Inv-loop μ-loop
 add-list c = let h = c .before .before .before .pre .1 (c .before .before .loop .i) (omega arith) in omega arith
-
-mul-list-2 : tie.Need-mul-list-2 Inv-loop μ-loop
-mul-list-2 c = search needs
 
 slice-write-list : tie.Need-slice-write-list Inv-loop μ-loop
 slice-write-list c =
     let at-loop = c .before .before in
     let start = at-loop .before in
     let l = length-map (start .args .nbrs .now) suc in let s = at-loop .loop .inv .size in omega arith
-
-add-i : tie.Need-add-i Inv-loop μ-loop
-add-i c = omega arith
-
-loop-less : tie.Need-loop-less Inv-loop μ-loop
-loop-less c = omega arith
 
 loop-again : tie.Need-loop-again Inv-loop μ-loop
 loop-again c =
@@ -69,17 +54,5 @@ returns c =
 pub hand-on-spec : {M : Type 1} → statement M
 hand-on-spec =
     tie.close
-    (tie.spec
-    Inv-loop
-    μ-loop
-    loop-holds
-    mul-list
-    shared-slice-read-list
-    add-list
-    mul-list-2
-    slice-write-list
-    add-i
-    loop-less
-    loop-again
-    same-length
-    returns)
+    (tie.spec Inv-loop μ-loop loop-holds (λ c. search needs) (λ c. omega arith) add-list (λ c. search needs)
+    slice-write-list (λ c. omega arith) (λ c. omega arith) loop-again same-length returns)

@@ -9,28 +9,10 @@ use borrow.Author.Needs.{needs}
 use Rattle.record.proofs.rules.try_rules.Statement.{statement}
 use Rattle.record.proofs.rules.try_rules.Tie as tie
 
-all-mutual-requires : tie.Need-all-mutual-requires
-all-mutual-requires c κs = search needs
-
-same-length : tie.Need-same-length
-same-length c = search needs
-
-same-length-2 : tie.Need-same-length-2
-same-length-2 c = search needs
-
 returns : tie.Need-returns
 returns c =
     let at-all-mutual = c .before .before .before .before .before in
     kept-told (told-yes (at-all-mutual .all-mutual .ensures) (c .if1 .taken))
-
-some-stray-requires : tie.Need-some-stray-requires
-some-stray-requires c κs = search needs
-
-same-length-3 : tie.Need-same-length-3
-same-length-3 c = search needs
-
-same-length-4 : tie.Need-same-length-4
-same-length-4 c = search needs
 
 returns-2 : tie.Need-returns-2
 returns-2 c =
@@ -45,12 +27,6 @@ some-doubled-requires c κs =
     let start = at-all-mutual .before .before .before .before .before .before .before in
     (arrays-kept (start .pre .0) (sym (at-some-stray .some-stray .ensures) ∙ at-if2 .if2 .left), omega arith)
 
-same-length-5 : tie.Need-same-length-5
-same-length-5 c = search needs
-
-same-length-6 : tie.Need-same-length-6
-same-length-6 c = search needs
-
 returns-3 : tie.Need-returns-3
 returns-3 c =
     let at-some-doubled = c .before .before .before in
@@ -58,12 +34,6 @@ returns-3 c =
     let at-some-stray = at-if2 .before in
     turn-7 _ (at-some-stray .some-stray .ensures) (at-if2 .if2 .left) (at-some-doubled .some-doubled .ensures)
     (c .if3 .taken)
-
-same-length-7 : tie.Need-same-length-7
-same-length-7 c = search needs
-
-same-length-8 : tie.Need-same-length-8
-same-length-8 c = search needs
 
 returns-4 : tie.Need-returns-4
 returns-4 c =
@@ -79,19 +49,6 @@ returns-4 c =
 pub try-rules-spec : {M : Type 1} → statement M
 try-rules-spec =
     tie.close
-    (tie.spec
-    all-mutual-requires
-    same-length
-    same-length-2
-    returns
-    some-stray-requires
-    same-length-3
-    same-length-4
-    returns-2
-    some-doubled-requires
-    same-length-5
-    same-length-6
-    returns-3
-    same-length-7
-    same-length-8
-    returns-4)
+    (tie.spec (λ c κs. search needs) (λ c. search needs) (λ c. search needs) returns (λ c κs. search needs)
+    (λ c. search needs) (λ c. search needs) returns-2 some-doubled-requires (λ c. search needs) (λ c. search needs)
+    returns-3 (λ c. search needs) (λ c. search needs) returns-4)

@@ -27,9 +27,6 @@ loop-holds c = c .before .before .pre .1
 top-requires : tie.Need-top-requires Inv-loop μ-loop
 top-requires c κs = let h = c .loop-test .taken in omega arith
 
-add-put : tie.Need-add-put Inv-loop μ-loop
-add-put c = omega arith
-
 sub-put : tie.Need-sub-put Inv-loop μ-loop
 sub-put c = let b = bounds (c .before) in omega arith
 
@@ -74,18 +71,5 @@ returns c = entering-end (c .before .loop .inv) (c .loop-test .left)
 pub enter-ones-spec : {M : Type 1} → statement M
 enter-ones-spec =
     tie.close
-    (tie.spec
-    Inv-loop
-    μ-loop
-    loop-holds
-    top-requires
-    add-put
-    sub-put
-    sub-put-2
-    put-requires
-    without-requires
-    add-next
-    loop-less
-    loop-again
-    same-length
-    returns)
+    (tie.spec Inv-loop μ-loop loop-holds top-requires (λ c. omega arith) sub-put sub-put-2 put-requires
+    without-requires add-next loop-less loop-again same-length returns)

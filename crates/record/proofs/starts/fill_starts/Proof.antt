@@ -16,12 +16,6 @@ Inv-loop bytes n m starts₀ places i₀ k₀ starts i k = Filling (unary bytes)
 abbrev μ-loop : tie.MeasureT-loop
 μ-loop bytes n m starts₀ places i₀ k₀ starts i k = places - i
 
-mul-places : tie.Need-mul-places Inv-loop μ-loop
-mul-places c = omega arith
-
-add-places : tie.Need-add-places Inv-loop μ-loop
-add-places c = omega arith
-
 loop-holds : tie.Need-loop-holds Inv-loop μ-loop
 loop-holds c =
     let args = c .before .before .args in
@@ -29,18 +23,6 @@ loop-holds c =
     let e = sound-ones (pre .0) in
     let f = pre .1 in
     filling-start (unary (args .bytes .now)) (args .starts .now) (omega arith)
-
-part-end-requires : tie.Need-part-end-requires Inv-loop μ-loop
-part-end-requires c κs = omega arith
-
-add-read-long : tie.Need-add-read-long Inv-loop μ-loop
-add-read-long c = omega arith
-
-sub-read-long : tie.Need-sub-read-long Inv-loop μ-loop
-sub-read-long c = omega arith
-
-read-long-requires : tie.Need-read-long-requires Inv-loop μ-loop
-read-long-requires c κs = omega arith
 
 enter-ones-requires : tie.Need-enter-ones-requires Inv-loop μ-loop
 enter-ones-requires c κs =
@@ -50,9 +32,6 @@ enter-ones-requires c κs =
     let end = c .before .before .part-end .result in
     let part = c .read-long .ensures ∙ sound-part (pre .0) (end - loop .i) (loop .i) (omega arith) in
     (omega arith, entering-start end (loop .inv) (omega arith) (omega arith) part)
-
-loop-less : tie.Need-loop-less Inv-loop μ-loop
-loop-less c = omega arith
 
 loop-again : tie.Need-loop-again Inv-loop μ-loop
 loop-again c = c .before .before .enter-ones .ensures
@@ -88,20 +67,6 @@ returns c =
 pub fill-starts-spec : {M : Type 1} → statement M
 fill-starts-spec =
     tie.close
-    (tie.spec
-    Inv-loop
-    μ-loop
-    mul-places
-    add-places
-    loop-holds
-    part-end-requires
-    add-read-long
-    sub-read-long
-    read-long-requires
-    enter-ones-requires
-    loop-less
-    loop-again
-    sub-put
-    put-requires
-    same-length
-    returns)
+    (tie.spec Inv-loop μ-loop (λ c. omega arith) (λ c. omega arith) loop-holds (λ c κs. omega arith) (λ c. omega arith)
+    (λ c. omega arith) (λ c κs. omega arith) enter-ones-requires (λ c. omega arith) loop-again sub-put put-requires
+    same-length returns)

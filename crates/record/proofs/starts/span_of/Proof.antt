@@ -4,15 +4,6 @@ use Rattle.record.specs.Laws.Sounded.{sound-one, sound-span}
 use Rattle.record.proofs.starts.span_of.Statement.{statement}
 use Rattle.record.proofs.starts.span_of.Tie as tie
 
-mul-span-from : tie.Need-mul-span-from
-mul-span-from c = omega arith
-
-add-span-from : tie.Need-add-span-from
-add-span-from c = omega arith
-
-add-span-from-2 : tie.Need-add-span-from-2
-add-span-from-2 c = omega arith
-
 span-from-requires : tie.Need-span-from-requires
 span-from-requires c κs =
     let pre = c .before .pre in
@@ -25,4 +16,5 @@ returns c =
 
 pub span-of-spec : {M : Type 1} → statement M
 span-of-spec =
-    tie.close (tie.spec mul-span-from add-span-from add-span-from-2 span-from-requires returns)
+    tie.close
+    (tie.spec (λ c. omega arith) (λ c. omega arith) (λ c. omega arith) span-from-requires returns)
