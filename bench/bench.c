@@ -1,13 +1,15 @@
-/* Compares the product with plain C on records of several shapes and sizes, first by answers and written buffers, then by time.
+/* Compares the product with plain C on records of several shapes and sizes, first by answers and written buffers, then
+   by time.
 
    bench                           the tables, as Markdown
    bench compare                   the answers alone
-   bench once SIDE OP SHAPE SIZE   what is counted: one call on a record, or for a query one for each argument. SIDE is product or plain,
-                                   OP an operation, SIZE 0 to 3
+   bench once SIDE OP SHAPE SIZE   what is counted: one call on a record, or for a query one for each argument.
+                                   SIDE is product or plain, OP an operation, SIZE 0 to 3
    bench record SHAPE SIZE         that record's bytes
    bench sizes SHAPE SIZE          its n and m
 
-   Both sides run in turn, many times, and the least time of each counts. No buffer is cleared between two timed calls. */
+   Both sides run in turn, many times, and the least time of each counts. No buffer is cleared between two timed
+   calls. */
 #define _POSIX_C_SOURCE 200809L
 #include "celduga.h"
 #include "plain.h"
@@ -22,7 +24,8 @@
 enum { MOST_N = 4096, MOST_M = 16384, MOST_INDEX = 3 * 4608 + 6144, ARGUMENTS = 1024, ROUNDS = 40, QUERY_ROUNDS = 100,
        STRING_ROUNDS = 400, LENGTHS = 7, COLUMNS = 4, SHOWN = 3 };
 
-/* The records of the smallest size, and of all: each size has a quarter as many as the one before, so that they make up one volume. */
+/* The records of the smallest size, and of all: each size has a quarter as many as the one before, so that they make up
+   one volume. */
 enum { COPIES = 1 << 2 * (SIZES - 1), RECORDS = (4 * COPIES - 1) / 3 };
 
 /* All operations under one name each. */
@@ -31,8 +34,8 @@ struct side {
     uint32_t (*build)(const uint8_t *, size_t, uint16_t *, size_t, uint8_t *, size_t);
     uint32_t (*unpack)(const uint8_t *, size_t, uint16_t *, size_t);
     uint32_t (*loop_figure)(const uint8_t *, size_t);
-    uint32_t (*table)(const uint8_t *, size_t, uint16_t *, size_t, uint16_t *, size_t, uint16_t *, size_t, uint16_t *, size_t, uint16_t *,
-                      size_t);
+    uint32_t (*table)(const uint8_t *, size_t, uint16_t *, size_t, uint16_t *, size_t, uint16_t *, size_t,
+        uint16_t *, size_t, uint16_t *, size_t);
     uint32_t (*degree)(const uint8_t *, size_t, size_t);
     uint64_t (*neighbours)(const uint8_t *, size_t, size_t, size_t);
     uint32_t (*one[5])(const uint8_t *, size_t, const uint8_t *, size_t, size_t);
@@ -43,19 +46,21 @@ struct side {
 
 static const struct side product = { celduga_check, celduga_build, celduga_unpack, celduga_loop_figure, celduga_table,
     celduga_degree, celduga_neighbours,
-    { celduga_parent, celduga_head, celduga_children, celduga_visit, celduga_visited }, { celduga_ancestor, celduga_child },
+    { celduga_parent, celduga_head, celduga_children, celduga_visit, celduga_visited },
+    { celduga_ancestor, celduga_child },
     celduga_rank, celduga_select };
 
-static const struct side plain = { plain_check, plain_build, plain_unpack, plain_loop_figure, plain_table, plain_degree, plain_neighbours,
+static const struct side plain = { plain_check, plain_build, plain_unpack, plain_loop_figure, plain_table,
+    plain_degree, plain_neighbours,
     { plain_parent, plain_head, plain_children, plain_visit, plain_visited }, { plain_ancestor, plain_child },
     plain_rank, plain_select };
 
 /* What is called. PARENT to VISITED are the side's queries of one argument, ANCESTOR and CHILD those of two. */
-enum op { CHECK, BUILD, UNPACK, LOOPS, TABLE, WHOLE, DEGREE = WHOLE, NEIGHBOURS, PARENT, HEAD, CHILDREN, VISIT, VISITED, ANCESTOR, CHILD,
-          RANK, SELECT, OPS };
+enum op { CHECK, BUILD, UNPACK, LOOPS, TABLE, WHOLE, DEGREE = WHOLE, NEIGHBOURS, PARENT, HEAD, CHILDREN, VISIT, VISITED,
+          ANCESTOR, CHILD, RANK, SELECT, OPS };
 
-static const char *const op_names[OPS] = { "Check", "Build", "Unpack", "Loop figure", "Table", "Degree", "Neighbours", "Parent", "Head",
-    "Children", "Visit", "Visited", "Ancestor", "Child", "Rank", "Select" };
+static const char *const op_names[OPS] = { "Check", "Build", "Unpack", "Loop figure", "Table", "Degree", "Neighbours",
+    "Parent", "Head", "Children", "Visit", "Visited", "Ancestor", "Child", "Rank", "Select" };
 
 /* What one side writes to. The columns are Table's: visit numbers, parents, counts of children and heads. */
 struct room {
@@ -106,8 +111,8 @@ static inline size_t call(const struct side *s, struct room *r, enum op op, size
     case LOOPS:
         return s->loop_figure(bytes, len);
     case TABLE:
-        return s->table(bytes, len, r->work, work_len, r->columns[0], column_lens[0], r->columns[1], column_lens[1], r->columns[2],
-                        column_lens[2], r->columns[3], column_lens[3]);
+        return s->table(bytes, len, r->work, work_len, r->columns[0], column_lens[0], r->columns[1], column_lens[1],
+            r->columns[2], column_lens[2], r->columns[3], column_lens[3]);
     case DEGREE:
         return s->degree(bytes, len, a);
     case NEIGHBOURS:
@@ -127,7 +132,8 @@ static inline size_t call(const struct side *s, struct room *r, enum op op, size
 
 static void differ(const char *what, size_t a, size_t b, size_t left, size_t right)
 {
-    fprintf(stderr, "n = %zu, m = %zu: %s(%zu, %zu) differs: product %zx, plain %zx\n", asked->n, asked->m, what, a, b, left, right);
+    fprintf(stderr, "n = %zu, m = %zu: %s(%zu, %zu) differs: product %zx, plain %zx\n", asked->n, asked->m, what, a, b,
+        left, right);
     exit(1);
 }
 
@@ -143,8 +149,8 @@ static size_t same(enum op op, size_t a, size_t b)
     return left;
 }
 
-/* Check, Loop figure, Build, Unpack and Table. The two sides' buffers hold different bytes before, so that a byte left out shows; a refused
-   call must leave its own. */
+/* Check, Loop figure, Build, Unpack and Table. The two sides' buffers hold different bytes before, so that a byte left
+   out shows; a refused call must leave its own. */
 static void compare_whole(void)
 {
     static struct room before[2];
@@ -286,7 +292,8 @@ static void compare_strings(const struct record *r, uint64_t *state)
         string_len = draw(state, 2) == 0 ? r->len : draw(state, 40);
         bits = 8 * string_len;
         string_start = draw(state, 16) == 0 ? bits + draw(state, 20) : draw(state, bits + 1);
-        string_places = draw(state, 16) == 0 || string_start > bits ? draw(state, bits + 20) : draw(state, bits - string_start + 1);
+        string_places = draw(state, 16) == 0 || string_start > bits ? draw(state, bits + 20)
+                                                                    : draw(state, bits - string_start + 1);
         if (draw(state, 64) == 0)
             string_places = SIZE_MAX - draw(state, 8);
         same(RANK, draw(state, bits + 20), 0);
@@ -338,7 +345,8 @@ struct times {
     double product, plain;
 };
 
-/* The sizes at which queries are timed, and whose ratios are told. Dense and clique have fewer terminals, and records of like length. */
+/* The sizes at which queries are timed, and whose ratios are told. Dense and clique have fewer terminals, and records
+   of like length. */
 static const int shown[SHOWN] = { 0, 1, SIZES - 1 };
 static const char *const shown_names[SHOWN] = { "n = 64", "n = 256", "largest" };
 
@@ -413,8 +421,9 @@ static void try_records(struct times *t, enum op op, const struct record *first,
     keep_least(t, a, pass_over(&plain, &rooms[1], op, first, count));
 }
 
-/* One shape: Check, Build, Unpack, Loop figure and Table at all sizes, in turn. At each size there are as many records as make up the same
-   volume, since the processor learns the branches of a small record that it meets again and again. */
+/* One shape: Check, Build, Unpack, Loop figure and Table at all sizes, in turn. At each size there are as many records
+   as make up the same volume, since the processor learns the branches of a small record that it meets again and again.
+   */
 static void print_shape(int shape)
 {
     static const struct times nothing;
@@ -459,8 +468,8 @@ static void print_whole(void)
         print_shape(shape);
 }
 
-/* Any terminal; for Ancestor any two, and every second time one that stands above; for Child one that has children, and one of them. The
-   lists are Table's. */
+/* Any terminal; for Ancestor any two, and every second time one that stands above; for Child one that has children, and
+   one of them. The lists are Table's. */
 static void choose_arguments(size_t n, const uint16_t *parents, const uint16_t *children)
 {
     uint64_t state = 11;
@@ -530,7 +539,8 @@ static void print_queries(void)
             print_record_queries(shape, shown[i]);
 }
 
-/* Rank and select in strings of drawn bytes that start inside a byte. Half the bits are ones, and on average half the string is read. */
+/* Rank and select in strings of drawn bytes that start inside a byte. Half the bits are ones, and on average half the
+   string is read. */
 static void print_strings(void)
 {
     static const size_t lengths[LENGTHS] = { 20, 60, 250, 1000, 4000, 36864, 430000 };
@@ -567,7 +577,8 @@ static void print_strings(void)
         double words = (double)lengths[i] / 2 / 64;
         printf("| %zu |", lengths[i]);
         for (o = 0; o < 2; o++)
-            printf(" %.1f | %.2f | %.2f |", t[i][o].product, t[i][o].product / words, noted((enum op)(RANK + o), 0, t[i][o]));
+            printf(" %.1f | %.2f | %.2f |", t[i][o].product, t[i][o].product / words,
+                noted((enum op)(RANK + o), 0, t[i][o]));
         printf("\n");
     }
 }

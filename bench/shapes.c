@@ -1,4 +1,5 @@
-/* Accepted records of several shapes. Wires are drawn, labels are shuffled but for the path, each block is shuffled, and all is packed. */
+/* Accepted records of several shapes. Wires are drawn, labels are shuffled but for the path, each block is shuffled,
+   and all is packed. */
 #include "shapes.h"
 
 #include <string.h>

@@ -17,8 +17,8 @@ struct record {
     uint8_t bytes[MOST_RECORD_BYTES];
 };
 
-/* Makes a record of a shape at a size, 0 to SIZES - 1, each some four times as long as the one before, the last the largest that the format
-   has room for; each `copy`, 0 to 99, is another draw. */
+/* Makes a record of a shape at a size, 0 to SIZES - 1, each some four times as long as the one before, the last the
+   largest that the format has room for; each `copy`, 0 to 99, is another draw. */
 void make_record(int shape, int size, int copy, struct record *r);
 
 #endif

@@ -1,23 +1,27 @@
 /*
- * The C interface of the static library: packed records of graphs, their depth-first search index, and the questions to both.
+ * The C interface of the static library: packed records of graphs, their depth-first search index, and the questions to
+ * both.
  *
- * A terminal is a vertex and a wire is an edge. Terminals, visit numbers and children count from 1. n and m are the numbers of
- * terminals and of wires in a record's header. docs/FORMAT.md has the format of records and indexes, bit by bit.
+ * A terminal is a vertex and a wire is an edge. Terminals, visit numbers and children count from 1. n and m are the
+ * numbers of terminals and of wires in a record's header. docs/FORMAT.md has the format of records and indexes, bit by
+ * bit.
  *
- * Results. A uint32_t has the number of the refusal, or 0, in its high half and the value, or 0 where there is none, in its low
- * half: read it with celduga_refusal and celduga_value. A call names the first broken rule, in the order given at its function,
- * and then leaves the buffers for the result unchanged.
+ * Results. A uint32_t has the number of the refusal, or 0, in its high half and the value, or 0 where there is none, in
+ * its low half: read it with celduga_refusal and celduga_value. A call names the first broken rule, in the order given
+ * at its function, and then leaves the buffers for the result unchanged.
  *
- * What a caller lends. A call answers for all numbers and for all contents of its slices, also for damaged records and for
- * indexes that nobody built. It asks that
+ * What a caller lends. A call answers for all numbers and for all contents of its slices, also for damaged records and
+ * for indexes that nobody built. It asks that
  *   - each pointer is good for as many elements as the length behind it says, for writing too where it is not const;
  *   - no pointer is NULL, also where the length is 0 (data() of an empty std::vector may be NULL);
  *   - a pointer to uint16_t is aligned for it;
- *   - a buffer that is written overlaps no other slice of the call (a record and an index that are only read may overlap);
+ *   - a buffer that is written overlaps no other slice of the call (a record and an index that are only read may
+ *     overlap);
  *   - the stack has room: 264 KiB for celduga_table, 224 KiB for celduga_build, celduga_check, celduga_unpack and
  *     celduga_loop_figure, 16 KiB for others.
  *
- * Threads. There is no state, and no pointer is kept after a call. Calls may run at once where none writes what another is lent.
+ * Threads. There is no state, and no pointer is kept after a call. Calls may run at once where none writes what another
+ * is lent.
  */
 #ifndef CELDUGA_H
 #define CELDUGA_H
@@ -38,7 +42,8 @@ extern "C" {
 /* The archive's version, as CELDUGA_VERSION is the header's: a plain number. It refuses nothing. */
 uint32_t celduga_version(void);
 
-/* The limits of n and m, and the greatest lengths: bytes of a record and of an index, numbers of a work slice and of a list. */
+/* The limits of n and m, and the greatest lengths: bytes of a record and of an index, numbers of a work slice and of a
+   list. */
 #define CELDUGA_MAX_TERMINALS 4096
 #define CELDUGA_MAX_WIRES 16384
 #define CELDUGA_MAX_RECORD_LEN 53764
@@ -47,8 +52,9 @@ uint32_t celduga_version(void);
 #define CELDUGA_MAX_LIST_LEN 32768
 
 /*
- * The refusals. D is the part of a record that holds the degrees in unary. 12 is given where the index shows two parents of a
- * terminal, a field or a stored number of n or more, a climb that is not over after n - 1 steps, or a visit number nowhere.
+ * The refusals. D is the part of a record that holds the degrees in unary. 12 is given where the index shows two
+ * parents of a terminal, a field or a stored number of n or more, a climb that is not over after n - 1 steps, or a
+ * visit number nowhere.
  */
 enum celduga_refusal_number {
     CELDUGA_TOO_SHORT = 1,         /* the record has under 4 bytes */
@@ -133,7 +139,8 @@ static inline size_t celduga_index_len(size_t n, size_t m)
     return 3 * ((n + 2 * m + 7) / 8) + (12 * n + 7) / 8;
 }
 
-/* The numbers that the work slice of celduga_build and celduga_table must have at least, and those of the list of celduga_unpack. */
+/* The numbers that the work slice of celduga_build and celduga_table must have at least, and those of the list of
+   celduga_unpack. */
 static inline size_t celduga_work_len(size_t n)
 {
     return 8 * n;
@@ -156,15 +163,15 @@ uint32_t celduga_degree(const uint8_t *record, size_t record_len, size_t v);
 uint32_t celduga_unpack(const uint8_t *record, size_t record_len, uint16_t *list, size_t list_len);
 
 /*
- * Where terminal v's neighbours stand in a list of list_len numbers that celduga_unpack filled: the high 32 bits say how many
- * numbers stand before its part, the low 32 bits how many numbers the part has. 0 where celduga_degree refuses (1 to 4, 11) or the
- * list is not 2m numbers long.
+ * Where terminal v's neighbours stand in a list of list_len numbers that celduga_unpack filled: the high 32 bits say
+ * how many numbers stand before its part, the low 32 bits how many numbers the part has. 0 where celduga_degree refuses
+ * (1 to 4, 11) or the list is not 2m numbers long.
  */
 uint64_t celduga_neighbours(const uint8_t *record, size_t record_len, size_t list_len, size_t v);
 
 /* The pointer to that part, and its length in *count; the list itself and 0 where celduga_neighbours gives 0. */
-static inline const uint16_t *celduga_neighbours_of(const uint8_t *record, size_t record_len, const uint16_t *list, size_t list_len,
-                                                    size_t v, size_t *count)
+static inline const uint16_t *celduga_neighbours_of(const uint8_t *record, size_t record_len,
+    const uint16_t *list, size_t list_len, size_t v, size_t *count)
 {
     uint64_t part = celduga_neighbours(record, record_len, list_len, v);
     *count = (size_t)(part & 0xFFFFFFFFu);
@@ -178,38 +185,42 @@ uint32_t celduga_loop_figure(const uint8_t *record, size_t record_len);
  * Writes the record's index. The work slice may hold anything before and after the call, refused or not.
  * No value. Refuses 1 to 8, 9, 10.
  */
-uint32_t celduga_build(const uint8_t *record, size_t record_len, uint16_t *work, size_t work_len, uint8_t *index, size_t index_len);
+uint32_t celduga_build(const uint8_t *record, size_t record_len, uint16_t *work, size_t work_len,
+    uint8_t *index, size_t index_len);
 
 /*
- * Writes what celduga_visit, celduga_parent, celduga_children and celduga_head answer for every terminal on the index that
- * celduga_build writes; element v - 1 of each list is terminal v's. No index is lent, and all together take time linear in the
- * record's bits. The work slice may hold anything before and after the call, refused or not.
- * No value. Refuses 1 to 8, 9, 10 where one of the four lists is not n numbers long.
+ * Writes what celduga_visit, celduga_parent, celduga_children and celduga_head answer for every terminal on the index
+ * that celduga_build writes; element v - 1 of each list is terminal v's. No index is lent, and all together take time
+ * linear in the record's bits. The work slice may hold anything before and after the call, refused or not. No value.
+ * Refuses 1 to 8, 9, 10 where one of the four lists is not n numbers long.
  */
-uint32_t celduga_table(const uint8_t *record, size_t record_len, uint16_t *work, size_t work_len, uint16_t *visits, size_t visits_len,
-                       uint16_t *parents, size_t parents_len, uint16_t *children, size_t children_len, uint16_t *heads,
-                       size_t heads_len);
+uint32_t celduga_table(const uint8_t *record, size_t record_len, uint16_t *work, size_t work_len,
+    uint16_t *visits, size_t visits_len, uint16_t *parents, size_t parents_len,
+    uint16_t *children, size_t children_len, uint16_t *heads, size_t heads_len);
 
-/* Queries. They take any index of the right length. On the one that celduga_build wrote for the record none refuses with 12. */
+/* Queries. They take any index of the right length. On the one that celduga_build wrote for the record none refuses
+   with 12. */
 
 /* The parent of terminal v in the forest, 0 for a root. Refuses 1 to 4, 10, 11, 12. */
 uint32_t celduga_parent(const uint8_t *record, size_t record_len, const uint8_t *index, size_t index_len, size_t v);
 
 /*
- * The head of terminal v: the first terminal, from v upward, that is a root or whose wire to its parent is a bridge. On a built
- * index two terminals have one head exactly when they are joined and stay so whichever one wire is taken out.
+ * The head of terminal v: the first terminal, from v upward, that is a root or whose wire to its parent is a bridge. On
+ * a built index two terminals have one head exactly when they are joined and stay so whichever one wire is taken out.
  * Refuses 1 to 4, 10, 11, 12.
  */
 uint32_t celduga_head(const uint8_t *record, size_t record_len, const uint8_t *index, size_t index_len, size_t v);
 
 /* 1 where u is v or stands above it, else 0. Refuses 1 to 4, 10, 11 for u, 11 for v, 12. */
-uint32_t celduga_ancestor(const uint8_t *record, size_t record_len, const uint8_t *index, size_t index_len, size_t u, size_t v);
+uint32_t celduga_ancestor(const uint8_t *record, size_t record_len, const uint8_t *index, size_t index_len,
+    size_t u, size_t v);
 
 /* How many children terminal v has. Refuses 1 to 4, 10, 11. */
 uint32_t celduga_children(const uint8_t *record, size_t record_len, const uint8_t *index, size_t index_len, size_t v);
 
 /* The j-th child of terminal v, in order of visits. Refuses 1 to 4, 10, 11, 13, 12. */
-uint32_t celduga_child(const uint8_t *record, size_t record_len, const uint8_t *index, size_t index_len, size_t v, size_t j);
+uint32_t celduga_child(const uint8_t *record, size_t record_len, const uint8_t *index, size_t index_len,
+    size_t v, size_t j);
 
 /* The visit number of terminal v. Refuses 1 to 4, 10, 11, 12. */
 uint32_t celduga_visit(const uint8_t *record, size_t record_len, const uint8_t *index, size_t index_len, size_t v);
@@ -218,8 +229,9 @@ uint32_t celduga_visit(const uint8_t *record, size_t record_len, const uint8_t *
 uint32_t celduga_visited(const uint8_t *record, size_t record_len, const uint8_t *index, size_t index_len, size_t i);
 
 /*
- * Bit strings. The places of a string count from 1. It begins at bit start, which counts from 0 for the most significant bit of
- * the first byte. One that its bytes do not hold in full counts as empty. Both functions give a plain number and refuse nothing.
+ * Bit strings. The places of a string count from 1. It begins at bit start, which counts from 0 for the most
+ * significant bit of the first byte. One that its bytes do not hold in full counts as empty. Both functions give a
+ * plain number and refuse nothing.
  */
 
 /* The ones in places 1 to p; a p past the end counts all. */

@@ -1,5 +1,6 @@
-//! Links the static library: the file that `CELDUGA_ARCHIVE` names, or `target/staticlib/libcelduga.a` in the project's root. Where that one
-//! is missing, or older than the crates that it is made from, `rt staticlib celduga` makes it first.
+//! Links the static library: the file that `CELDUGA_ARCHIVE` names, or `target/staticlib/libcelduga.a` in the project's
+//! root. Where that one is missing, or older than the crates that it is made from, `rt staticlib celduga` makes it
+//! first.
 
 use std::env;
 use std::fs;
@@ -28,7 +29,9 @@ fn archive() -> Result<PathBuf, String> {
         return found(Path::new(&given)).map_err(|wrong| format!("{GIVEN} names no archive: {wrong}"));
     }
     let package = env::var_os("CARGO_MANIFEST_DIR").ok_or("cargo does not say where the package is")?;
-    let root = Path::new(&package).parent().ok_or("the package has no folder around it")?;
+    let root = Path::new(&package)
+        .parent()
+        .ok_or("the package has no folder around it")?;
     for source in ["crates", "crates.txt"].map(|name| root.join(name)) {
         if source.exists() {
             println!("cargo:rerun-if-changed={}", source.display());
@@ -56,12 +59,16 @@ fn outdated(root: &Path, archive: &Path) -> io::Result<Option<String>> {
         return Ok(Some(format!("there is no {ARCHIVE}")));
     }
     let made = fs::metadata(archive)?.modified()?;
-    Ok(newest(root)?
-        .filter(|&(changed, _)| changed > made)
-        .map(|(_, source)| format!("{ARCHIVE} is older than {}", source.strip_prefix(root).unwrap_or(&source).display())))
+    Ok(newest(root)?.filter(|&(changed, _)| changed > made).map(|(_, source)| {
+        format!(
+            "{ARCHIVE} is older than {}",
+            source.strip_prefix(root).unwrap_or(&source).display()
+        )
+    }))
 }
 
-/// What changed last among crates.txt and the files and folders that are proved. A folder changes when a file is taken out of it.
+/// What changed last among crates.txt and the files and folders that are proved. A folder changes when a file is taken
+/// out of it.
 fn newest(root: &Path) -> io::Result<Option<(SystemTime, PathBuf)>> {
     let crates = entries(&root.join("crates"))?.into_iter();
     let mut left: Vec<PathBuf> = crates
@@ -124,7 +131,8 @@ fn make(root: &Path, why: &str) -> Result<(), String> {
     }
 }
 
-/// Passes each line on as it comes. The lines of `rt` itself, one for each crate, are warnings too, which cargo shows in any case.
+/// Passes each line on as it comes. The lines of `rt` itself, one for each crate, are warnings too, which cargo shows
+/// in any case.
 fn pass_on(output: impl Read) {
     for line in BufReader::new(output).split(b'\n').map_while(Result::ok) {
         let line = String::from_utf8_lossy(&line);

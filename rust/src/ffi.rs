@@ -1,7 +1,7 @@
 //! The calls of the static library, and the one place that reads their results. All unsafe code is here.
 //!
-//! What each call asks is in include/celduga.h. A slice meets it for its pointer and length: the pointer is not null, aligned and good for
-//! the whole length, also where that is 0. A slice that is lent to be written overlaps no other.
+//! What each call asks is in include/celduga.h. A slice meets it for its pointer and length: the pointer is not null,
+//! aligned and good for the whole length, also where that is 0. A slice that is lent to be written overlaps no other.
 
 use core::ops::Range;
 
@@ -37,13 +37,46 @@ mod c {
             heads: *mut u16,
             heads_len: usize,
         ) -> u32;
-        pub fn celduga_parent(record: *const u8, record_len: usize, index: *const u8, index_len: usize, v: usize) -> u32;
+        pub fn celduga_parent(
+            record: *const u8,
+            record_len: usize,
+            index: *const u8,
+            index_len: usize,
+            v: usize,
+        ) -> u32;
         pub fn celduga_head(record: *const u8, record_len: usize, index: *const u8, index_len: usize, v: usize) -> u32;
-        pub fn celduga_ancestor(record: *const u8, record_len: usize, index: *const u8, index_len: usize, u: usize, v: usize) -> u32;
-        pub fn celduga_children(record: *const u8, record_len: usize, index: *const u8, index_len: usize, v: usize) -> u32;
-        pub fn celduga_child(record: *const u8, record_len: usize, index: *const u8, index_len: usize, v: usize, j: usize) -> u32;
-        pub fn celduga_visit(record: *const u8, record_len: usize, index: *const u8, index_len: usize, v: usize) -> u32;
-        pub fn celduga_visited(record: *const u8, record_len: usize, index: *const u8, index_len: usize, i: usize) -> u32;
+        pub fn celduga_ancestor(
+            record: *const u8,
+            record_len: usize,
+            index: *const u8,
+            index_len: usize,
+            u: usize,
+            v: usize,
+        ) -> u32;
+        pub fn celduga_children(
+            record: *const u8,
+            record_len: usize,
+            index: *const u8,
+            index_len: usize,
+            v: usize,
+        ) -> u32;
+        pub fn celduga_child(
+            record: *const u8,
+            record_len: usize,
+            index: *const u8,
+            index_len: usize,
+            v: usize,
+            j: usize,
+        ) -> u32;
+        pub fn celduga_visit(record: *const u8, record_len: usize, index: *const u8, index_len: usize, v: usize)
+            -> u32;
+        pub fn celduga_visited(
+            record: *const u8,
+            record_len: usize,
+            index: *const u8,
+            index_len: usize,
+            i: usize,
+        ) -> u32;
         pub fn celduga_rank(bytes: *const u8, len: usize, start: usize, places: usize, p: usize) -> usize;
         pub fn celduga_select(bytes: *const u8, len: usize, start: usize, places: usize, k: usize) -> usize;
     }
@@ -53,11 +86,13 @@ mod c {
 fn decode(result: u32) -> Result<u16, Refusal> {
     match (result >> 16) as u16 {
         0 => Ok(result as u16),
-        number => Err(Refusal::from_number(number).unwrap_or_else(|| panic!("the archive gives a refusal that has no name: {number}"))),
+        number => Err(Refusal::from_number(number)
+            .unwrap_or_else(|| panic!("the archive gives a refusal that has no name: {number}"))),
     }
 }
 
-/// The part of a list: how many numbers stand before it, in the high half of a result, and how many it has, in the low half.
+/// The part of a list: how many numbers stand before it, in the high half of a result, and how many it has, in the low
+/// half.
 fn part(result: u64) -> Range<usize> {
     let (before, count) = ((result >> 32) as usize, result as u32 as usize);
     before..before + count
@@ -192,7 +227,10 @@ mod tests {
     #[test]
     fn the_high_half_is_the_number_of_the_refusal() {
         for number in 1..=13 {
-            assert_eq!(decode(number << 16).map_err(|refusal| u32::from(refusal.number())), Err(number));
+            assert_eq!(
+                decode(number << 16).map_err(|refusal| u32::from(refusal.number())),
+                Err(number)
+            );
         }
     }
 

@@ -8,8 +8,8 @@ use crate::{operations, ChildrenOf, Dfi, PathToRoot, Record, Refusal, Vertex};
 
 /// A record and an index of the right length, which is owned or borrowed.
 ///
-/// On the index that was built for the record, a query refuses 11 alone, and [`child`](Index::child) 13 too; on another it may refuse 12.
-/// The index of another record of the same sizes is not noticed.
+/// On the index that was built for the record, a query refuses 11 alone, and [`child`](Index::child) 13 too; on another
+/// it may refuse 12. The index of another record of the same sizes is not noticed.
 #[derive(Clone, Debug, PartialEq, Eq, Hash)]
 pub struct Index<'a> {
     record: Record<'a>,
@@ -46,7 +46,8 @@ impl<'a> Index<'a> {
     pub(crate) fn build(record: Record<'a>) -> Self {
         let mut work = vec![0; record.sizes().work_len()];
         let mut bytes = vec![0; record.sizes().index_len()];
-        operations::build(record.as_bytes(), &mut work, &mut bytes).expect("the record is accepted, and the slices have its lengths");
+        operations::build(record.as_bytes(), &mut work, &mut bytes)
+            .expect("the record is accepted, and the slices have its lengths");
         Index {
             record,
             bytes: bytes.into(),
@@ -80,8 +81,9 @@ impl<'a> Index<'a> {
         operations::parent(self.record.as_bytes(), &self.bytes, v)
     }
 
-    /// The head of terminal `v`: the first terminal, from `v` upward, that is a root or whose wire to its parent is a bridge. On a built
-    /// index two terminals have one head exactly when they are joined and stay so whichever one wire is taken out.
+    /// The head of terminal `v`: the first terminal, from `v` upward, that is a root or whose wire to its parent is a
+    /// bridge. On a built index two terminals have one head exactly when they are joined and stay so whichever one wire
+    /// is taken out.
     ///
     /// # Errors
     ///
@@ -117,8 +119,8 @@ impl<'a> Index<'a> {
         operations::child(self.record.as_bytes(), &self.bytes, v, j)
     }
 
-    /// The children of terminal `v`, in order of visits: [`child`](Index::child) 1, 2 and so on. All of them together take time linear in
-    /// the record's bits.
+    /// The children of terminal `v`, in order of visits: [`child`](Index::child) 1, 2 and so on. All of them together
+    /// take time linear in the record's bits.
     ///
     /// # Errors
     ///
@@ -143,8 +145,9 @@ impl<'a> Index<'a> {
 
     /// The terminals from `v` up to its root, both included.
     ///
-    /// Each step is a call of [`parent`](Index::parent). Where that refuses 12, or where a step is due after n − 1 of them, for n terminals,
-    /// as on an index that goes round, the refusal 12 is the last item. The index that was built for the record gives none.
+    /// Each step is a call of [`parent`](Index::parent). Where that refuses 12, or where a step is due after n − 1 of
+    /// them, for n terminals, as on an index that goes round, the refusal 12 is the last item. The index that was built
+    /// for the record gives none.
     ///
     /// # Errors
     ///

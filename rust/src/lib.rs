@@ -1,11 +1,11 @@
-//! Celduga keeps graphs in a packed file format, with the neighbours of each vertex in a fixed order, and answers questions about them: the
-//! depth-first search forest in that order, the bridges, and the parts that stay joined whichever one edge is taken out. The operations
-//! are calls of a static library whose code is proved to answer right for every input; this crate is the safe way to call them, without
-//! dependencies and without the standard library.
+//! Celduga keeps graphs in a packed file format, with the neighbours of each vertex in a fixed order, and answers
+//! questions about them: the depth-first search forest in that order, the bridges, and the parts that stay joined
+//! whichever one edge is taken out. The operations are calls of a static library whose code is proved to answer right
+//! for every input; this crate is the safe way to call them, without dependencies and without the standard library.
 //!
-//! A *record* is such a graph as bytes, of at most 4,096 *terminals* (vertices, which count from 1) and 16,384 *wires* (edges). Its *index*
-//! holds the forest, the visit numbers, and a mark on each wire that is a bridge. `docs/FORMAT.md` of the project describes both, bit by
-//! bit.
+//! A *record* is such a graph as bytes, of at most 4,096 *terminals* (vertices, which count from 1) and 16,384 *wires*
+//! (edges). Its *index* holds the forest, the visit numbers, and a mark on each wire that is a bridge. `docs/FORMAT.md`
+//! of the project describes both, bit by bit.
 //!
 //! # Example
 //!
@@ -16,7 +16,8 @@
 //!
 //! // 1: 3 2; 2: 1 3; 3: 2 4 1; 4: 3; 5: 6; 6: 5
 //! let bytes = [
-//!     0x00, 0x30, 0x00, 0x59, 0x22, 0xA0, 0x02, 0x00, 0x10, 0x00, 0x00, 0x20, 0x01, 0x00, 0x30, 0x00, 0x00, 0x20, 0x05, 0x00, 0x40,
+//!     0x00, 0x30, 0x00, 0x59, 0x22, 0xA0, 0x02, 0x00, 0x10, 0x00, 0x00, 0x20, 0x01, 0x00, 0x30, 0x00, 0x00, 0x20, 0x05,
+//!     0x00, 0x40,
 //! ];
 //! let record = Record::new(&bytes)?;
 //! let sections: Vec<Vec<Vertex>> = record.sections().map(|section| section.terminals).collect();
@@ -44,18 +45,20 @@
 //! | [`Sizes`] | the numbers of terminals and wires, and the lengths that follow |
 //! | [`Refusal`] | the error: the first rule that is broken |
 //!
-//! The functions below mirror the library's operations one by one. They take bytes and lent buffers, and answer for all bytes, also for damaged
-//! records and for indexes that nobody built. Where one refuses, the buffer for the result is left unchanged.
+//! The functions below mirror the library's operations one by one. They take bytes and lent buffers, and answer for all
+//! bytes, also for damaged records and for indexes that nobody built. Where one refuses, the buffer for the result is
+//! left unchanged.
 //!
-//! What the crate does beside these calls is tested, not proved: it reads the header for [`Sizes`] and a terminal's neighbours for the iterators,
-//! climbs by [`Index::parent`], and gathers the terminals with one head to a [`Section`].
+//! What the crate does beside these calls is tested, not proved: it reads the header for [`Sizes`] and a terminal's
+//! neighbours for the iterators, climbs by [`Index::parent`], and gathers the terminals with one head to a [`Section`].
 //!
 //! # The library
 //!
-//! The build script links `target/staticlib/libcelduga.a` in the project's root. Where it is missing, or older than the crates that it is
-//! made from, `rt staticlib celduga` proves and makes it first, which takes minutes (`cargo build -vv` shows it at work); `rt` is the toolchain
-//! of Rattle, the language that the library is written in. Where the environment variable `CELDUGA_ARCHIVE` names an archive (a relative
-//! path counts from the package's folder), that one is linked, and `rt` is not needed. The archive is for x86-64 Linux.
+//! The build script links `target/staticlib/libcelduga.a` in the project's root. Where it is missing, or older than the
+//! crates that it is made from, `rt staticlib celduga` proves and makes it first, which takes minutes (`cargo build
+//! -vv` shows it at work); `rt` is the toolchain of Rattle, the language that the library is written in. Where the
+//! environment variable `CELDUGA_ARCHIVE` names an archive (a relative path counts from the package's folder), that one
+//! is linked, and `rt` is not needed. The archive is for x86-64 Linux.
 //!
 //! A call has no state and may run on any thread. So much stack is taken at most:
 //!
@@ -91,7 +94,8 @@ pub use index::Index;
 pub use neighbours::Neighbours;
 pub use numbers::{Dfi, Vertex};
 pub use operations::{
-    ancestor, build, check, child, children, degree, head, loop_figure, neighbours, parent, rank, select, table, unpack, visit, visited,
+    ancestor, build, check, child, children, degree, head, loop_figure, neighbours, parent, rank, select, table,
+    unpack, visit, visited,
 };
 pub use record::Record;
 pub use refusal::Refusal;

@@ -30,7 +30,9 @@ impl<'a> Neighbours<'a> {
     fn terminal(&self, field: usize) -> Vertex {
         let bytes = self.record.as_bytes();
         let bit = self.record.sizes().fields_start() + 12 * field;
-        let word = (0..3).fold(0, |word, i| word << 8 | usize::from(bytes.get(bit / 8 + i).copied().unwrap_or(0)));
+        let word = (0..3).fold(0, |word, i| {
+            word << 8 | usize::from(bytes.get(bit / 8 + i).copied().unwrap_or(0))
+        });
         Vertex((word >> (12 - bit % 8) & 0xFFF) + 1)
     }
 }

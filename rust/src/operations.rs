@@ -35,7 +35,8 @@ pub fn degree(record: &[u8], v: Vertex) -> Result<usize, Refusal> {
     ffi::degree(record, v.0).map(usize::from)
 }
 
-/// Writes the neighbours of all terminals to the list, block after block; the list has [`Sizes::list_len`](crate::Sizes::list_len) numbers.
+/// Writes the neighbours of all terminals to the list, block after block; the list has
+/// [`Sizes::list_len`](crate::Sizes::list_len) numbers.
 ///
 /// # Errors
 ///
@@ -51,8 +52,8 @@ pub(crate) fn part(record: &[u8], list_len: usize, v: Vertex) -> Range<usize> {
 
 /// The neighbours of terminal `v`: its part of a list that [`unpack`] filled from the record.
 ///
-/// Where [`degree`] refuses, or the list has not [`Sizes::list_len`](crate::Sizes::list_len) numbers, this is the empty part at the front.
-/// [`Record::neighbours`](crate::Record::neighbours) needs no list.
+/// Where [`degree`] refuses, or the list has not [`Sizes::list_len`](crate::Sizes::list_len) numbers, this is the empty
+/// part at the front. [`Record::neighbours`](crate::Record::neighbours) needs no list.
 ///
 /// # Examples
 ///
@@ -104,11 +105,12 @@ pub fn build(record: &[u8], work: &mut [u16], index: &mut [u8]) -> Result<(), Re
     ffi::build(record, work, index).map(drop)
 }
 
-/// Writes what [`visit`], [`parent`] (0 for a root), [`children`] and [`head`] answer for every terminal, on the index that [`build`] writes;
-/// number `v − 1` of each list is terminal `v`'s. No index is lent, and it takes time linear in the record's bits.
+/// Writes what [`visit`], [`parent`] (0 for a root), [`children`] and [`head`] answer for every terminal, on the index
+/// that [`build`] writes; number `v − 1` of each list is terminal `v`'s. No index is lent, and it takes time linear in
+/// the record's bits.
 ///
-/// The four lists have n numbers each, for n terminals. The work slice has [`Sizes::work_len`](crate::Sizes::work_len) numbers or more, and
-/// may hold anything before and after the call.
+/// The four lists have n numbers each, for n terminals. The work slice has [`Sizes::work_len`](crate::Sizes::work_len)
+/// numbers or more, and may hold anything before and after the call.
 ///
 /// # Errors
 ///
@@ -145,8 +147,9 @@ pub fn parent(record: &[u8], index: &[u8], v: Vertex) -> Result<Option<Vertex>, 
     ffi::parent(record, index, v.0).map(|number| (number != 0).then(|| vertex(number)))
 }
 
-/// The head of terminal `v`: the first terminal, from `v` upward, that is a root or whose wire to its parent is a bridge. On a built index
-/// two terminals have one head exactly when they are joined and stay so whichever one wire is taken out.
+/// The head of terminal `v`: the first terminal, from `v` upward, that is a root or whose wire to its parent is a
+/// bridge. On a built index two terminals have one head exactly when they are joined and stay so whichever one wire is
+/// taken out.
 ///
 /// # Errors
 ///
@@ -202,8 +205,8 @@ pub fn visited(record: &[u8], index: &[u8], i: Dfi) -> Result<Vertex, Refusal> {
 
 /// The ones in places 1 to `p` of a bit string; a `p` past the end counts all.
 ///
-/// The string has so many places and begins at bit `start`, which counts from 0 for the most significant bit of the first byte. One that
-/// its bytes do not hold in full counts as empty.
+/// The string has so many places and begins at bit `start`, which counts from 0 for the most significant bit of the
+/// first byte. One that its bytes do not hold in full counts as empty.
 ///
 /// # Examples
 ///
@@ -219,7 +222,8 @@ pub fn rank(bytes: &[u8], start: usize, places: usize, p: usize) -> usize {
     ffi::rank(bytes, start, places, p)
 }
 
-/// The place, from 1, of the `k`-th one of a bit string, which is given as for [`rank`]; 0 for `k` = 0 and where there are fewer ones.
+/// The place, from 1, of the `k`-th one of a bit string, which is given as for [`rank`]; 0 for `k` = 0 and where there
+/// are fewer ones.
 #[must_use]
 pub fn select(bytes: &[u8], start: usize, places: usize, k: usize) -> usize {
     ffi::select(bytes, start, places, k)

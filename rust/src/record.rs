@@ -62,8 +62,8 @@ impl<'a> Record<'a> {
 
     /// The neighbours of terminal `v`, in listed order.
     ///
-    /// A call goes through the degrees, 64 bits at a time, which takes some microseconds in the largest record; it copies nothing, and each
-    /// neighbour is read from the record when it is asked for.
+    /// A call goes through the degrees, 64 bits at a time, which takes some microseconds in the largest record; it
+    /// copies nothing, and each neighbour is read from the record when it is asked for.
     ///
     /// # Errors
     ///
@@ -87,7 +87,8 @@ impl<'a> Record<'a> {
         Ok(Neighbours::new(self, v))
     }
 
-    /// The neighbours of all terminals, block after block; [`neighbours`](fn@crate::neighbours) gives the part of one terminal.
+    /// The neighbours of all terminals, block after block; [`neighbours`](fn@crate::neighbours) gives the part of one
+    /// terminal.
     #[must_use]
     pub fn unpack(self) -> Vec<u16> {
         let mut list = vec![0; self.sizes.list_len()];
@@ -126,8 +127,8 @@ impl<'a> Record<'a> {
         Table::of(self)
     }
 
-    /// The sections: the classes of terminals that stay joined whichever one wire is taken out, in order of the least terminal of each.
-    /// Each terminal is in one section. This is [`Table::sections`], and takes linear time.
+    /// The sections: the classes of terminals that stay joined whichever one wire is taken out, in order of the least
+    /// terminal of each. Each terminal is in one section. This is [`Table::sections`], and takes linear time.
     ///
     /// # Examples
     ///
@@ -135,11 +136,10 @@ impl<'a> Record<'a> {
     /// use celduga::{Record, Refusal, Vertex};
     ///
     /// // 1: 2 3; 2: 1 3; 3: 1 2 4; 4: 3
-    /// let bytes = [0x00, 0x20, 0x00, 0x49, 0x22, 0x00, 0x10, 0x02, 0x00, 0x00, 0x02, 0x00, 0x00, 0x01, 0x00, 0x30, 0x02];
-    /// let record = Record::new(&bytes)?;
-    /// assert_eq!(record.sections().len(), 2);
-    /// let terminals: Vec<Vec<Vertex>> = record.sections().map(|section| section.terminals).collect();
-    /// assert_eq!(terminals, [vec![Vertex(1), Vertex(2), Vertex(3)], vec![Vertex(4)]]);
+    /// let bytes = [0x00, 0x20, 0x00, 0x49, 0x22, 0x00, 0x10, 0x02, 0x00, 0x00, 0x02, 0x00, 0x00, 0x01, 0x00, 0x30,
+    /// 0x02]; let record = Record::new(&bytes)?; assert_eq!(record.sections().len(), 2); let terminals:
+    /// Vec<Vec<Vertex>> = record.sections().map(|section| section.terminals).collect(); assert_eq!(terminals,
+    /// [vec![Vertex(1), Vertex(2), Vertex(3)], vec![Vertex(4)]]);
     /// # Ok::<(), Refusal>(())
     /// ```
     pub fn sections(self) -> Sections {

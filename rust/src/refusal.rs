@@ -40,8 +40,9 @@ pub enum Refusal {
     WrongBuffer = 10,
     /// 11: the terminal, or the visit number, is 0 or above n.
     NoTerminal = 11,
-    /// 12: the index shows two parents, a field or a stored number of n or more, a climb that is not over after n − 1 steps, or a visit
-    /// number nowhere. The index that [`build`](crate::build) wrote for the record shows none of these.
+    /// 12: the index shows two parents, a field or a stored number of n or more, a climb that is not over after n − 1
+    /// steps, or a visit number nowhere. The index that [`build`](crate::build) wrote for the record shows none of
+    /// these.
     BadIndex = 12,
     /// 13: the number of the child is 0 or above the count of children.
     NoChild = 13,

@@ -16,7 +16,8 @@ pub struct Sizes {
 }
 
 impl Sizes {
-    /// The sizes that the first 4 bytes of a record hold, also where they are over the limits; `None` where there are fewer bytes.
+    /// The sizes that the first 4 bytes of a record hold, also where they are over the limits; `None` where there are
+    /// fewer bytes.
     #[must_use]
     pub fn of(record: &[u8]) -> Option<Sizes> {
         let header = u32::from_be_bytes(record.get(..4)?.try_into().ok()?);

@@ -49,7 +49,8 @@ pub struct Row {
     pub head: Vertex,
 }
 
-/// A class of terminals that stay joined whichever one wire is taken out (a 2-edge-connected component): the terminals with one head.
+/// A class of terminals that stay joined whichever one wire is taken out (a 2-edge-connected component): the terminals
+/// with one head.
 #[derive(Clone, Debug, PartialEq, Eq, Hash)]
 pub struct Section {
     /// The head of each of the terminals, which is one of them.
@@ -58,7 +59,8 @@ pub struct Section {
     pub terminals: Vec<Vertex>,
 }
 
-/// The sections of a record, in order of the least terminal of each. [`Record::sections`] and [`Table::sections`] give it.
+/// The sections of a record, in order of the least terminal of each. [`Record::sections`] and [`Table::sections`] give
+/// it.
 #[derive(Clone, Debug)]
 #[must_use = "iterators are lazy and do nothing unless consumed"]
 pub struct Sections(vec::IntoIter<Section>);
@@ -178,8 +180,8 @@ impl Table {
         self.row(v).map(|row| row.children)
     }
 
-    /// The head of terminal `v`: the first terminal, from `v` upward, that is a root or whose wire to its parent is a bridge. Two terminals
-    /// have one head exactly when they are joined and stay so whichever one wire is taken out.
+    /// The head of terminal `v`: the first terminal, from `v` upward, that is a root or whose wire to its parent is a
+    /// bridge. Two terminals have one head exactly when they are joined and stay so whichever one wire is taken out.
     ///
     /// # Errors
     ///
@@ -188,8 +190,8 @@ impl Table {
         self.row(v).map(|row| row.head)
     }
 
-    /// The sections: the terminals by their heads, in order of the least terminal of each. Each terminal is in one section. It takes time
-    /// linear in the number of terminals.
+    /// The sections: the terminals by their heads, in order of the least terminal of each. Each terminal is in one
+    /// section. It takes time linear in the number of terminals.
     ///
     /// # Examples
     ///

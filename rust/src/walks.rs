@@ -28,7 +28,8 @@ impl<'a> ChildrenOf<'a> {
 
     /// How many of the neighbours that are left stand before the `j`-th of the children that are left, from 1.
     fn before(&self, j: usize) -> usize {
-        // E is the index's first section; it has a place for each terminal, which is followed by those of its neighbours
+        // E is the index's first section; it has a place for each terminal, which is followed by those of its
+        // neighbours
         let start = self.v.0 + self.neighbours.before();
         operations::select(self.index, start, self.neighbours.len(), j) - 1
     }

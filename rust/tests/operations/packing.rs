@@ -1,7 +1,8 @@
 //! What the tests share: the records of docs/FORMAT.md, the packing of records, and shapes.
 
 pub const SAMPLE: [u8; 21] = [
-    0x00, 0x30, 0x00, 0x59, 0x22, 0xA0, 0x02, 0x00, 0x10, 0x00, 0x00, 0x20, 0x01, 0x00, 0x30, 0x00, 0x00, 0x20, 0x05, 0x00, 0x40,
+    0x00, 0x30, 0x00, 0x59, 0x22, 0xA0, 0x02, 0x00, 0x10, 0x00, 0x00, 0x20, 0x01, 0x00, 0x30, 0x00, 0x00, 0x20, 0x05,
+    0x00, 0x40,
 ];
 pub const SAMPLE_INDEX: [u8; 15] = [
     0x41, 0x84, 0x04, 0x51, 0x00, 0x95, 0x00, 0x00, 0x02, 0x00, 0x10, 0x03, 0x00, 0x40, 0x05,
@@ -13,7 +14,10 @@ pub const WIRE: [u8; 7] = [0x00, 0x10, 0x00, 0x1A, 0x00, 0x10, 0x00];
 
 /// The record of these blocks, whatever rules they break.
 pub fn record<B: AsRef<[u16]>>(blocks: &[B]) -> Vec<u8> {
-    let fields: Vec<u16> = blocks.iter().flat_map(|block| block.as_ref().iter().map(|w| w - 1)).collect();
+    let fields: Vec<u16> = blocks
+        .iter()
+        .flat_map(|block| block.as_ref().iter().map(|w| w - 1))
+        .collect();
     let mut bits = Vec::new();
     put(&mut bits, blocks.len(), 13);
     put(&mut bits, fields.len() / 2, 15);
@@ -25,7 +29,12 @@ pub fn record<B: AsRef<[u16]>>(blocks: &[B]) -> Vec<u8> {
         put(&mut bits, field.into(), 12);
     }
     bits.chunks(8)
-        .map(|byte| byte.iter().zip((0..8).rev()).map(|(&bit, place)| u8::from(bit) << place).sum())
+        .map(|byte| {
+            byte.iter()
+                .zip((0..8).rev())
+                .map(|(&bit, place)| u8::from(bit) << place)
+                .sum()
+        })
         .collect()
 }
 
@@ -69,13 +78,20 @@ pub fn scattered(terminals: usize, wires: usize, chance: &mut Chance) -> Vec<Vec
 pub fn ring(steps: &[u16]) -> Vec<Vec<u16>> {
     let around = |v: u16, step: u16| (v + step) % 4096 + 1;
     (0..4096)
-        .map(|v| steps.iter().flat_map(|&step| [around(v, step), around(v, 4096 - step)]).collect())
+        .map(|v| {
+            steps
+                .iter()
+                .flat_map(|&step| [around(v, step), around(v, 4096 - step)])
+                .collect()
+        })
         .collect()
 }
 
 /// The blocks of a star: terminal 1 has a wire to each of the 4,095 others.
 pub fn star() -> Vec<Vec<u16>> {
-    core::iter::once((2..=4096).collect()).chain((2..=4096).map(|_| vec![1])).collect()
+    core::iter::once((2..=4096).collect())
+        .chain((2..=4096).map(|_| vec![1]))
+        .collect()
 }
 
 /// Blocks of many shapes, the smallest and the largest too.

@@ -46,7 +46,14 @@ fn table_refuses(record: &[u8], work_len: usize, lens: [usize; 4], number: usize
     let before = lens.map(|len| (0..len).map(|i| 0xA0B1 + i as u16).collect::<Vec<u16>>());
     let [mut visits, mut parents, mut children, mut heads] = before.clone();
     assert_eq!(
-        table(record, &mut vec![7; work_len], &mut visits, &mut parents, &mut children, &mut heads),
+        table(
+            record,
+            &mut vec![7; work_len],
+            &mut visits,
+            &mut parents,
+            &mut children,
+            &mut heads
+        ),
         Err(refusal(number))
     );
     assert_eq!([visits, parents, children, heads], before);
@@ -120,7 +127,10 @@ fn refusal_10() {
         let index = vec![0; len];
         assert_eq!(parent(&SAMPLE, &index, Vertex(0)), Err(Refusal::WrongBuffer));
         assert_eq!(visited(&SAMPLE, &index, Dfi(0)), Err(Refusal::WrongBuffer));
-        assert_eq!(Index::new(Record::new(&SAMPLE).unwrap(), index), Err(Refusal::WrongBuffer));
+        assert_eq!(
+            Index::new(Record::new(&SAMPLE).unwrap(), index),
+            Err(Refusal::WrongBuffer)
+        );
     }
     build_refuses(&EMPTY, 0, 1, 10);
     for len in [0, 9, 11] {

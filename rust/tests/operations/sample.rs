@@ -54,7 +54,10 @@ fn the_listing() {
         let v = Vertex(v);
         assert_eq!(visit(&SAMPLE, &SAMPLE_INDEX, v), Ok(Dfi(number)));
         assert_eq!(visited(&SAMPLE, &SAMPLE_INDEX, Dfi(number)), Ok(v));
-        assert_eq!(parent(&SAMPLE, &SAMPLE_INDEX, v), Ok((above != 0).then_some(Vertex(above))));
+        assert_eq!(
+            parent(&SAMPLE, &SAMPLE_INDEX, v),
+            Ok((above != 0).then_some(Vertex(above)))
+        );
         assert_eq!(children(&SAMPLE, &SAMPLE_INDEX, v), Ok(count));
         assert_eq!(head(&SAMPLE, &SAMPLE_INDEX, v), Ok(Vertex(top)));
         assert_eq!(degree(&SAMPLE, v), Ok(SAMPLE_BLOCKS[v.0 - 1].len()));

@@ -80,7 +80,10 @@ fn the_largest_record() {
     let sizes = record.sizes();
     assert_eq!((sizes.terminals(), sizes.wires()), (4096, 16384));
     assert_eq!((bytes.len(), sizes.record_len()), (53764, 53764));
-    assert_eq!((sizes.index_len(), sizes.work_len(), sizes.list_len()), (19968, 32768, 32768));
+    assert_eq!(
+        (sizes.index_len(), sizes.work_len(), sizes.list_len()),
+        (19968, 32768, 32768)
+    );
     assert_eq!(record.unpack(), blocks.concat());
     assert_eq!(record.loop_figure(), 12289);
     let index = record.index();

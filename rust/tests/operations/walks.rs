@@ -136,7 +136,10 @@ fn the_path_to_a_root_is_the_ancestors() {
                     rounds += 1;
                 }
                 for u in record.vertices().filter(|u| !path.contains(u)) {
-                    assert_eq!(index.ancestor(u, v), if whole { Ok(false) } else { Err(Refusal::BadIndex) });
+                    assert_eq!(
+                        index.ancestor(u, v),
+                        if whole { Ok(false) } else { Err(Refusal::BadIndex) }
+                    );
                 }
                 for &u in &path {
                     assert_eq!(index.ancestor(u, v), Ok(true));
@@ -145,7 +148,10 @@ fn the_path_to_a_root_is_the_ancestors() {
         }
     }
     // each way to end is reached often
-    assert!(roots > 1000 && refused > 1000 && rounds > 100, "{roots} {refused} {rounds}");
+    assert!(
+        roots > 1000 && refused > 1000 && rounds > 100,
+        "{roots} {refused} {rounds}"
+    );
 }
 
 #[test]
