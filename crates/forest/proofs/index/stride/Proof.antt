@@ -5,12 +5,9 @@ use Rattle.forest.specs.Steps.{stride}
 use Rattle.forest.proofs.index.stride.Statement.{statement}
 use Rattle.forest.proofs.index.stride.Tie as tie
 
-add-result : tie.Need-add-result
-add-result c = search needs
-
 returns : tie.Need-returns
 unfolding stride
 returns c = refl
 
 pub stride-spec : {M : Type 1} → statement M
-stride-spec = tie.close (tie.spec add-result returns)
+stride-spec = tie.close (tie.spec (λ c. search needs) returns)

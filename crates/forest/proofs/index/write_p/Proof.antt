@@ -12,23 +12,8 @@ use Rattle.forest.proofs.index.write_p.Tie as tie
 slice-aggregate-mark-listed : tie.Need-slice-aggregate-mark-listed
 slice-aggregate-mark-listed c = let o = c .before .before .before .before .before .pre .0 .0 .lifting .searched .room .apart in let z = c .before .before .before .before .before .pre .0 .0 .lifting .searched .room .size in sym (length-take-le (c .before .before .before .before .before .args .n) (c .before .before .before .before .before .args .work .now) (omega arith))
 
-mul-mark-listed : tie.Need-mul-mark-listed
-mul-mark-listed c = search needs
-
-sub-mark-listed : tie.Need-sub-mark-listed
-sub-mark-listed c = search needs
-
-part-mark-listed-start : tie.Need-part-mark-listed-start
-part-mark-listed-start c = search needs
-
-part-mark-listed-end : tie.Need-part-mark-listed-end
-part-mark-listed-end c = search needs
-
 mark-listed-requires : tie.Need-mark-listed-requires
 mark-listed-requires c κs = p-asked (c .before .before .before .before .before .before .pre .0 .0) (length-take-le (2 * c .before .before .before .before .before .before .args .k - c .before .before .before .before .before .before .args .k) (drop (c .before .before .before .before .before .before .args .k) (c .before .before .before .before .before .before .args .index .now)) (let l = length-drop (c .before .before .before .before .before .before .args .k) (c .before .before .before .before .before .before .args .index .now) in let h = c .before .before .before .before .before .before .pre .0 .1 in omega arith) ∙ omega arith)
-
-same-length : tie.Need-same-length
-same-length c = search needs
 
 returns : tie.Need-returns
 returns c = (next-written (c .before .before .before .before .before .before .before .before .before .pre .1) (c .before .before .before .before .before .before .before .before .before .args .k) (2 * c .before .before .before .before .before .before .before .before .before .args .k - c .before .before .before .before .before .before .before .before .before .args .k) (length-upToE (c .before .before .before .before .before .before .before .before .before .pre .0 .0)) (p-written (c .before .before .before .before .before .before .before .before .before .pre .0 .0) (length-take-le (2 * c .before .before .before .before .before .before .before .before .before .args .k - c .before .before .before .before .before .before .before .before .before .args .k) (drop (c .before .before .before .before .before .before .before .before .before .args .k) (c .before .before .before .before .before .before .before .before .before .args .index .now)) (let l = length-drop (c .before .before .before .before .before .before .before .before .before .args .k) (c .before .before .before .before .before .before .before .before .before .args .index .now) in let h = c .before .before .before .before .before .before .before .before .before .pre .0 .1 in omega arith) ∙ omega arith) (c .before .before .mark-listed .ensures .1 .1) (c .before .before .mark-listed .ensures .0)), search needs)
@@ -36,12 +21,5 @@ returns c = (next-written (c .before .before .before .before .before .before .be
 pub write-p-spec : {M : Type 1} → statement M
 write-p-spec =
     tie.close
-    (tie.spec
-    slice-aggregate-mark-listed
-    mul-mark-listed
-    sub-mark-listed
-    part-mark-listed-start
-    part-mark-listed-end
-    mark-listed-requires
-    same-length
-    returns)
+    (tie.spec slice-aggregate-mark-listed (λ c. search needs) (λ c. search needs) (λ c. search needs)
+    (λ c. search needs) mark-listed-requires (λ c. search needs) returns)

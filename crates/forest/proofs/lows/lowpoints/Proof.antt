@@ -26,18 +26,12 @@ own-lows-requires c κs = let p = c .before .before .before .before .pre in (p .
 loop-holds : tie.Need-loop-holds Inv-loop μ-loop
 loop-holds c = let a = c .before .before .before .before .before .before .before .args in swept-begin _ (a .n) (a .s) _
 
-sub-k : tie.Need-sub-k Inv-loop μ-loop
-sub-k c = omega arith
-
 lift-requires : tie.Need-lift-requires Inv-loop μ-loop
 lift-requires c κs =
     let l = c .before .before in
     let s = start l in
     swept-asks (l .loop .inv) (omega arith) (vertices (s .args .starts .now) (s .args .nbrs .now) (s .pre .0 .2))
     (s .pre .1) (filled l .own-lows .ensures .0)
-
-loop-less : tie.Need-loop-less Inv-loop μ-loop
-loop-less c = omega arith
 
 loop-again : tie.Need-loop-again Inv-loop μ-loop
 loop-again c =
@@ -53,14 +47,5 @@ returns c = swept-end (c .before .loop .inv) (omega arith) (filled (c .before) .
 pub lowpoints-spec : {M : Type 1} → statement M
 lowpoints-spec =
     tie.close
-    (tie.spec
-    Inv-loop
-    μ-loop
-    own-lows-requires
-    loop-holds
-    sub-k
-    lift-requires
-    loop-less
-    loop-again
-    same-length
-    returns)
+    (tie.spec Inv-loop μ-loop own-lows-requires loop-holds (λ c. omega arith) lift-requires (λ c. omega arith)
+    loop-again same-length returns)

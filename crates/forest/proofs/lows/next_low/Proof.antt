@@ -36,29 +36,8 @@ takes c =
     step-counts (a .nbrs .now) (a .work .now) (a .s) (a .p) (seen c .get .ensures .0) (c .before .get2 .ensures .0)
     (c .lesser .ensures)
 
-get-requires : tie.Need-get-requires
-get-requires c κs = search needs
-
-mul-get : tie.Need-mul-get
-mul-get c = search needs
-
-add-get : tie.Need-add-get
-add-get c = search needs
-
 get-requires-2 : tie.Need-get-requires-2
 get-requires-2 c κs = omega (arith, start c .pre .0 .1 _ (start c .pre .0 .2), c .get .ensures .0)
-
-lesser-requires : tie.Need-lesser-requires
-lesser-requires c κs = search needs
-
-add-if1 : tie.Need-add-if1
-add-if1 c = search needs
-
-add-t17 : tie.Need-add-t17
-add-t17 c = search needs
-
-add-t18 : tie.Need-add-t18
-add-t18 c = search needs
 
 returns : tie.Need-returns
 returns c = (turns (c .before .before) (c .before .if1 .taken) (c .if2 .taken), omega arith)
@@ -72,15 +51,5 @@ returns-3 c = (takes (c .before) (λ a b. c .if1 .left a), omega arith)
 pub next-low-spec : {M : Type 1} → statement M
 next-low-spec =
     tie.close
-    (tie.spec
-    get-requires
-    mul-get
-    add-get
-    get-requires-2
-    lesser-requires
-    add-if1
-    add-t17
-    add-t18
-    returns
-    returns-2
-    returns-3)
+    (tie.spec (λ c κs. search needs) (λ c. search needs) (λ c. search needs) get-requires-2 (λ c κs. search needs)
+    (λ c. search needs) (λ c. search needs) (λ c. search needs) returns returns-2 returns-3)

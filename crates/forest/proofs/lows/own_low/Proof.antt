@@ -18,30 +18,6 @@ read c = c .before
 abbrev start : tie.After-get4 Inv-loop μ-loop → tie.Start Inv-loop μ-loop
 start c = c .before .before .before .before .before .before .before
 
-add-get : tie.Need-add-get Inv-loop μ-loop
-add-get c = omega arith
-
-get-requires : tie.Need-get-requires Inv-loop μ-loop
-get-requires c κs = omega arith
-
-add-get-2 : tie.Need-add-get-2 Inv-loop μ-loop
-add-get-2 c = omega arith
-
-get-requires-2 : tie.Need-get-requires-2 Inv-loop μ-loop
-get-requires-2 c κs = omega arith
-
-get-requires-3 : tie.Need-get-requires-3 Inv-loop μ-loop
-get-requires-3 c κs = omega arith
-
-mul-get : tie.Need-mul-get Inv-loop μ-loop
-mul-get c = omega arith
-
-add-get-3 : tie.Need-add-get-3 Inv-loop μ-loop
-add-get-3 c = omega arith
-
-get-requires-4 : tie.Need-get-requires-4 Inv-loop μ-loop
-get-requires-4 c κs = omega arith
-
 loop-holds : tie.Need-loop-holds Inv-loop μ-loop
 loop-holds c =
     looked-begin (start c .pre .0) (start c .args .s) (start c .args .work .now) (c .before .get3 .ensures .0)
@@ -51,12 +27,6 @@ next-low-requires : tie.Need-next-low-requires Inv-loop μ-loop
 next-low-requires c κs =
     let s = start (read (c .before)) in
     looked-asks (s .pre .0) (s .pre .1) (omega arith) (c .before .loop .inv)
-
-add-p : tie.Need-add-p Inv-loop μ-loop
-add-p c = omega arith
-
-loop-less : tie.Need-loop-less Inv-loop μ-loop
-loop-less c = omega arith
 
 loop-again : tie.Need-loop-again Inv-loop μ-loop
 loop-again c =
@@ -72,20 +42,6 @@ returns c =
 pub own-low-spec : {M : Type 1} → statement M
 own-low-spec =
     tie.close
-    (tie.spec
-    Inv-loop
-    μ-loop
-    add-get
-    get-requires
-    add-get-2
-    get-requires-2
-    get-requires-3
-    mul-get
-    add-get-3
-    get-requires-4
-    loop-holds
-    next-low-requires
-    add-p
-    loop-less
-    loop-again
-    returns)
+    (tie.spec Inv-loop μ-loop (λ c. omega arith) (λ c κs. omega arith) (λ c. omega arith) (λ c κs. omega arith)
+    (λ c κs. omega arith) (λ c. omega arith) (λ c. omega arith) (λ c κs. omega arith) loop-holds next-low-requires
+    (λ c. omega arith) (λ c. omega arith) loop-again returns)

@@ -42,12 +42,6 @@ own-low-requires c κs =
     let p = start l .pre in
     ((p .0 .0, p .0 .1, p .0 .2, omega arith), filled-room (l .loop .inv) (p .1))
 
-mul-put : tie.Need-mul-put Inv-loop μ-loop
-mul-put c = omega arith
-
-add-put : tie.Need-add-put Inv-loop μ-loop
-add-put c = omega arith
-
 put-requires : tie.Need-put-requires Inv-loop μ-loop
 put-requires c κs = (cells c .0, c .before .own-low .ensures .1 .0)
 
@@ -56,12 +50,6 @@ put-requires-2 c κs =
     let i = cells (first c .before) .1 in
     let e = simp length-set at (ap length (first c .put .ensures)) in
     (omega arith, first c .before .before .own-low .ensures .1 .1)
-
-add-c : tie.Need-add-c Inv-loop μ-loop
-add-c c = omega arith
-
-loop-less : tie.Need-loop-less Inv-loop μ-loop
-loop-less c = omega arith
 
 loop-again : tie.Need-loop-again Inv-loop μ-loop
 loop-again c =
@@ -82,17 +70,5 @@ returns c =
 pub own-lows-spec : {M : Type 1} → statement M
 own-lows-spec =
     tie.close
-    (tie.spec
-    Inv-loop
-    μ-loop
-    loop-holds
-    own-low-requires
-    mul-put
-    add-put
-    put-requires
-    put-requires-2
-    add-c
-    loop-less
-    loop-again
-    same-length
-    returns)
+    (tie.spec Inv-loop μ-loop loop-holds own-low-requires (λ c. omega arith) (λ c. omega arith) put-requires
+    put-requires-2 (λ c. omega arith) (λ c. omega arith) loop-again same-length returns)

@@ -12,45 +12,6 @@ down c = c .before .before
 abbrev told : tie.After-set-bit → tie.Then2
 told c = c .before .before
 
-mul-get : tie.Need-mul-get
-mul-get c = search needs
-
-add-get : tie.Need-add-get
-add-get c = search needs
-
-get-requires : tie.Need-get-requires
-get-requires c κs = search needs
-
-mul-get-2 : tie.Need-mul-get-2
-mul-get-2 c = search needs
-
-add-get-2 : tie.Need-add-get-2
-add-get-2 c = search needs
-
-get-requires-2 : tie.Need-get-requires-2
-get-requires-2 c κs = search needs
-
-mul-get-3 : tie.Need-mul-get-3
-mul-get-3 c = search needs
-
-add-get-3 : tie.Need-add-get-3
-add-get-3 c = search needs
-
-get-requires-3 : tie.Need-get-requires-3
-get-requires-3 c κs = search needs
-
-set-bit-requires : tie.Need-set-bit-requires
-set-bit-requires c κs = search needs
-
-get-requires-4 : tie.Need-get-requires-4
-get-requires-4 c κs = search needs
-
-set-bit-requires-2 : tie.Need-set-bit-requires-2
-set-bit-requires-2 c κs = search needs
-
-same-length : tie.Need-same-length
-same-length c = search needs
-
 returns : tie.Need-returns
 returns c =
     let f = c .before .before .before .before .before .before .before in
@@ -74,20 +35,6 @@ returns-3 c = (step-root (c .before .get .ensures .0) (c .if1 .left), refl)
 pub mark-bridge-spec : {M : Type 1} → statement M
 mark-bridge-spec =
     tie.close
-    (tie.spec
-    mul-get
-    add-get
-    get-requires
-    mul-get-2
-    add-get-2
-    get-requires-2
-    mul-get-3
-    add-get-3
-    get-requires-3
-    set-bit-requires
-    get-requires-4
-    set-bit-requires-2
-    same-length
-    returns
-    returns-2
-    returns-3)
+    (tie.spec (λ c. search needs) (λ c. search needs) (λ c κs. search needs) (λ c. search needs) (λ c. search needs)
+    (λ c κs. search needs) (λ c. search needs) (λ c. search needs) (λ c κs. search needs) (λ c κs. search needs)
+    (λ c κs. search needs) (λ c κs. search needs) (λ c. search needs) returns returns-2 returns-3)

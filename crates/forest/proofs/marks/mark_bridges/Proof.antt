@@ -31,9 +31,6 @@ sized c = sized-cut (start c .args .starts .now) (start c .args .nbrs .now) (sta
 abbrev begun : tie.At-loop Inv-loop μ-loop → tie.After-clear Inv-loop μ-loop
 begun c = c .before .before .before
 
-clear-requires : tie.Need-clear-requires Inv-loop μ-loop
-clear-requires c κs = search needs
-
 loop-holds : tie.Need-loop-holds Inv-loop μ-loop
 loop-holds c =
     let s = c .before .before in
@@ -45,12 +42,6 @@ mark-bridge-requires c κs =
     let l = c .before .before in
     let s = begun l in
     bridging-asks (start s .pre .1 .0) (l .loop .inv) (sized s) (cleared s) (start s .pre .1 .1) (omega arith)
-
-add-c : tie.Need-add-c Inv-loop μ-loop
-add-c c = omega arith
-
-loop-less : tie.Need-loop-less Inv-loop μ-loop
-loop-less c = omega arith
 
 loop-again : tie.Need-loop-again Inv-loop μ-loop
 loop-again c =
@@ -71,14 +62,5 @@ returns c =
 pub mark-bridges-spec : {M : Type 1} → statement M
 mark-bridges-spec =
     tie.close
-    (tie.spec
-    Inv-loop
-    μ-loop
-    clear-requires
-    loop-holds
-    mark-bridge-requires
-    add-c
-    loop-less
-    loop-again
-    same-length
-    returns)
+    (tie.spec Inv-loop μ-loop (λ c κs. search needs) loop-holds mark-bridge-requires (λ c. omega arith)
+    (λ c. omega arith) loop-again same-length returns)

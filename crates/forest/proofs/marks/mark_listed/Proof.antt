@@ -28,28 +28,16 @@ begun c = c .before .before .before
 abbrev at : tie.After-get Inv-loop μ-loop → tie.At-loop Inv-loop μ-loop
 at c = c .before .before .before
 
-clear-requires : tie.Need-clear-requires Inv-loop μ-loop
-clear-requires c κs = search needs
-
 loop-holds : tie.Need-loop-holds Inv-loop μ-loop
 loop-holds c =
     let s = c .before .before in
     marking-begin _ (length (start s .args .section .now)) (s .clear .ensures)
-
-get-requires : tie.Need-get-requires Inv-loop μ-loop
-get-requires c κs = omega arith
 
 set-bit-requires : tie.Need-set-bit-requires Inv-loop μ-loop
 set-bit-requires c κs =
     let l = at c in
     let s = begun l in
     marking-room (l .loop .inv) (cleared s) (start s .pre .1) (omega arith) (c .get .ensures .0)
-
-add-c : tie.Need-add-c Inv-loop μ-loop
-add-c c = omega arith
-
-loop-less : tie.Need-loop-less Inv-loop μ-loop
-loop-less c = omega arith
 
 loop-again : tie.Need-loop-again Inv-loop μ-loop
 loop-again c =
@@ -78,16 +66,5 @@ returns c =
 pub mark-listed-spec : {M : Type 1} → statement M
 mark-listed-spec =
     tie.close
-    (tie.spec
-    Inv-loop
-    μ-loop
-    clear-requires
-    loop-holds
-    get-requires
-    set-bit-requires
-    add-c
-    loop-less
-    loop-again
-    clear-first-requires
-    same-length
-    returns)
+    (tie.spec Inv-loop μ-loop (λ c κs. search needs) loop-holds (λ c κs. omega arith) set-bit-requires
+    (λ c. omega arith) (λ c. omega arith) loop-again clear-first-requires same-length returns)

@@ -4,9 +4,6 @@ use native.Mathlib.Omega.{arith}
 use Rattle.forest.proofs.numbers.visit.Statement.{statement}
 use Rattle.forest.proofs.numbers.visit.Tie as tie
 
-get-requires : tie.Need-get-requires
-get-requires c κs = search needs
-
 returns : tie.Need-returns
 returns c =
     let s = c .before .before in
@@ -16,4 +13,4 @@ returns c =
     (e, omega arith, omega arith)
 
 pub visit-spec : {M : Type 1} → statement M
-visit-spec = tie.close (tie.spec get-requires returns)
+visit-spec = tie.close (tie.spec (λ c κs. search needs) returns)

@@ -25,9 +25,6 @@ pair c = c .before .before .before .before
 abbrev last : tie.After-visit3 Inv-loop μ-loop → tie.At-loop Inv-loop μ-loop
 last c = c .before .before .before .before
 
-clear-requires : tie.Need-clear-requires Inv-loop μ-loop
-clear-requires c κs = search needs
-
 loop-holds : tie.Need-loop-holds Inv-loop μ-loop
 loop-holds c =
     let s = c .before .before .before .before .before .before in
@@ -40,9 +37,6 @@ add-loop c = omega (arith, pairs-upto (c .loop .inv), start c .pre .0 .few)
 visit-requires : tie.Need-visit-requires Inv-loop μ-loop
 visit-requires c κs = (start (c .before .before) .pre .0, omega arith)
 
-add-visit : tie.Need-add-visit Inv-loop μ-loop
-add-visit c = search needs
-
 visit-requires-2 : tie.Need-visit-requires-2 Inv-loop μ-loop
 visit-requires-2 c κs = (start (c .before .before .before) .pre .0, omega arith)
 
@@ -52,14 +46,8 @@ write-pair-requires c κs =
     let b = c .visit2 .ensures in
     (pairs-room (pair c .loop .inv) (omega arith), a .1, a .2, b .1, b .2)
 
-add-v : tie.Need-add-v Inv-loop μ-loop
-add-v c = search needs
-
 add-at : tie.Need-add-at Inv-loop μ-loop
 add-at c = omega (arith, pairs-room (pair (c .before .before .before) .loop .inv) (omega arith))
-
-loop-less : tie.Need-loop-less Inv-loop μ-loop
-loop-less c = omega arith
 
 loop-again : tie.Need-loop-again Inv-loop μ-loop
 loop-again c =
@@ -98,23 +86,6 @@ returns-2 c = pairs-end (c .before .before .loop .inv) (omega arith)
 pub write-numbers-spec : {M : Type 1} → statement M
 write-numbers-spec =
     tie.close
-    (tie.spec
-    Inv-loop
-    μ-loop
-    clear-requires
-    loop-holds
-    add-loop
-    visit-requires
-    add-visit
-    visit-requires-2
-    write-pair-requires
-    add-v
-    add-at
-    loop-less
-    loop-again
-    visit-requires-3
-    write-last-requires
-    same-length
-    returns
-    same-length-2
-    returns-2)
+    (tie.spec Inv-loop μ-loop (λ c κs. search needs) loop-holds add-loop visit-requires (λ c. search needs)
+    visit-requires-2 write-pair-requires (λ c. search needs) add-at (λ c. omega arith) loop-again visit-requires-3
+    write-last-requires same-length returns same-length-2 returns-2)

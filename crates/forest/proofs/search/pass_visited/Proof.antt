@@ -33,15 +33,6 @@ tested c = c .get2 .ensures .0 ∙ ap (visit (passing c)) (c .before .get .ensur
 loop-holds : tie.Need-loop-holds Inv-loop μ-loop
 loop-holds c = let a = c .before .before .args in passed-none (a .nbrs .now) (a .s) (a .work .now) (a .from)
 
-mul-get : tie.Need-mul-get Inv-loop μ-loop
-mul-get c = search needs
-
-get-requires : tie.Need-get-requires Inv-loop μ-loop
-get-requires c κs = search needs
-
-add-get : tie.Need-add-get Inv-loop μ-loop
-add-get c = search needs
-
 get-requires-2 : tie.Need-get-requires-2 Inv-loop μ-loop
 get-requires-2 c κs =
     let l = c .before .before in
@@ -54,12 +45,6 @@ returns c =
     let l = passing (c .before) in
     passed-stop (l .loop .inv) (begin l .args .end) (sym (tested (c .before)) ∙ c .if1 .taken)
 
-add-p : tie.Need-add-p Inv-loop μ-loop
-add-p c = search needs
-
-loop-less : tie.Need-loop-less Inv-loop μ-loop
-loop-less c = search needs
-
 loop-again : tie.Need-loop-again Inv-loop μ-loop
 loop-again c = passed-more (passing (c .before) .loop .inv) (λ z. c .if1 .left (tested (c .before) ∙ z))
 
@@ -69,16 +54,5 @@ returns-2 c = passed-end (c .before .loop .inv) (begin (c .before) .args .end) (
 pub pass-visited-spec : {M : Type 1} → statement M
 pass-visited-spec =
     tie.close
-    (tie.spec
-    Inv-loop
-    μ-loop
-    loop-holds
-    mul-get
-    get-requires
-    add-get
-    get-requires-2
-    returns
-    add-p
-    loop-less
-    loop-again
-    returns-2)
+    (tie.spec Inv-loop μ-loop loop-holds (λ c. search needs) (λ c κs. search needs) (λ c. search needs) get-requires-2
+    returns (λ c. search needs) (λ c. search needs) loop-again returns-2)

@@ -13,12 +13,6 @@ begin c = c .before .before .before .before
 start : (c : tie.Else1) → begin c .args .i < begin c .args .n
 start c = busy-start {cur = begin c .args .cur} (begin c .pre .0 .2) (c .if1 .left)
 
-try-next-requires : tie.Need-try-next-requires
-try-next-requires c κs = search needs
-
-same-length : tie.Need-same-length
-same-length c = search needs
-
 returns : tie.Need-returns
 returns c = λ roots t. c .before .before .try-next .ensures roots _ t
 
@@ -30,9 +24,6 @@ try-start-requires c κs =
 add-t17 : tie.Need-add-t17
 add-t17 c = let h = start (c .before .before .before .before) in omega arith
 
-same-length-2 : tie.Need-same-length-2
-same-length-2 c = search needs
-
 returns-2 : tie.Need-returns-2
 returns-2 c = λ roots t.
     let d = c .before .before .before .before in
@@ -41,11 +32,5 @@ returns-2 c = λ roots t.
 pub step-spec : {M : Type 1} → statement M
 step-spec =
     tie.close
-    (tie.spec
-    try-next-requires
-    same-length
-    returns
-    try-start-requires
-    add-t17
-    same-length-2
+    (tie.spec (λ c κs. search needs) (λ c. search needs) returns try-start-requires add-t17 (λ c. search needs)
     returns-2)

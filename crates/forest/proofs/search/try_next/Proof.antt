@@ -62,9 +62,6 @@ room-left c =
     (ended d .get .ensures .0) (d .pass-visited .ensures) (c .before .if1 .taken) (c .get3 .ensures .0) in
     new-room (b .1 .searching) (as-many (a .starts .now) (a .nbrs .now) (b .0 .1)) (inside c) z
 
-sub-u : tie.Need-sub-u
-sub-u c = search needs
-
 get-requires : tie.Need-get-requires
 get-requires c κs = let v = vertex c in omega arith
 
@@ -78,9 +75,6 @@ pass-visited-requires c κs =
 
 get-requires-3 : tie.Need-get-requires-3
 get-requires-3 c κs = let f = end-fits (ended (c .before)) in omega arith
-
-add-put : tie.Need-add-put
-add-put c = search needs
 
 put-requires : tie.Need-put-requires
 put-requires c κs =
@@ -108,14 +102,8 @@ enter-requires c κs =
       omega arith,
     )
 
-add-t22 : tie.Need-add-t22
-add-t22 c = search needs
-
 add-t25 : tie.Need-add-t25
 add-t25 c = let r = room-left (c .before .before .before .before .before .before .before .before) in omega arith
-
-same-length : tie.Need-same-length
-same-length c = search needs
 
 returns : tie.Need-returns
 returns c = λ roots todo t.
@@ -132,9 +120,6 @@ add-get c = let v = vertex (ended (c .before .before) .before) in omega arith
 get-requires-4 : tie.Need-get-requires-4
 get-requires-4 c κs = let v = vertex (ended (c .before .before) .before) in omega arith
 
-same-length-2 : tie.Need-same-length-2
-same-length-2 c = search needs
-
 returns-2 : tie.Need-returns-2
 returns-2 c = λ roots todo t.
     let d = c .before .before .before in
@@ -145,21 +130,6 @@ returns-2 c = λ roots todo t.
 pub try-next-spec : {M : Type 1} → statement M
 try-next-spec =
     tie.close
-    (tie.spec
-    sub-u
-    get-requires
-    get-requires-2
-    pass-visited-requires
-    get-requires-3
-    add-put
-    put-requires
-    add-enter
-    enter-requires
-    add-t22
-    add-t25
-    same-length
-    returns
-    add-get
-    get-requires-4
-    same-length-2
-    returns-2)
+    (tie.spec (λ c. search needs) get-requires get-requires-2 pass-visited-requires get-requires-3 (λ c. search needs)
+    put-requires add-enter enter-requires (λ c. search needs) add-t25 (λ c. search needs) returns add-get get-requires-4
+    (λ c. search needs) returns-2)

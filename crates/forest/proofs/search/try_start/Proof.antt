@@ -23,37 +23,19 @@ room-left c =
     let b = begin (c .before) .pre in
     new-room (b .1 .searching) (as-many (a .starts .now) (a .nbrs .now) (b .0 .1)) (b .0 .2) (new c)
 
-mul-get : tie.Need-mul-get
-mul-get c = search needs
-
-add-get : tie.Need-add-get
-add-get c = search needs
-
-get-requires : tie.Need-get-requires
-get-requires c κs = search needs
-
 enter-requires : tie.Need-enter-requires
 enter-requires c κs =
     let b = begin (c .before .before) .pre in
     (b .1 .searching .room, b .0 .2, room-left (c .before), omega arith, omega arith)
 
-add-t18 : tie.Need-add-t18
-add-t18 c = search needs
-
 add-t19 : tie.Need-add-t19
 add-t19 c = let r = room-left (c .before .before .before .before) in omega arith
-
-same-length : tie.Need-same-length
-same-length c = search needs
 
 returns : tie.Need-returns
 returns c = λ roots todo t.
     let d = c .before .before .before .before in
     let b = begin (d .before) .pre .0 in
     start-entered t (as-many _ _ (b .1)) (b .2) (new d) (c .before .before .enter .ensures)
-
-same-length-2 : tie.Need-same-length-2
-same-length-2 c = search needs
 
 returns-2 : tie.Need-returns-2
 returns-2 c = λ roots todo t.
@@ -63,14 +45,5 @@ returns-2 c = λ roots todo t.
 pub try-start-spec : {M : Type 1} → statement M
 try-start-spec =
     tie.close
-    (tie.spec
-    mul-get
-    add-get
-    get-requires
-    enter-requires
-    add-t18
-    add-t19
-    same-length
-    returns
-    same-length-2
-    returns-2)
+    (tie.spec (λ c. search needs) (λ c. search needs) (λ c κs. search needs) enter-requires (λ c. search needs) add-t19
+    (λ c. search needs) returns (λ c. search needs) returns-2)
