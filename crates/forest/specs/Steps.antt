@@ -26,7 +26,7 @@ use Rattle.graph.specs.Laws.Loop.Arrays.{Cells}
 use Rattle.graph.specs.Laws.Loop.Invariant.{Loop}
 use Rattle.forest.specs.Laws.Sections.{placeBit}
 
-unfoldable pub stride : ℕ → ℕ
+abbrev pub stride : ℕ → ℕ
 stride n = n + n / 16
 
 -- the parts have room: n is a number of vertices, and 6·s numbers are there

@@ -12,7 +12,7 @@ use native.Mathlib.Omega.{arith}
 use borrow.Author.Tests.{eq-eqb, eqb-true}
 use lib.Dec.{eqb}
 use lib.ListN.{length, getD, set, replicate}
-use Rattle.bits.specs.Bits.{bits, pack}
+use Rattle.bits.specs.Bits.{bits}
 use Rattle.bits.specs.Laws.Bytes.{AreBytes}
 use Rattle.bits.specs.Laws.Packing.{zero-bits}
 use Rattle.graph.specs.Graph.{Blocks, block, target, WellFormed, twin}
@@ -27,12 +27,11 @@ use Rattle.graph.specs.Laws.Joined.Spanning.{Spanning, tree-place}
 use Rattle.graph.specs.Laws.Edges.Marks.{Back, back, child-mark-entry, back-parent, back-place}
 use Rattle.graph.specs.Laws.Bridges.Crossings.{outside-no-bridge}
 use Rattle.graph.specs.Laws.Bridges.Lowpoints.{Lows, bridge-at-child, bridge-at-parent}
-use Rattle.forest.specs.Index.{sectionB}
 use Rattle.forest.specs.Steps.{Room}
 use Rattle.forest.specs.Lows.{Lifting, Lifts}
-use Rattle.forest.specs.Marks.{childEnd, bridgeMarks, marked, BridgeStep, parts, stays}
+use Rattle.forest.specs.Marks.{Sized, childEnd, bridgeMarks, marked, BridgeStep, parts, stays}
 use Rattle.forest.specs.Laws.Marking.{also}
-use Rattle.forest.proofs.Laws.Marked.{Sized, no-marks, bits-also, same-bits}
+use Rattle.forest.proofs.Laws.Marked.{no-marks, bits-also, same-bits}
 use Rattle.forest.proofs.Laws.Marked.{Own, owns-none, owns-two, upto-none, upto-all}
 use Rattle.forest.proofs.Laws.Listed.{Owns, nothing, one, owns-below}
 use Rattle.forest.proofs.Laws.Owned.{entry-at, child-own, children-own, back-at, parent-own, parents-own}
@@ -215,8 +214,7 @@ module _ {g : Blocks} {n s c : ℕ} {work section₀ section : List ℕ} (wf : W
         (f .searched .visits c h) (t .each F f) step;
   }
 
-  pub bridging-end : length g ≡ n → Lifts g n s work 0 → n ≤ c → section ≡ pack (sectionB g)
-  unfolding sectionB
+  pub bridging-end : length g ≡ n → Lifts g n s work 0 → n ≤ c → section ≡ marked g (bridge g)
   bridging-end many l h =
       same-bits g (bridge g) (t .are-bytes)
       (t .each (l .forest) (l .lifting) ∙ ap bits (upto-all g (bridge g) (childEnd g (l .forest)) below))

@@ -19,9 +19,9 @@ use Rattle.bits.specs.Laws.Bytes.{AreBytes}
 use Rattle.bits.specs.Laws.Packing.{zero-bits}
 use Rattle.graph.specs.Graph.{Blocks, block}
 use Rattle.graph.specs.Search.{PlaceTest}
-use Rattle.forest.specs.Marks.{markAll, Below, upTo, marked}
+use Rattle.forest.specs.Marks.{Sized, markAll, Below, upTo, marked}
 use Rattle.forest.specs.Laws.Sections.{placeBit}
-use Rattle.forest.proofs.Laws.Marked.{Sized, sized-bits, bit-fits, no-marks, bits-also, same-bits}
+use Rattle.forest.proofs.Laws.Marked.{sized-bits, bit-fits, no-marks, bits-also, same-bits}
 use Rattle.forest.proofs.Laws.Marked.{Same, Own, owns-none, owns-one, upto-none, upto-all}
 
 -- ---- ones at the places of a list

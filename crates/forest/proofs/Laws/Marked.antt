@@ -1,7 +1,6 @@
 -- The bits of a section of marks: without a mark, and with the marks of one more owner.
---   Sized        k bytes are a section of marks of g, which has n vertices and 2·m places
---   sized-cut    so it is for a graph in two arrays
---   sized-bytes, sized-bits   that is, by the vertices and the places themselves
+--   sized-bytes, sized-bits   the bytes of a section, by the vertices and the places themselves
+--   length-marks  a section has so many bytes
 --   bit-fits     the bit of a place is one of the section's
 --   no-marks     a section without marks is zeros
 --   bits-also    the bit of a place is set
@@ -22,17 +21,14 @@ use lib.ListN.{length, set, replicate, replicate-append-replicate}
 use lib.Seq.{set-append-left}
 use Rattle.bits.specs.Bits.{bits, pack}
 use Rattle.bits.specs.Laws.Bytes.{AreBytes}
-use Rattle.bits.specs.Laws.Packing.{bits-pack, pack-bytes, bits-injective}
+use Rattle.bits.specs.Laws.Packing.{length-pack, bits-pack, pack-bytes, bits-injective}
 use Rattle.graph.specs.Graph.{Blocks, block}
 use Rattle.graph.specs.Search.{PlaceTest}
 use Rattle.graph.specs.Laws.Places.Basics.{same-outcome, or-cases, or-left, or-right, and-parts, and-both, clash}
 use Rattle.graph.specs.Laws.Places.Pairing.{place-at, source}
-use Rattle.record.specs.Arrays.{cut, Divided}
-use Rattle.record.specs.Laws.Parts.{length-cut}
 use Rattle.forest.specs.Index.{section, markBytes}
-use Rattle.forest.specs.Marks.{upTo, marked}
+use Rattle.forest.specs.Marks.{Sized, upTo, marked}
 use Rattle.forest.specs.Laws.Sections.{placeBit, start-more, start-most, length-section, section-same}
-use Rattle.forest.specs.Laws.Starts.{places-cut}
 use Rattle.forest.specs.Laws.Marking.{none, section-none, also, section-also}
 
 -- ---- bits
@@ -48,29 +44,18 @@ bit-fits g u j h =
 abbrev fill : ℕ → List Bool
 fill k = replicate (8 * ((k + 7) / 8) - k) false
 
-pub record Sized (g : Blocks) (n m k : ℕ) : Type 0 where
-  pub vertices : length g ≡ n
-  pub places : length (flatten g) ≡ 2 * m
-  pub bytes : k ≡ markBytes n m
-
 module _ {g : Blocks} {n m k : ℕ} (z : Sized g n m k) where
   pub sized-bytes : k ≡ (length g + length (flatten g) + 7) / 8
   unfolding markBytes
-  sized-bytes = let a = z .vertices in let b = z .places in z .bytes ∙ ap (λ (x : ℕ). (x + 7) / 8) (omega arith)
+  sized-bytes = rw (z .vertices, z .places) (z .bytes)
 
   -- there is room for all bits
   pub sized-bits : length g + length (flatten g) ≤ 8 * k
   sized-bits = let e = sized-bytes in omega arith
 
--- as a graph in two arrays has it
-pub sized-cut : (starts nbrs : List ℕ) {n m k : ℕ}
-    → Divided starts nbrs × (n + 1 ≡ length starts) × (length nbrs ≡ 2 * m) → k ≡ markBytes n m
-    → Sized (cut starts nbrs) n m k
-sized-cut starts nbrs d e = record {
-  vertices = let l = length-cut starts nbrs in let q = d .1 in omega arith;
-  places = places-cut (d .0) ∙ d .2;
-  bytes = e;
-}
+  pub length-marks : (test : PlaceTest) → length (marked g test) ≡ k
+  length-marks test =
+      length-pack (section test g) ∙ ap (λ (x : ℕ). (x + 7) / 8) (length-section test g) ∙ sym sized-bytes
 
 pub no-marks : {g : Blocks} {n m k : ℕ} → Sized g n m k → replicate (8 * k) false ≡ bits (marked g none)
 no-marks {g} {k = k} z =

@@ -4,8 +4,9 @@
 --   less-at        a number of a list whose numbers are each less 1
 --   Pairs          the first v visit numbers are written, two in three bytes
 --   pairs-begin, pairs-size, pairs-upto, pairs-room, pairs-rest, pairs-more, pairs-last, pairs-end   as the code goes
---   listed-visits, listed-numbers   the visit cells of a forest are visit numbers; each less 1, they are the forest's
-use mathlib.Core.Path.{_≡_, sym, ap, ap₂, _∙_}
+--   visitCells, visits-many   the visit cells in the work slice, as many as vertices
+--   listed-visits, listed-numbers   those of a forest are visit numbers; each less 1, they are the forest's
+use mathlib.Core.Path.{_≡_, refl, sym, ap, ap₂, _∙_}
 use mathlib.Core.Bool.{Bool, false}
 use mathlib.Core.List.{List, [], _∷_, _++_, map, append-assoc, append-nil}
 use Prim.Native.Nat.{ℕ, zero, suc, _+_, _-_, _*_, _/_, _≤_, _<_}
@@ -182,16 +183,23 @@ module _ {visits section : List ℕ} {v at : ℕ} (p : Pairs visits section v at
 
 -- ---- those of a forest
 
+-- the visit cells, as the code lends them
+abbrev pub visitCells : ℕ → ℕ → List ℕ → List ℕ
+visitCells n s work = take (2 * s + n - 2 * s) (drop (2 * s) work)
+
 module _ {g : Blocks} {F : Forest} {n s : ℕ} {work : List ℕ} (many : length g ≡ n) (a : Searched g F n s work) where
   fits : 2 * s + n ≤ length work
-  fits = let o = a .room .apart in let z = a .room .size in omega arith
+  fits = let r = a .room in omega arith
 
-  visit-at : (v : ℕ) → v < n → getD (take n (drop (2 * s) work)) v 0 ≡ suc (number F v)
-  visit-at v h = part-cell n (2 * s) work fits v h ∙ a .visits v h
+  pub visits-many : length (visitCells n s work) ≡ n
+  visits-many = part-size (2 * s) (2 * s + n) work refl fits
 
-  pub listed-visits : Visits (take n (drop (2 * s) work))
+  visit-at : (v : ℕ) → v < n → getD (visitCells n s work) v 0 ≡ suc (number F v)
+  visit-at v h = part-cell (2 * s) (2 * s + n) work refl fits v h ∙ a .visits v h
+
+  pub listed-visits : Visits (visitCells n s work)
   listed-visits =
-      let l = part-size n (2 * s) work fits in
+      let l = visits-many in
       let f = a .room .few in
       record {
         few = omega arith;
@@ -203,13 +211,13 @@ module _ {g : Blocks} {F : Forest} {n s : ℕ} {work : List ℕ} (many : length 
             );
       }
 
-  pub listed-numbers : map (λ x. x - 1) (take n (drop (2 * s) work)) ≡ numbers g F
+  pub listed-numbers : map (λ x. x - 1) (visitCells n s work) ≡ numbers g F
   listed-numbers =
-      let l : length (map (λ x. x - 1) (take n (drop (2 * s) work))) ≡ n =
-      length-map (take n (drop (2 * s) work)) (λ x. x - 1) ∙ part-size n (2 * s) work fits in
-      ext-getD 0 (map (λ x. x - 1) (take n (drop (2 * s) work))) (numbers g F) (l ∙ sym (length-numbers g F ∙ many))
+      let l : length (map (λ x. x - 1) (visitCells n s work)) ≡ n =
+      length-map (visitCells n s work) (λ x. x - 1) ∙ visits-many in
+      ext-getD 0 (map (λ x. x - 1) (visitCells n s work)) (numbers g F) (l ∙ sym (length-numbers g F ∙ many))
       (λ v h. (
-      let e = less-at (take n (drop (2 * s) work)) v in
+      let e = less-at (visitCells n s work) v in
       let c = visit-at v (omega arith) in
       let b = number-at g F v (omega arith) in
       omega arith
