@@ -8,15 +8,21 @@ use Rattle.forest.proofs.build.Statement.{statement}
 use Rattle.forest.proofs.build.Tie as tie
 
 in-room-requires : tie.Need-in-room-requires
-in-room-requires c κs = told-laid (c .before .before .before .before .before .before .before .before .before .args .bytes .now) (sym (ap shape (c .before .before .before .s .given .1)) ∙ c .before .before .before .before .before .laid-out .ensures)
+in-room-requires c κs =
+    let passed = c .before .before .before in
+    let laid = passed .before .before in
+    told-laid (laid .before .before .before .before .args .bytes .now)
+    (sym (ap shape (passed .s .given .1)) ∙ laid .laid-out .ensures)
 
 returns : tie.Need-returns
 returns c =
-    let d = done-unread (sizesOf (c .before .before .before .before .before .before .before .args .bytes .now)) (sym (ap shape (c .before .r .given .1)) ∙ c .before .before .before .laid-out .ensures) in
+    let laid = c .before .before .before in
+    let d = done-unread (sizesOf (laid .before .before .before .before .args .bytes .now))
+    (sym (ap shape (c .before .r .given .1)) ∙ laid .laid-out .ensures) in
     (d .told, d .left)
 
 returns-2 : tie.Need-returns-2
-returns-2 c = (c .before .before .before .before .in-room .ensures .told, c .before .before .before .before .in-room .ensures .left)
+returns-2 c = let d = c .before .before .before .before .in-room .ensures in (d .told, d .left)
 
 pub build-spec : {M : Type 1} → statement M
 build-spec =
