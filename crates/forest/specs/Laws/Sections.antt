@@ -1,4 +1,5 @@
--- The bits of a section: how many they are, and where those of a vertex and of its block stand; and the numbers in order.
+-- The bits of a section: how many they are, and where those of a vertex and of its block stand; and the numbers in
+-- order.
 use mathlib.Core.Path.{_≡_, refl, ap, ap₂, _∙_}
 use mathlib.Core.Bool.{Bool, false}
 use mathlib.Core.List.{List, [], _∷_, _++_, map, flatten}
@@ -24,7 +25,8 @@ each-at f d i zero k h = absurd (omega arith)
 each-at f d i (suc n) zero h = ap f (omega arith)
 each-at f d i (suc n) (suc k) h = each-at f d (suc i) n k (omega arith) ∙ ap f (omega arith)
 
-pub each-same : {A : Type 0} (f h : ℕ → A) (i n : ℕ) → ((k : ℕ) → k < n → f (i + k) ≡ h (i + k)) → map f (countUp i n) ≡ map h (countUp i n)
+pub each-same : {A : Type 0} (f h : ℕ → A) (i n : ℕ) → ((k : ℕ) → k < n → f (i + k) ≡ h (i + k))
+    → map f (countUp i n) ≡ map h (countUp i n)
 unfolding countUp
 each-same f h i zero e = refl
 each-same {A} f h i (suc n) e =
@@ -58,7 +60,9 @@ pub start-most : (g : Blocks) (u : ℕ) → blockStart g u ≤ length (flatten g
 unfolding flatten
 start-most g zero = omega arith
 start-most [] (suc u) = omega arith
-start-most (b ∷ g) (suc u) = let r = start-most g u in omega (arith, length-append b (flatten (take u g)), length-append b (flatten g))
+start-most (b ∷ g) (suc u) =
+    let r = start-most g u in
+    omega (arith, length-append b (flatten (take u g)), length-append b (flatten g))
 
 -- the marks laid out, where the first block is vertex u's
 abbrev pub laidFrom : PlaceTest → ℕ → Blocks → List Bool
@@ -72,32 +76,38 @@ length-laid : (test : PlaceTest) (u : ℕ) (g : Blocks) → length (laidFrom tes
 unfolding layOut marksFrom flatten
 length-laid test u [] = refl
 length-laid test u (b ∷ g) =
-    omega (arith, length-append (marksOf test u b) (laidFrom test (suc u) g), length-each (test u) 0 (length b), length-append b (flatten g), length-laid test (suc u) g)
+    let each = length-each (test u) 0 (length b) in
+    let rest = length-laid test (suc u) g in
+    omega (arith, length-append (marksOf test u b) (laidFrom test (suc u) g), length-append b (flatten g))
 
 pub length-section : (test : PlaceTest) (g : Blocks) → length (section test g) ≡ length g + length (flatten g)
 unfolding section
 length-section test g = length-laid test 0 g
 
-pub marks-same : (a b : PlaceTest) (u : ℕ) (g : Blocks) → ((x j : ℕ) → x < length g → j < length (block g x) → a (u + x) j ≡ b (u + x) j)
+pub marks-same : (a b : PlaceTest) (u : ℕ) (g : Blocks)
+    → ((x j : ℕ) → x < length g → j < length (block g x) → a (u + x) j ≡ b (u + x) j)
     → marksFrom a u g ≡ marksFrom b u g
 unfolding marksFrom
 marks-same a b u [] e = refl
 marks-same a b u (l ∷ g) e =
-    ap₂ (λ (x : List Bool) (xs : List (List Bool)). x ∷ xs) (each-same (a u) (b u) 0 (length l) first) (marks-same a b (suc u) g rest)
+    ap₂ (λ (x : List Bool) (xs : List (List Bool)). x ∷ xs) (each-same (a u) (b u) 0 (length l) first)
+    (marks-same a b (suc u) g rest)
   where
     first : (j : ℕ) → j < length l → a u (0 + j) ≡ b u (0 + j)
-    first j k = let z : u + 0 ≡ u = omega arith in let y : 0 + j ≡ j = omega arith in rw y (rw z at (e 0 j (omega arith) k))
+    first j k =
+        let z : u + 0 ≡ u = omega arith in
+        let y : 0 + j ≡ j = omega arith in
+        rw y (rw z at (e 0 j (omega arith) k))
 
     rest : (x j : ℕ) → x < length g → j < length (block g x) → a (suc u + x) j ≡ b (suc u + x) j
     rest x j k l = let c : u + suc x ≡ suc u + x = omega arith in rw c at (e (suc x) j (omega arith) l)
 
 -- tests that agree at every place
-pub section-same : (a b : PlaceTest) (g : Blocks) → ((u j : ℕ) → u < length g → j < length (block g u) → a u j ≡ b u j) → section a g ≡ section b g
+pub section-same : (a b : PlaceTest) (g : Blocks)
+    → ((u j : ℕ) → u < length g → j < length (block g u) → a u j ≡ b u j) → section a g ≡ section b g
 unfolding section
-section-same a b g e = ap (layOut false) (marks-same a b 0 g at0)
-  where
-    at0 : (u j : ℕ) → u < length g → j < length (block g u) → a (0 + u) j ≡ b (0 + u) j
-    at0 u j k l = let z : 0 + u ≡ u = omega arith in rw z (e u j k l)
+section-same a b g e =
+    ap (layOut false) (marks-same a b 0 g (λ u j k l. let z : 0 + u ≡ u = omega arith in rw z (e u j k l)))
 
 -- past the first vertex's bits
 laid-on : (test : PlaceTest) (u : ℕ) (b : List ℕ) (g : Blocks) (k : ℕ)
@@ -108,12 +118,14 @@ laid-on test u b g k =
     ap (λ (i : ℕ). getD (marksOf test u b ++ laidFrom test (suc u) g) i false) e
     ∙ getD-append-add (marksOf test u b) (laidFrom test (suc u) g) k false
 
-own-from : (test : PlaceTest) (t : ℕ) (g : Blocks) (u : ℕ) → u < length g → getD (laidFrom test t g) (blockStart g u + u) false ≡ false
+own-from : (test : PlaceTest) (t : ℕ) (g : Blocks) (u : ℕ) → u < length g
+    → getD (laidFrom test t g) (blockStart g u + u) false ≡ false
 unfolding layOut marksFrom flatten
 own-from test t [] u h = absurd (omega arith)
 own-from test t (b ∷ g) zero h = refl
 own-from test t (b ∷ g) (suc u) h =
-    let e : length (b ++ flatten (take u g)) + suc u ≡ suc (length b + (blockStart g u + u)) = omega (arith, length-append b (flatten (take u g))) in
+    let e : length (b ++ flatten (take u g)) + suc u ≡ suc (length b + (blockStart g u + u)) =
+    omega (arith, length-append b (flatten (take u g))) in
     ap (λ (i : ℕ). getD (laidFrom test t (b ∷ g)) i false) e
     ∙ laid-on test t b g (blockStart g u + u) ∙ own-from test (suc t) g u (omega arith)
 
@@ -139,7 +151,8 @@ mark-from test t (b ∷ g) (suc u) j h k =
     ∙ ap (λ (i : ℕ). test i j) y
 
 -- the bit of a vertex itself
-pub own-bit : (test : PlaceTest) (g : Blocks) (u : ℕ) → u < length g → getD (section test g) (blockStart g u + u) false ≡ false
+pub own-bit : (test : PlaceTest) (g : Blocks) (u : ℕ) → u < length g
+    → getD (section test g) (blockStart g u + u) false ≡ false
 unfolding section
 own-bit test g u h = own-from test 0 g u h
 
