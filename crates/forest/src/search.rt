@@ -167,7 +167,7 @@ fn step(
 // No vertex is visited, and the place that comes next for each is its start.
 fn begin(starts: &[u16], n: usize, s: usize, work: &mut [u16])
     requires { ⌜ (Room n s (now work)) × (n < length (now starts)) ⌝ }
-    ensures { λ _. ⌜ Begun (now (starts .entry)) n s (now (work .exit)) ⌝ }
+    ensures { λ _. ⌜ Begun (now (starts .entry)) n s (now (work .exit)) n ⌝ }
 {
     let mut v = 0;
     while v < n {

@@ -66,7 +66,7 @@ all-starts : (starts nbrs : List ℕ) (n : ℕ) → n + 1 ≡ length starts → 
 all-starts starts nbrs n fit = rw (as-many starts nbrs fit) at (covers-vertices (cut starts nbrs))
 
 module _ {starts nbrs : List ℕ} (a : Arrays starts nbrs) {n : ℕ} (fit : n + 1 ≡ length starts) where
-  pub search-begun : {s : ℕ} {work : List ℕ} → Begun starts n s work
+  pub search-begun : {s : ℕ} {work : List ℕ} → Begun starts n s work n
       → From (cut starts nbrs) starts n s work (2 * n + 2 * length nbrs) 0 0 0
   search-begun {s} {work} b =
       let size = as-many starts nbrs fit in
@@ -78,10 +78,12 @@ module _ {starts nbrs : List ℕ} (a : Arrays starts nbrs) {n : ℕ} (fit : n + 
       record {
         next-of = λ x. 0;
         slot-of = λ x. 0;
-        room = b .room;
-        nexts = λ v h. let q = b .at-start v h in omega arith;
-        fresh = λ v h z. refl;
-        downs = λ v h d. absurd (d (b .unvisited v h));
+        tied = record {
+          room = b .room;
+          nexts = λ v h. let q = b .at-start v h in omega arith;
+          fresh = λ v h z. refl;
+          downs = λ v h d. absurd (d (b .unvisited v h));
+        };
         loop = subst (λ x. Loop (cut starts nbrs) (search (cut starts nbrs) all (countUp 0 n)) (2 * n + 2 * length nbrs)
             (countUp 0 x) 0 0 (cellsOf s (λ x. 0) (λ x. 0) work)) e l;
       }
@@ -108,13 +110,13 @@ module _ {starts nbrs : List ℕ} (a : Arrays starts nbrs) {n : ℕ} (fit : n + 
     pub search-ended : Searched (cut starts nbrs) (search (cut starts nbrs) all (countUp 0 n)) n s work
     search-ended = record {
       spans = spans;
-      room = t .room;
+      room = t .tied .room;
       visits = visits;
       parents = λ v h. kept .parent-cells v (entered v h);
       order = λ j h.
           let size = as-many starts nbrs fit in
           let many = forest-length spans in
           kept .order-cells j (omega arith);
-      downs = λ v h. t .downs v h (λ z. (let y = visits v h in omega arith))
+      downs = λ v h. t .tied .downs v h (λ z. (let y = visits v h in omega arith))
           ∙ ap₂ (downBit (cut starts nbrs)) (kept .parent-cells v (entered v h)) (kept .slot-cells v (entered v h));
     }

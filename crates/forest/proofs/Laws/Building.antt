@@ -97,7 +97,8 @@ module _ {bytes work index : List ℕ} where
         unfolding build built otherLength firstBroken
         done e =
             let f : firstBroken (buildRules bytes work index) ≡ 0 =
-            last-left work index a r enough ∙ first-kept 10 [] (ap not (eq-eqb (length index) (indexLength n m) sized)) in
+            last-left work index a r enough
+            ∙ first-kept 10 [] (ap not (eq-eqb (length index) (indexLength n m) sized)) in
             record {
               told = untold tt f;
               left = e ∙ buffer-written (buildRules bytes work index) (indexOf (blocks bytes)) index f;

@@ -16,10 +16,16 @@ use Rattle.graph.specs.Laws.Loop.Invariant.{Loop, loop-room, loop-vertex, loop-
 use Rattle.graph.specs.Laws.Loop.Invariant.{loop-enter-start, Visited, loop-leave, loop-enter-at}
 use Rattle.record.specs.Arrays.{cut, Arrays}
 use Rattle.forest.specs.Laws.Starts.{start-cut}
-use Rattle.forest.specs.Steps.{downBit, cellsOf, Searching, Entering, PassedTo}
+use Rattle.forest.specs.Steps.{downBit, cellsOf, Tied, Searching, Entering, PassedTo}
 use Rattle.forest.proofs.Laws.Graphs.{as-many, in-range, row-end, row-place, place-row}
 use Rattle.forest.proofs.Laws.Stores.{Put, put-other, changed, stored-changed}
-use Rattle.forest.proofs.Laws.Tied.{Tied, tied, searching, tied-next, tied-enter, enters}
+use Rattle.forest.proofs.Laws.Tied.{tied-next, tied-enter, enters}
+
+searching : {g : Blocks} {roots todo starts : List ℕ} {n s : ℕ} {work : List ℕ} {left cur k : ℕ}
+    {next-of slot-of : ℕ → ℕ} → Tied g starts n s work next-of slot-of
+    → Loop g (search g all roots) left todo cur k (cellsOf s next-of slot-of work)
+    → Searching g roots todo starts n s work left cur k
+searching t l = record { next-of = _; slot-of = _; tied = t; loop = l }
 
 pub new-room : {g : Blocks} {roots todo starts : List ℕ} {n s : ℕ} {work : List ℕ} {left cur k v : ℕ}
     → Searching g roots todo starts n s work left cur k → length g ≡ n → v < n → getD work (2 * s + v) 0 ≡ 0 → k < n
@@ -30,15 +36,15 @@ new-room {v = v} t size h z = let r = loop-room (t .loop) {x = v} (omega arith) 
 module _ {g : Blocks} {roots todo starts : List ℕ} {n s : ℕ} {work : List ℕ} {left v k : ℕ}
     (t : Searching g roots (v ∷ todo) starts n s work left 0 k) (size : length g ≡ n) (h : v < n) where
   pub start-passed : (getD work (2 * s + v) 0 ≡ 0 → ⊥) → Searching g roots todo starts n s work (left - 1) 0 k
-  start-passed d = searching (tied t) (loop-pass-start (t .loop) (omega arith) d)
+  start-passed d = searching (t .tied) (loop-pass-start (t .loop) (omega arith) d)
 
   pub start-entered : {next : List ℕ} → getD work (2 * s + v) 0 ≡ 0 → Entering n s work next v k 0 0
       → Searching g roots todo starts n s next (left - 1) (v + 1) (k + 1)
   unfolding downBit
   start-entered {next} z e =
-      let c = enters {n = n} 0 work (t .next-of) (t .next-of) (t .slot-of) (λ i l. refl) e (t .fresh v h z) in
+      let c = enters {n = n} 0 work (t .next-of) (t .next-of) (t .slot-of) (λ i l. refl) e (t .tied .fresh v h z) in
       rw (add-one v, add-one k)
-      (searching (tied-enter (tied t) 0 e refl) (loop-enter-start (t .loop) (omega arith) z (rw size c)))
+      (searching (tied-enter (t .tied) 0 e refl) (loop-enter-start (t .loop) (omega arith) z (rw size c)))
 
 -- ---- vertex u is at hand
 
@@ -59,7 +65,7 @@ module _ {starts nbrs : List ℕ} (a : Arrays starts nbrs) {n : ℕ} (fit : n + 
       (d : PassedTo nbrs s work from end p) where
     -- the place from which the passing begins, and the end of the block
     from-next : from ≡ getD starts u 0 + t .next-of u
-    from-next = is-from ∙ t .nexts u hand-vertex
+    from-next = is-from ∙ t .tied .nexts u hand-vertex
 
     end-next : end ≡ getD starts (u + 1) 0
     end-next = is-end ∙ ap (λ x. getD starts x 0) (is-cur ∙ sym (add-one u))
@@ -76,7 +82,7 @@ module _ {starts nbrs : List ℕ} (a : Arrays starts nbrs) {n : ℕ} (fit : n + 
     next-left m e =
         let b = row-end a fit hand-vertex in
         let f = end-next in
-        rw e (searching (tied t)
+        rw e (searching (t .tied)
         (loop-leave hand (in-range a) (passed (length (block (cut starts nbrs) u)) (omega arith))))
 
     -- the position of place p
@@ -108,12 +114,12 @@ module _ {starts nbrs : List ℕ} (a : Arrays starts nbrs) {n : ℕ} (fit : n + 
 
         behind : (i : ℕ) → s ≤ i → getD mid i 0 ≡ getD work i 0
         behind i l =
-            let r = t .room .apart in
+            let r = t .tied .room .apart in
             let w = hand-vertex in
             put-other store i (λ q. omega arith)
 
         tied-mid : Tied (cut starts nbrs) starts n s mid later (t .slot-of)
-        tied-mid = tied-next (tied t) (suc pos) hand-vertex (loop-visited hand) store
+        tied-mid = tied-next (t .tied) (suc pos) hand-vertex (loop-visited hand) store
 
         bit-is : p + suc u ≡ downBit (cut starts nbrs) (suc u) pos
         unfolding downBit

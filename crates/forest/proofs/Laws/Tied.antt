@@ -1,6 +1,4 @@
 -- How the cells of the work slice stand for the next positions and the slots, and what the stores of a step do to it.
---   Tied              the cells stand for two functions
---   tied, searching   the part of `Searching` that speaks of the cells
 --   room-after        room is left by what keeps the length
 --   tied-next         a next position is stored
 --   tied-enter        a vertex is entered
@@ -12,37 +10,10 @@ use native.Mathlib.Decide.{ℕ-discrete}
 use native.Mathlib.Omega.{arith}
 use lib.ListN.{length, getD}
 use Rattle.graph.specs.Graph.{Blocks}
-use Rattle.graph.specs.Search.{all, search}
 use Rattle.graph.specs.Laws.Loop.Arrays.{Enters}
-use Rattle.graph.specs.Laws.Loop.Invariant.{Loop}
-use Rattle.forest.specs.Steps.{Room, downBit, cellsOf, Searching, Entering}
+use Rattle.forest.specs.Steps.{Room, downBit, cellsOf, Tied, Entering}
 use Rattle.forest.proofs.Laws.Stores.{Put, put-length, put-other, put-here}
 use Rattle.forest.proofs.Laws.Stores.{changed, stored-changed, stored-after}
-
-pub record Tied (g : Blocks) (starts : List ℕ) (n s : ℕ) (work : List ℕ) (next-of slot-of : ℕ → ℕ) : Type 0 where
-  pub room : Room n s work
-  pub nexts : (v : ℕ) → v < n → getD work v 0 ≡ getD starts v 0 + next-of v
-  pub fresh : (v : ℕ) → v < n → getD work (2 * s + v) 0 ≡ 0 → next-of v ≡ 0
-  pub downs : (v : ℕ) → v < n → (getD work (2 * s + v) 0 ≡ 0 → ⊥)
-      → getD work (4 * s + v) 0 ≡ downBit g (getD work (s + v) 0) (slot-of v)
-
-module _ {g : Blocks} {roots todo starts : List ℕ} {n s : ℕ} {work : List ℕ} {left cur k : ℕ} where
-  pub tied : (t : Searching g roots todo starts n s work left cur k)
-      → Tied g starts n s work (t .next-of) (t .slot-of)
-  tied t = record { room = t .room; nexts = t .nexts; fresh = t .fresh; downs = t .downs }
-
-  pub searching : {next-of slot-of : ℕ → ℕ} → Tied g starts n s work next-of slot-of
-      → Loop g (search g all roots) left todo cur k (cellsOf s next-of slot-of work)
-      → Searching g roots todo starts n s work left cur k
-  searching {next-of} {slot-of} t l = record {
-    next-of = next-of;
-    slot-of = slot-of;
-    room = t .room;
-    nexts = t .nexts;
-    fresh = t .fresh;
-    downs = t .downs;
-    loop = l;
-  }
 
 pub room-after : {n s : ℕ} {work next : List ℕ} → Room n s work → length next ≡ length work → Room n s next
 room-after r e = record {

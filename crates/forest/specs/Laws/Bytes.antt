@@ -169,7 +169,8 @@ module _ (g : Blocks) (F : Forest) (m : ℕ) (even : length (flatten g) ≡ 2 * 
   string-B = string-of within-B (length g + 2 * m) length-B
 
   -- the fill bits of each section are zeros
-  pub fill-E : (i : ℕ) → length g + 2 * m ≤ i → i < 8 * markBytes (length g) m → getD (bits (indexBy g F)) i false ≡ false
+  pub fill-E : (i : ℕ) → length g + 2 * m ≤ i → i < 8 * markBytes (length g) m
+      → getD (bits (indexBy g F)) i false ≡ false
   unfolding markBytes
   fill-E i h k = filled within-E length-E i (omega arith) (omega arith)
 

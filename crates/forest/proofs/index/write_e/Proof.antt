@@ -35,4 +35,5 @@ pub write-e-spec : {M : Type 1} → statement M
 write-e-spec =
     tie.close
     (tie.spec (λ c. search needs) (λ c. search needs) (λ c. search needs) (λ c. search needs) (λ c. search needs)
-    (λ c. search needs) (λ c. search needs) slice-aggregate-mark-listed mark-listed-requires (λ c. search needs) returns)
+    (λ c. search needs) (λ c. search needs) slice-aggregate-mark-listed mark-listed-requires (λ c. search needs)
+    returns)

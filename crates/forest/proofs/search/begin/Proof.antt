@@ -4,12 +4,13 @@ use mathlib.Core.Path.{_≡_, refl}
 use native.Mathlib.Omega.{arith}
 use borrow.Author.Needs.{needs}
 use lib.ListN.{length}
-use Rattle.forest.proofs.Laws.Starting.{Starting, starting-none, starting-more, starting-all}
+use Rattle.forest.specs.Steps.{Begun}
+use Rattle.forest.proofs.Laws.Starting.{starting-none, starting-more}
 use Rattle.forest.proofs.search.begin.Statement.{statement}
 use Rattle.forest.proofs.search.begin.Tie as tie
 
 abbrev Inv-loop : tie.InvT-loop
-Inv-loop starts n s work₀ v₀ work v = (Starting starts n s work v) × (length work ≡ length work₀)
+Inv-loop starts n s work₀ v₀ work v = (Begun starts n s work v) × (length work ≡ length work₀)
 
 abbrev μ-loop : tie.MeasureT-loop
 μ-loop starts n s work₀ v₀ work v = n - v
@@ -32,7 +33,10 @@ loop-again c =
     (b, search needs)
 
 returns : tie.Need-returns Inv-loop μ-loop
-returns c = starting-all (c .before .loop .inv .0) (omega arith)
+returns c =
+    let l = c .before .loop in
+    let e : l .v ≡ c .before .before .before .before .args .n = omega arith in
+    rw e at (l .inv .0)
 
 pub begin-spec : {M : Type 1} → statement M
 begin-spec =

@@ -71,7 +71,7 @@ get-requires-2 c κs = let v = vertex (c .before .before) in omega arith
 pass-visited-requires : tie.Need-pass-visited-requires
 pass-visited-requires c κs =
     let b = begin (c .before .before .before) .pre in
-    (b .1 .searching .room, known (b .0 .0) (b .0 .1), end-fits (c .before .before))
+    (b .1 .searching .tied .room, known (b .0 .0) (b .0 .1), end-fits (c .before .before))
 
 get-requires-3 : tie.Need-get-requires-3
 get-requires-3 c κs = let f = end-fits (ended (c .before)) in omega arith
@@ -92,7 +92,7 @@ add-enter c =
 enter-requires : tie.Need-enter-requires
 enter-requires c κs =
     let d = c .before .before .before .before .before in
-    let b = begin (ended (stopped d) .before) .pre .1 .searching .room in
+    let b = begin (ended (stopped d) .before) .pre .1 .searching .tied .room in
     let v = vertex (ended (stopped d) .before) in
     let p = place-fits d in (
       room-after b (ap length (c .before .before .before .put .ensures) ∙ simp length-set),

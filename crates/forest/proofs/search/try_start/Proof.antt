@@ -26,7 +26,7 @@ room-left c =
 enter-requires : tie.Need-enter-requires
 enter-requires c κs =
     let b = begin (c .before .before) .pre in
-    (b .1 .searching .room, b .0 .2, room-left (c .before), omega arith, omega arith)
+    (b .1 .searching .tied .room, b .0 .2, room-left (c .before), omega arith, omega arith)
 
 add-t19 : tie.Need-add-t19
 add-t19 c = let r = room-left (c .before .before .before .before) in omega arith
