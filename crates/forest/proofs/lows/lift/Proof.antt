@@ -18,14 +18,15 @@ abbrev lower : tie.After-lesser → tie.Then1
 lower c = c .before .before .before .before .before .before
 
 there : (c : tie.After-get) → 5 * start c .args .s + c .get .result < length (start c .args .work .now)
-there c = lift-room (start c .args .k) (start c .pre) (c .get .ensures .0)
+there c = let p = start c .pre in lift-room (p .0) (p .1) (c .get .ensures .0) (p .2 .lifting)
 
 above : (c : tie.Then1)
     → 5 * start (seen (c .before)) .args .s + (c .before .get2 .result - 1)
     < length (start (seen (c .before)) .args .work .now)
 above c =
     let s = seen (c .before) in
-    lift-up (start s .args .k) (start s .pre) (s .get .ensures .0) (c .before .get2 .ensures .0) (c .if1 .taken)
+    let p = start s .pre in
+    lift-up (p .0) (p .1) (s .get .ensures .0) (p .2 .lifting) (c .before .get2 .ensures .0) (c .if1 .taken)
 
 get-requires-2 : tie.Need-get-requires-2
 get-requires-2 c κs = omega (arith, there (c .before))
@@ -44,7 +45,7 @@ returns c =
     let l = c .before .before .before in
     let t = lower l in
     let v = seen (t .before) in (
-      λ F f. lift-child (start v .pre .0) (start v .pre .1) (v .get .ensures .0) (t .before .get2 .ensures .0) f
+      λ F f. lift-child (start v .pre .0) (start v .pre .1) (v .get .ensures .0) f (t .before .get2 .ensures .0)
           (t .if1 .taken) (l .before .before .before .before .get3 .ensures .0) (l .before .before .get4 .ensures .0)
           (l .lesser .ensures) (c .before .before .put .ensures),
       search needs,
@@ -53,7 +54,7 @@ returns c =
 returns-2 : tie.Need-returns-2
 returns-2 c =
     let v = seen (c .before) in (
-      λ F f. lift-root (start v .pre .0) (start v .pre .1) (v .get .ensures .0) (c .before .get2 .ensures .0) f
+      λ F f. lift-root (start v .pre .0) (start v .pre .1) (v .get .ensures .0) f (c .before .get2 .ensures .0)
           (c .if1 .left),
       search needs,
     )

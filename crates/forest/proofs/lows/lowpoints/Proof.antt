@@ -2,7 +2,7 @@
 use mathlib.Core.Path.{_∙_}
 use native.Mathlib.Omega.{arith}
 use Rattle.record.specs.Arrays.{cut}
-use Rattle.forest.proofs.Laws.Lowest.{vertices}
+use Rattle.forest.proofs.Laws.Graphs.{as-many}
 use Rattle.forest.proofs.Laws.Lifted.{Swept, swept-begin, swept-asks, swept-more, swept-end}
 use Rattle.forest.proofs.lows.lowpoints.Statement.{statement}
 use Rattle.forest.proofs.lows.lowpoints.Tie as tie
@@ -30,7 +30,7 @@ lift-requires : tie.Need-lift-requires Inv-loop μ-loop
 lift-requires c κs =
     let l = c .before .before in
     let s = start l in
-    swept-asks (l .loop .inv) (omega arith) (vertices (s .args .starts .now) (s .args .nbrs .now) (s .pre .0 .2))
+    swept-asks (l .loop .inv) (omega arith) (as-many (s .args .starts .now) (s .args .nbrs .now) (s .pre .0 .2))
     (s .pre .1) (filled l .own-lows .ensures .0)
 
 loop-again : tie.Need-loop-again Inv-loop μ-loop
