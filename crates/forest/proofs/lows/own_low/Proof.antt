@@ -26,18 +26,18 @@ loop-holds c =
 next-low-requires : tie.Need-next-low-requires Inv-loop μ-loop
 next-low-requires c κs =
     let s = start (read (c .before)) in
-    looked-asks (s .pre .0) (s .pre .1) (omega arith) (c .before .loop .inv)
+    looked-asks (s .pre .0) (c .before .loop .inv) (s .pre .1) (omega arith)
 
 loop-again : tie.Need-loop-again Inv-loop μ-loop
 loop-again c =
     let r = read (c .before .before) in
-    looked-more (start r .pre .0) (r .before .before .get2 .ensures .0) (omega arith) (c .next-low .ensures .0)
-    (c .next-low .ensures .1) (c .before .before .loop .inv)
+    looked-more (start r .pre .0) (c .before .before .loop .inv) (r .before .before .get2 .ensures .0) (omega arith)
+    (c .next-low .ensures .0) (c .next-low .ensures .1)
 
 returns : tie.Need-returns Inv-loop μ-loop
 returns c =
     let i = c .before .loop .inv in
-    (looked-end (start (read (c .before)) .pre .0) (omega arith) i, (i .low-fits, i .back-fits))
+    (looked-end (start (read (c .before)) .pre .0) i (omega arith), (i .low-fits, i .back-fits))
 
 pub own-low-spec : {M : Type 1} → statement M
 own-low-spec =
