@@ -3,8 +3,8 @@ use Prim.Native.Nat.{_-_}
 use mathlib.Core.Path.{sym, _∙_}
 use native.Mathlib.Omega.{arith}
 use borrow.Author.Needs.{needs}
-use Rattle.forest.proofs.Laws.Numbers.{Pairs, pairs-begin, pairs-size, pairs-upto, pairs-room}
-use Rattle.forest.proofs.Laws.Numbers.{pairs-rest, pairs-more, pairs-last, pairs-end}
+use Rattle.forest.proofs.Laws.Numbers.{Pairs, pairs-begin, pairs-room, pairs-rest, pairs-more, pairs-last}
+use Rattle.forest.proofs.Laws.Numbers.{pairs-end}
 use Rattle.forest.proofs.numbers.write_numbers.Statement.{statement}
 use Rattle.forest.proofs.numbers.write_numbers.Tie as tie
 
@@ -32,7 +32,7 @@ loop-holds c =
     (λ j. c .slice-known2 .given j .fits)
 
 add-loop : tie.Need-add-loop Inv-loop μ-loop
-add-loop c = omega (arith, pairs-upto (c .loop .inv), start c .pre .0 .few)
+add-loop c = omega (arith, start c .pre .0 .few)
 
 visit-requires : tie.Need-visit-requires Inv-loop μ-loop
 visit-requires c κs = (start (c .before .before) .pre .0, omega arith)
@@ -69,7 +69,7 @@ same-length : tie.Need-same-length Inv-loop μ-loop
 same-length c =
     let w = c .before .before in
     let l = last (w .before) in
-    w .write-last .ensures .1 ∙ pairs-size (l .loop .inv) ∙ sym (start l .pre .1)
+    w .write-last .ensures .1 ∙ l .loop .inv .size ∙ sym (start l .pre .1)
 
 returns : tie.Need-returns Inv-loop μ-loop
 returns c =
@@ -78,7 +78,7 @@ returns c =
     (omega arith) (omega arith) (w .before .visit3 .ensures .0) (w .write-last .ensures .0)
 
 same-length-2 : tie.Need-same-length-2 Inv-loop μ-loop
-same-length-2 c = let l = c .before .before in pairs-size (l .loop .inv) ∙ sym (start l .pre .1)
+same-length-2 c = let l = c .before .before in l .loop .inv .size ∙ sym (start l .pre .1)
 
 returns-2 : tie.Need-returns-2 Inv-loop μ-loop
 returns-2 c = pairs-end (c .before .before .loop .inv) (omega arith)
