@@ -95,7 +95,7 @@ fn try_next(
 ) -> Hand
     ghost { Blocks }
     requires { λ g. ⌜ cut (now starts) (now nbrs) ≡ g ⌝ }
-    requires { λ g. ⌜ (Arrays (now starts) (now nbrs)) × (n + 1 ≡ length (now starts)) × (0 < cur) ⌝ }
+    requires { λ g. ⌜ (Arrays (now starts) (now nbrs)) × (n + 1 ≡ length (now starts)) × (0 < cur) × (cur ≤ n) ⌝ }
     requires { λ g. ⌜ Underway g (now starts) n s (now work) left cur k ⌝ }
     ensures { λ g r. ⌜
         NextTried g (now (starts .entry)) n s (now (work .entry)) (now (work .exit)) left cur k (r .cur) (r .k)

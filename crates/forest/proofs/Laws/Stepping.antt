@@ -2,7 +2,7 @@
 --   new-room                     there is room for a vertex that is not visited
 --   start-passed, start-entered  the start is visited, or it is not
 --   hand-vertex                  the vertex at hand is a vertex
---   next-place, next-new         the place where the passing stopped, and the vertex there
+--   next-fits                    where the passing stopped there is a vertex, and room for it
 --   next-left, next-entered      it stopped at the end of the block, or before it
 use mathlib.Core.Path.{_≡_, refl, sym, ap, _∙_}
 use mathlib.Core.List.{List, _∷_}
@@ -96,14 +96,21 @@ module _ {starts nbrs : List ℕ} (a : Arrays starts nbrs) {n : ℕ} (fit : n + 
         omega arith
 
     module _ {v : ℕ} (h : p < end) (is-v : v ≡ getD nbrs p 0) where
-      pub next-place : Place (cut starts nbrs) u pos v
+      next-place : Place (cut starts nbrs) u pos v
       next-place =
           let b = place-is in
           let e = end-next in
           row-place a fit hand-vertex (omega arith) (omega arith) is-v
 
-      pub next-new : getD work (2 * s + v) 0 ≡ 0
+      next-new : getD work (2 * s + v) 0 ≡ 0
       next-new = ap (λ x. getD work (2 * s + x) 0) is-v ∙ d .stops h
+
+      -- it is a vertex, and there is room for it
+      pub next-fits : (v < n) × (k < n)
+      next-fits =
+          let size = as-many starts nbrs fit in
+          let inside = in-range a u pos v next-place in
+          (omega arith, new-room t size (omega arith) next-new)
 
       module _ {mid next : List ℕ} (m : mid ≡ set work u (p + 1)) (e : Entering n s mid next v k cur (p + cur)) where
         abbrev later : ℕ → ℕ
@@ -132,7 +139,7 @@ module _ {starts nbrs : List ℕ} (a : Arrays starts nbrs) {n : ℕ} (fit : n + 
         pub next-entered : Searching (cut starts nbrs) roots todo starts n s next (left - 1) (v + 1) (k + 1)
         next-entered =
             let size = as-many starts nbrs fit in
-            let inside = in-range a u pos v next-place in
+            let inside = next-fits .0 in
             let x : Entering n s mid next v k (suc u) (p + suc u) = rw is-cur at e in
             let z = tied-mid .fresh v (omega arith) (behind (2 * s + v) (omega arith) ∙ next-new) in
             let c = enters {n = n} pos work (t .next-of) later (t .slot-of) behind x z in
