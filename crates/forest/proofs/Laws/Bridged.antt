@@ -69,10 +69,9 @@ module _ {g : Blocks} (wf : WellFormed g) {F : Forest} (span : Spanning g F) {c 
   -- where c owns no mark of E, it owns none of P, and the other way round
   no-parent : ((x i : ℕ) → i < length (block g x) → OwnChild g F c x i → ⊥)
       → (x i : ℕ) → i < length (block g x) → OwnParent g F c x i → ⊥
-  no-parent n x i l o = go (back-at (both-ends wf) (span .built) l o)
-    where
-      go : Back g g F c i → ⊥
-      go (back u j m e) = n u j (tree-place span m .fits) (child-own span m)
+  no-parent n x i l o = elim (back-at (both-ends wf) (span .built) l o) [
+    | back u j m e ↦ n u j (tree-place span m .fits) (child-own span m)
+  ]
 
   has-parent : {u j : ℕ} → List·Memᴰ (via u j c) F
       → ((x i : ℕ) → i < length (block g x) → OwnParent g F c x i → ⊥) → ⊥
@@ -99,32 +98,26 @@ module _ {g : Blocks} (wf : WellFormed g) {F : Forest} (span : Spanning g F) {c 
   -- ---- the lowpoint tells
 
   module _ {t : ℕ → ℕ} (lo : Lows g F 0 t) where
-    at-child : {x i : ℕ} → i < length (block g x) → OwnChild g F c x i → eqb (t c) (number F c) ≡ bridge g x i
-    at-child {x} {i} l o =
-        subst (λ (v : ℕ). eqb (t v) (number F v) ≡ bridge g x i) (o .owned)
-        (bridge-at-child wf span lo (place-at l) (o .is-marked))
-
-    at-parent : {x i : ℕ} → i < length (block g x) → OwnParent g F c x i → eqb (t c) (number F c) ≡ bridge g x i
-    at-parent {x} {i} l o =
+    tells : {x i : ℕ} → i < length (block g x) → OwnChild g F c x i ⊎ OwnParent g F c x i
+        → eqb (t c) (number F c) ≡ bridge g x i
+    tells l (inl o) = rw (o .owned) at (bridge-at-child wf span lo (place-at l) (o .is-marked))
+    tells {x} {i} l (inr o) =
         subst (λ (v : ℕ). eqb (t v) (number F v) ≡ bridge g x i) (o .owned)
         (bridge-at-parent wf span lo (place-at l) (o .is-marked))
 
     no-bridge : (t c ≡ number F c → ⊥) → (x i : ℕ) → i < length (block g x) → OwnBridge g F c x i → ⊥
-    no-bridge d x i l o = tells (elim (bridge-own x i l o) [ inl a ↦ at-child l a | inr b ↦ at-parent l b ])
-      where
-        tells : eqb (t c) (number F c) ≡ bridge g x i → ⊥
-        tells e = d (eqb-true (t c) (number F c) (e ∙ o .is-marked))
+    no-bridge d x i l o = d (eqb-true (t c) (number F c) (tells l (bridge-own x i l o) ∙ o .is-marked))
 
     module _ (same : t c ≡ number F c) where
       own-down : {x i : ℕ} → i < length (block g x) → OwnChild g F c x i → OwnBridge g F c x i
       own-down {x} {i} l o = record {
-        is-marked = sym (at-child l o) ∙ eq-eqb (t c) (number F c) same;
+        is-marked = sym (tells l (inl o)) ∙ eq-eqb (t c) (number F c) same;
         owned = child-end g F x i (o .is-marked) ∙ o .owned;
       }
 
       own-up : {x i : ℕ} → i < length (block g x) → OwnParent g F c x i → OwnBridge g F c x i
       own-up {x} {i} l o = record {
-        is-marked = sym (at-parent l o) ∙ eq-eqb (t c) (number F c) same;
+        is-marked = sym (tells l (inr o)) ∙ eq-eqb (t c) (number F c) same;
         owned = own-end g F x i (fails (childMark F x i) (not-down l o)) ∙ o .owned;
       }
 

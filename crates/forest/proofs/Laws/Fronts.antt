@@ -96,8 +96,8 @@ module _ {g : Blocks} {F : Forest} {n m s k : ℕ} {work : List ℕ} (r : Ready 
       → putMid (3 * k) w index section ≡ indexBy g F
   unfolding indexBy sectionE sectionP sectionB
   index-written b w h e =
-      let n = e ∙ ap (λ (x : List ℕ). pack (fieldBits x)) (listed-numbers (r .sized .vertices) (r .lifting .searched)) in
-      last b (3 * k) w length-upToB n h ∙ simp append-assoc
+      let are = listed-numbers (r .sized .vertices) (r .lifting .searched) in
+      last b (3 * k) w length-upToB (e ∙ ap (λ (x : List ℕ). pack (fieldBits x)) are) h ∙ simp append-assoc
 
 -- ---- before the first section
 

@@ -53,8 +53,8 @@ pub data Owns (g : Blocks) (mark : PlaceTest) (owner : ℕ → ℕ → ℕ) (c b
 
 pub owns-below : {g : Blocks} {mark : PlaceTest} {owner : ℕ → ℕ → ℕ} {n m k c bit : ℕ} → Sized g n m k → 0 < n
     → Owns g mark owner c bit → bit < 8 * k
-owns-below z h (nothing e x) = let r = sized-bits z in let v = z .vertices in omega arith
-owns-below {g} z h (one u j f e o x) = let r = sized-bits z in let b = bit-fits g u j f in omega arith
+owns-below z h (nothing e x) = let v = z .vertices in omega (arith, sized-bits z)
+owns-below {g} z h (one u j f e o x) = omega (arith, sized-bits z, bit-fits g u j f)
 
 -- the first bit stays clear while they are set
 owns-more : {g : Blocks} {mark : PlaceTest} {owner : ℕ → ℕ → ℕ} {c bit : ℕ} (s : List Bool) → Owns g mark owner c bit
@@ -84,11 +84,8 @@ module _ {g : Blocks} {mark : PlaceTest} {owner : ℕ → ℕ → ℕ} {list : L
   listed-to {k = k} e zero h = clear-zeros (8 * k) ∙ no-marks e ∙ ap bits (upto-none g mark owner)
   listed-to {k = k} e (suc c) h =
       let z : List Bool = replicate (8 * k) false in
-      let n : suc c ≡ c + 1 = omega arith in
-      ap (λ (x : ℕ). set (markAll (take x list) z) 0 false) n
-      ∙ ap (λ (x : List Bool). set x 0 false) (mark-more list c z (omega arith))
-      ∙ owns-more (markAll (take c list) z) (l .each c (omega arith)) (listed-to e c (omega arith))
-      ∙ ap (λ (x : ℕ). bits (marked g (upTo mark owner x))) (sym n)
+      rw (← add-one c) (ap (λ (x : List Bool). set x 0 false) (mark-more list c z (omega arith))
+      ∙ owns-more (markAll (take c list) z) (l .each c (omega arith)) (listed-to e c (omega arith)))
 
   pub listed : {n m k : ℕ} {bytes : List ℕ} → Sized g n m k → AreBytes bytes
       → bits bytes ≡ set (markAll list (replicate (8 * k) false)) 0 false → bytes ≡ marked g mark
@@ -112,9 +109,11 @@ pub marking-begin : (list : List ℕ) (k : ℕ) {section : List ℕ} → section
 unfolding markAll
 marking-begin list k {section} e =
     let l : k ≡ length section = sym (ap length e ∙ length-replicate {A = ℕ} k 0) in
-    let b : bits section ≡ replicate (8 * length section) false =
-    ap bits e ∙ zero-bits k ∙ ap (λ (x : ℕ). replicate (8 * x) false) l in
-    record { upto = omega arith; same-size = refl; are-bits = b }
+    record {
+      upto = omega arith;
+      same-size = refl;
+      are-bits = ap bits e ∙ zero-bits k ∙ ap (λ (x : ℕ). replicate (8 * x) false) l;
+    }
 
 module _ {list section₀ section : List ℕ} {c : ℕ} (t : Marking list section₀ section c) where
   pub marking-more : {x : ℕ} {next : List ℕ} → c < length list → x ≡ getD list c 0
@@ -128,7 +127,7 @@ module _ {list section₀ section : List ℕ} {c : ℕ} (t : Marking list sectio
 
   module _ {k : ℕ} (e : length section₀ ≡ k) where
     pub marking-room : {x : ℕ} → Below (8 * k) list → c < length list → x ≡ getD list c 0 → x < 8 * length section
-    marking-room b h q = let l = t .same-size in let i = b c h in omega arith
+    marking-room b h q = let l = t .same-size in omega (arith, b c h)
 
     pub marking-end : (next : List ℕ) → length list ≤ c
         → (bits next ≡ set (bits section) 0 false) × (length next ≡ length section)

@@ -36,9 +36,7 @@ use Rattle.forest.specs.Laws.Marking.{none, section-none, also, section-
 pub bit-fits : (g : Blocks) (u j : ℕ) → j < length (block g u) → placeBit g u j < length g + length (flatten g)
 bit-fits g u j h =
     let i = source (place-at {g = g} {u = u} h) in
-    let a = start-more g u i in
-    let b = start-most g (suc u) in
-    omega arith
+    omega (arith, start-more g u i, start-most g (suc u))
 
 -- the zero bits after k others in the last byte
 abbrev fill : ℕ → List Bool
@@ -70,10 +68,9 @@ no-marks {g} {k = k} z =
 pub bits-also : (g : Blocks) (test : PlaceTest) (u j : ℕ) → j < length (block g u)
     → set (bits (marked g test)) (placeBit g u j) true ≡ bits (marked g (also test u j))
 bits-also g test u j h =
-    let l : length (section test g) ≡ length (section (also test u j) g) =
-    length-section test g ∙ sym (length-section (also test u j) g) in
-    let f : placeBit g u j < length (section test g) =
-    let b = bit-fits g u j h in let e = length-section test g in omega arith in
+    let e = length-section test g in
+    let l = e ∙ sym (length-section (also test u j) g) in
+    let f : placeBit g u j < length (section test g) = omega (arith, bit-fits g u j h) in
     ap (λ (x : List Bool). set x (placeBit g u j) true) (bits-pack (section test g))
     ∙ set-append-left (section test g) (fill (length (section test g))) (placeBit g u j) true f
     ∙ ap₂ (λ (x : List Bool) (y : ℕ). x ++ fill y) (section-also test g u j (source (place-at {g = g} {u = u} h)) h) l

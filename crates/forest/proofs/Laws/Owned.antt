@@ -84,9 +84,10 @@ pub children : {g : Blocks} {F : Forest} {n s : ℕ} {work : List ℕ} → lengt
 children {g} {n = n} {s = s} {work = work} many a =
     let span = a .spans in
     let r = a .room in
-    let l = part-size (4 * s) (4 * s + n) work refl (omega arith) in
+    let fits : 4 * s + n ≤ length work = omega arith in
+    let l = part-size (4 * s) (4 * s + n) work refl fits in
     record {
-      each = λ c h. rw (part-cell (4 * s) (4 * s + n) work refl (omega arith) c (omega arith) ∙ a .downs c (omega arith))
+      each = λ c h. rw (part-cell (4 * s) (4 * s + n) work refl fits c (omega arith) ∙ a .downs c (omega arith))
           (children-own span (omega arith));
       all = λ x i h k. (
           let w = span .within (target g x i) (span .closed x i (target g x i) (place-at k)) in

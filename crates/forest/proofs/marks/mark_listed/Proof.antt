@@ -60,7 +60,8 @@ returns : tie.Need-returns Inv-loop μ-loop
 returns c =
     let f = c .before .before in
     let l = f .before .before .before in
-    let e = marking-end (l .loop .inv) (cleared (begun l)) (f .clear-first .last .0) (omega arith) (f .clear-first .ensures) in
+    let d = f .clear-first in
+    let e = marking-end (l .loop .inv) (cleared (begun l)) (d .last .0) (omega arith) (d .ensures) in
     (e .0, (e .1, λ j. c .slice-known4 .given j .fits))
 
 pub mark-listed-spec : {M : Type 1} → statement M
