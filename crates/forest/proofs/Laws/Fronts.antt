@@ -4,7 +4,7 @@
 --   length-upToE, length-upToP, length-upToB   how long the fronts are
 --   numbers-asked                what `write_numbers` asks for
 --   ready, begins-nothing        before the first section
---   room-for, index-all          the search of all vertices
+--   index-all                    the search of all vertices
 use mathlib.Core.Path.{_≡_, refl, sym, ap, ap₂, _∙_}
 use mathlib.Core.Bool.{false}
 use mathlib.Core.List.{List, [], _++_, map, append-assoc, append-nil}
@@ -20,11 +20,10 @@ use Rattle.graph.specs.Search.{Forest, PlaceTest}
 use Rattle.graph.specs.Joined.{bridge}
 use Rattle.graph.specs.Forest.{childMark, parentMark}
 use Rattle.record.specs.Record.{fieldBits}
-use Rattle.record.specs.Arrays.{cut, Divided, Arrays}
+use Rattle.record.specs.Arrays.{cut, Divided}
 use Rattle.forest.specs.Index.{sectionE, sectionP, sectionB, indexBy, indexOf, markBytes, numberBytes}
 use Rattle.forest.specs.Index.{indexLength}
 use Rattle.forest.specs.Fronts.{forestOf, Ready, Begins, upToE, upToP, upToB}
-use Rattle.forest.specs.Steps.{stride, Room}
 use Rattle.forest.specs.Lows.{Lifting}
 use Rattle.forest.specs.Laws.Starts.{places-cut}
 use Rattle.forest.specs.Marks.{markAll, Below, marked}
@@ -116,17 +115,8 @@ unfolding indexLength
 begins-nothing n m {index = index} e f =
     record { size = e ∙ sym (ap (λ (x : ℕ). 3 * x + numberBytes n) f); rest = index; is = refl }
 
--- ---- the whole of it
-
-module _ (n : ℕ) {starts nbrs : List ℕ} (a : Arrays starts nbrs) (e : n + 1 ≡ length starts) where
-  -- the work slice has room for the parts
-  pub room-for : {work : List ℕ} {s : ℕ} → 0 < n → 8 * n ≤ length work → s ≡ stride n → Room n s work
-  room-for o z q =
-      let f = a .divided .few-blocks in
-      record { some = o; few = omega arith; apart = omega arith; near = omega arith; size = omega arith }
-
-  -- the starts are all vertices
-  pub index-all : {index : List ℕ} → index ≡ indexBy (cut starts nbrs) (forestOf (cut starts nbrs) n)
-      → index ≡ indexOf (cut starts nbrs)
-  index-all q =
-      q ∙ ap (λ (x : ℕ). indexBy (cut starts nbrs) (forestOf (cut starts nbrs) x)) (sym (as-many starts nbrs e))
+-- the starts are all vertices
+pub index-all : (n : ℕ) (starts nbrs : List ℕ) {index : List ℕ} → n + 1 ≡ length starts
+    → index ≡ indexBy (cut starts nbrs) (forestOf (cut starts nbrs) n) → index ≡ indexOf (cut starts nbrs)
+index-all n starts nbrs e q =
+    q ∙ ap (λ (x : ℕ). indexBy (cut starts nbrs) (forestOf (cut starts nbrs) x)) (sym (as-many starts nbrs e))

@@ -4,7 +4,7 @@
 --   lift-room, lift-up      the cells of that vertex and of its parent are there
 --   lift-root, lift-child   the vertex of visit number k, where it has no parent and where it has one
 --   Swept         the vertices of visit number k and more are lifted
---   swept-begin, swept-asks, swept-more, swept-end   before the last, before and after the next, and past the first
+--   swept-asks, swept-more, swept-end   before and after the next, and past the first
 use mathlib.Core.Path.{_≡_, refl, sym, ap, _∙_}
 use mathlib.Core.List.{List}
 use Prim.Native.Nat.{ℕ, zero, suc, _+_, _-_, _*_, _≤_, _<_, min}
@@ -219,9 +219,6 @@ pub record Swept (g : Blocks) (n s : ℕ) (work₀ work : List ℕ) (k : ℕ) : 
   pub upto : k ≤ n
   pub same-size : length work ≡ length work₀
   pub each : (F : Forest) → Lifting g F n s work₀ n → Lifting g F n s work k
-
-pub swept-begin : (g : Blocks) (n s : ℕ) (work : List ℕ) → Swept g n s work work n
-swept-begin g n s work = record { upto = omega arith; same-size = refl; each = λ F f. f }
 
 module _ {g : Blocks} {n s k : ℕ} {work₀ work : List ℕ} (t : Swept g n s work₀ work k) where
   -- the same, where k is one more than the visit number that comes next

@@ -1,6 +1,5 @@
 -- Visited neighbours are passed over, from one place up to another: no end is asked for until the passing stops.
---   passed-none, passed-more   none is passed, and one more
---   passed-stop, passed-end    at an unvisited neighbour, and at the end
+--   passed-more, passed-stop   one more is passed, or the passing stops at an unvisited neighbour
 use mathlib.Core.Path.{_≡_, sym, ap, _∙_}
 use mathlib.Core.List.{List}
 use Prim.Native.Nat.{ℕ, _+_, _*_, _≤_, _<_}
@@ -8,13 +7,6 @@ use native.Mathlib.Decide.{ℕ-discrete}
 use native.Mathlib.Omega.{arith}
 use lib.ListN.{getD}
 use Rattle.forest.specs.Steps.{PassedTo}
-
-pub passed-none : (nbrs : List ℕ) (s : ℕ) (work : List ℕ) (from : ℕ) → PassedTo nbrs s work from from from
-passed-none nbrs s work from = record {
-  low = omega arith;
-  visited = λ q l h z. omega arith;
-  stops = λ h. absurd (omega arith);
-}
 
 module _ {nbrs : List ℕ} {s : ℕ} {work : List ℕ} {from p : ℕ} (t : PassedTo nbrs s work from p p) where
   pub passed-more : (getD work (2 * s + getD nbrs p 0) 0 ≡ 0 → ⊥) → PassedTo nbrs s work from (p + 1) (p + 1)
@@ -30,6 +22,3 @@ module _ {nbrs : List ℕ} {s : ℕ} {work : List ℕ} {from p : ℕ} (t : Passe
 
   pub passed-stop : (end : ℕ) → getD work (2 * s + getD nbrs p 0) 0 ≡ 0 → PassedTo nbrs s work from end p
   passed-stop end z = record { low = t .low; visited = t .visited; stops = λ h. z }
-
-  pub passed-end : (end : ℕ) → end ≤ p → PassedTo nbrs s work from end p
-  passed-end end l = record { low = t .low; visited = t .visited; stops = λ h. absurd (omega arith) }

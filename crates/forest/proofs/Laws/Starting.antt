@@ -1,5 +1,4 @@
 -- The loop before the search: vertex by vertex, each becomes unvisited and stands at its start.
---   starting-none, starting-more   none of them, and one more
 use mathlib.Core.Path.{_≡_, ap, _∙_}
 use mathlib.Core.List.{List}
 use Prim.Native.Nat.{ℕ, _+_, _*_, _<_}
@@ -9,14 +8,6 @@ use lib.ListN.{getD, set}
 use Rattle.forest.specs.Steps.{Room, Begun}
 use Rattle.forest.proofs.Laws.Stores.{Put, put-length, put-other, put-here}
 use Rattle.forest.proofs.Laws.Tied.{room-after}
-
-pub starting-none : (starts : List ℕ) {n s : ℕ} {work : List ℕ} → Room n s work → Begun starts n s work 0
-starting-none starts r = record {
-  upto = omega arith;
-  room = r;
-  unvisited = λ x h. absurd (omega arith);
-  at-start = λ x h. absurd (omega arith);
-}
 
 module _ {starts : List ℕ} {n s : ℕ} {work : List ℕ} {v : ℕ} (t : Begun starts n s work v) where
   pub starting-more : {mid next : List ℕ} {a : ℕ} → v < n → mid ≡ set work (2 * s + v) 0 → a ≡ getD starts v 0

@@ -21,11 +21,8 @@ returns c =
     (sym (ap shape (c .before .r .given .1)) ∙ laid .laid-out .ensures) in
     (d .told, d .left)
 
-returns-2 : tie.Need-returns-2
-returns-2 c = let d = c .before .before .before .before .in-room .ensures in (d .told, d .left)
-
 pub build-spec : {M : Type 1} → statement M
 build-spec =
     tie.close
     (tie.spec (λ c κs. search needs) (λ c. search needs) (λ c. search needs) in-room-requires returns
-    (λ c. search needs) (λ c. search needs) returns-2)
+    (λ c. search needs) (λ c. search needs) (λ c. search needs))

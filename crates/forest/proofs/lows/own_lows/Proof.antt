@@ -1,8 +1,7 @@
 -- `lows::own_lows` meets its contract: the vertices before c have their numbers.
+use borrow.Author.Needs.{needs}
 use Prim.Native.Nat.{_-_}
-use mathlib.Core.Path.{ap}
 use native.Mathlib.Omega.{arith}
-use lib.ListN.{length, length-set}
 use Rattle.record.specs.Arrays.{cut}
 use Rattle.forest.proofs.Laws.Graphs.{as-many}
 use Rattle.forest.proofs.Laws.Lifted.{Filled, filled-begin, filled-more, filled-end}
@@ -29,30 +28,12 @@ first c = c .before .before .before
 loop-holds : tie.Need-loop-holds Inv-loop μ-loop
 loop-holds c = filled-begin _ (c .before .before .before .pre .1)
 
-own-low-requires : tie.Need-own-low-requires Inv-loop μ-loop
-own-low-requires c κs =
-    let l = c .before .before in
-    let p = start l .pre in
-    ((p .0 .0, p .0 .1, p .0 .2, omega arith), l .loop .inv .room)
-
-put-requires : tie.Need-put-requires Inv-loop μ-loop
-put-requires c κs = let r = at c .loop .inv .room in (omega arith, c .before .own-low .ensures .1 .0)
-
-put-requires-2 : tie.Need-put-requires-2 Inv-loop μ-loop
-put-requires-2 c κs =
-    let r = at (first c .before) .loop .inv .room in
-    let e = simp length-set at (ap length (first c .put .ensures)) in
-    (omega arith, first c .before .before .own-low .ensures .1 .1)
-
 loop-again : tie.Need-loop-again Inv-loop μ-loop
 loop-again c =
     let f = first (c .before .before .before) in
     let l = at (f .before) in
     filled-more (l .loop .inv) (omega arith) (f .before .before .own-low .ensures .0)
     (f .put .ensures) (c .before .before .put2 .ensures)
-
-same-length : tie.Need-same-length Inv-loop μ-loop
-same-length c = c .before .loop .inv .same-size
 
 returns : tie.Need-returns Inv-loop μ-loop
 returns c =
@@ -63,5 +44,6 @@ returns c =
 pub own-lows-spec : {M : Type 1} → statement M
 own-lows-spec =
     tie.close
-    (tie.spec Inv-loop μ-loop loop-holds own-low-requires (λ c. omega arith) (λ c. omega arith) put-requires
-    put-requires-2 (λ c. omega arith) (λ c. omega arith) loop-again same-length returns)
+    (tie.spec Inv-loop μ-loop loop-holds (λ c κs. search needs) (λ c. omega arith) (λ c. omega arith)
+    (λ c κs. search needs) (λ c κs. search needs) (λ c. omega arith) (λ c. omega arith) loop-again (λ c. search needs)
+    returns)

@@ -45,9 +45,6 @@ loop-again c =
     bridging-more (start s .pre .1) (l .loop .inv) (start s .pre .0 .vertices) (omega arith)
     (λ j. c .slice-known3 .given j .fits) (b .mark-bridge .ensures .1) (b .mark-bridge .ensures .0)
 
-same-length : tie.Need-same-length Inv-loop μ-loop
-same-length c = c .before .loop .inv .same-size ∙ cleared (begun (c .before))
-
 returns : tie.Need-returns Inv-loop μ-loop
 returns c =
     let s = begun (c .before) in
@@ -57,4 +54,4 @@ pub mark-bridges-spec : {M : Type 1} → statement M
 mark-bridges-spec =
     tie.close
     (tie.spec Inv-loop μ-loop (λ c κs. search needs) loop-holds mark-bridge-requires (λ c. omega arith)
-    (λ c. omega arith) loop-again same-length returns)
+    (λ c. omega arith) loop-again (λ c. search needs) returns)

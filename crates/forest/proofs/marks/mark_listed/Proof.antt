@@ -44,18 +44,6 @@ loop-again c =
     let g = c .before .before .before in
     marking-more (at g .loop .inv) (omega arith) (g .get .ensures .0) (c .before .before .set-bit .ensures)
 
-clear-first-requires : tie.Need-clear-first-requires Inv-loop μ-loop
-clear-first-requires c κs =
-    let l = c .before .before in
-    let e = l .loop .inv .same-size in
-    omega (arith, cleared (begun l), start (begun l) .pre .0)
-
-same-length : tie.Need-same-length Inv-loop μ-loop
-same-length c =
-    let f = c .before .before in
-    let l = f .before .before .before in
-    f .clear-first .ensures .1 ∙ l .loop .inv .same-size ∙ cleared (begun l)
-
 returns : tie.Need-returns Inv-loop μ-loop
 returns c =
     let f = c .before .before in
@@ -68,4 +56,4 @@ pub mark-listed-spec : {M : Type 1} → statement M
 mark-listed-spec =
     tie.close
     (tie.spec Inv-loop μ-loop (λ c κs. search needs) loop-holds (λ c κs. omega arith) set-bit-requires
-    (λ c. omega arith) (λ c. omega arith) loop-again clear-first-requires same-length returns)
+    (λ c. omega arith) (λ c. omega arith) loop-again (λ c κs. search needs) (λ c. search needs) returns)

@@ -1,11 +1,11 @@
 -- `search::begin` meets its contract.
 use Prim.Native.Nat.{_-_}
-use mathlib.Core.Path.{_≡_, refl}
+use mathlib.Core.Path.{_≡_}
 use native.Mathlib.Omega.{arith}
 use borrow.Author.Needs.{needs}
 use lib.ListN.{length}
 use Rattle.forest.specs.Steps.{Begun}
-use Rattle.forest.proofs.Laws.Starting.{starting-none, starting-more}
+use Rattle.forest.proofs.Laws.Starting.{starting-more}
 use Rattle.forest.proofs.search.begin.Statement.{statement}
 use Rattle.forest.proofs.search.begin.Tie as tie
 
@@ -21,9 +21,6 @@ first c = c .before .before .before .before .before .before .before
 
 abbrev passing : tie.After-put Inv-loop μ-loop → tie.In-loop Inv-loop μ-loop
 passing c = c .before .before
-
-loop-holds : tie.Need-loop-holds Inv-loop μ-loop
-loop-holds c = (starting-none (c .before .before .args .starts .now) (c .before .before .pre .0), refl)
 
 loop-again : tie.Need-loop-again Inv-loop μ-loop
 loop-again c =
@@ -41,6 +38,6 @@ returns c =
 pub begin-spec : {M : Type 1} → statement M
 begin-spec =
     tie.close
-    (tie.spec Inv-loop μ-loop loop-holds (λ c. search needs) (λ c. search needs) (λ c κs. search needs)
+    (tie.spec Inv-loop μ-loop (λ c. search needs) (λ c. search needs) (λ c. search needs) (λ c κs. search needs)
     (λ c κs. search needs) (λ c κs. search needs) (λ c. search needs) (λ c. search needs) loop-again (λ c. search needs)
     returns)

@@ -5,7 +5,7 @@ use native.Mathlib.Omega.{arith}
 use borrow.Author.Needs.{needs}
 use lib.ListN.{getD}
 use Rattle.forest.specs.Steps.{PassedTo}
-use Rattle.forest.proofs.Laws.Passing.{passed-none, passed-more, passed-stop, passed-end}
+use Rattle.forest.proofs.Laws.Passing.{passed-more, passed-stop}
 use Rattle.forest.proofs.search.pass_visited.Statement.{statement}
 use Rattle.forest.proofs.search.pass_visited.Tie as tie
 
@@ -30,9 +30,6 @@ tested : (c : tie.After-get2 Inv-loop μ-loop)
     → c .get2 .result ≡ visit (passing c) (getD (begin (passing c) .args .nbrs .now) (passing c .loop .p) 0)
 tested c = c .get2 .ensures .0 ∙ ap (visit (passing c)) (c .before .get .ensures .0)
 
-loop-holds : tie.Need-loop-holds Inv-loop μ-loop
-loop-holds c = let a = c .before .before .args in passed-none (a .nbrs .now) (a .s) (a .work .now) (a .from)
-
 get-requires-2 : tie.Need-get-requires-2 Inv-loop μ-loop
 get-requires-2 c κs =
     let l = c .before .before in
@@ -48,11 +45,8 @@ returns c =
 loop-again : tie.Need-loop-again Inv-loop μ-loop
 loop-again c = passed-more (passing (c .before) .loop .inv) (λ z. c .if1 .left (tested (c .before) ∙ z))
 
-returns-2 : tie.Need-returns-2 Inv-loop μ-loop
-returns-2 c = passed-end (c .before .loop .inv) (begin (c .before) .args .end) (omega arith)
-
 pub pass-visited-spec : {M : Type 1} → statement M
 pass-visited-spec =
     tie.close
-    (tie.spec Inv-loop μ-loop loop-holds (λ c. search needs) (λ c κs. search needs) (λ c. search needs) get-requires-2
-    returns (λ c. search needs) (λ c. search needs) loop-again returns-2)
+    (tie.spec Inv-loop μ-loop (λ c. search needs) (λ c. search needs) (λ c κs. search needs) (λ c. search needs)
+    get-requires-2 returns (λ c. search needs) (λ c. search needs) loop-again (λ c. search needs))

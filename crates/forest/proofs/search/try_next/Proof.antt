@@ -55,12 +55,6 @@ pass-visited-requires c κs =
 get-requires-3 : tie.Need-get-requires-3
 get-requires-3 c κs = let f = end-fits (ended (c .before)) in omega arith
 
-put-requires : tie.Need-put-requires
-put-requires c κs = let p = place-fits (c .before) in (omega arith, omega arith)
-
-add-enter : tie.Need-add-enter
-add-enter c = let p = place-fits (c .before .before .before .before .before) in omega arith
-
 enter-requires : tie.Need-enter-requires
 enter-requires c κs =
     let d = c .before .before .before .before .before in
@@ -97,5 +91,5 @@ pub try-next-spec : {M : Type 1} → statement M
 try-next-spec =
     tie.close
     (tie.spec (λ c. search needs) (λ c κs. search needs) (λ c κs. search needs) pass-visited-requires get-requires-3
-    (λ c. search needs) put-requires add-enter enter-requires (λ c. search needs) add-t25 (λ c. search needs) returns
-    (λ c. search needs) (λ c κs. search needs) (λ c. search needs) returns-2)
+    (λ c. search needs) (λ c κs. search needs) (λ c. search needs) enter-requires (λ c. search needs) add-t25
+    (λ c. search needs) returns (λ c. search needs) (λ c κs. search needs) (λ c. search needs) returns-2)
