@@ -2,7 +2,7 @@
 --   step-back, step-counts   what a place does, as the code finds it
 --   low-step       one place more is looked at
 --   LowTo          the places of c before place p are looked at, for every forest that the work slice shows
---   looked-begin, looked-asks, looked-more, looked-end   at the first place, before and after one, and past the last
+--   looked-begin, looked-more, looked-end   at the first place, after one more, and past the last
 use mathlib.Core.Path.{_≡_, refl, sym, ap, _∙_}
 use mathlib.Core.List.{List}
 use Prim.Native.Nat.{ℕ, suc, _+_, _-_, _*_, _≤_, _<_, min}
@@ -18,12 +18,11 @@ use Rattle.graph.specs.Laws.Joined.Spanning.{Spanning}
 use Rattle.graph.specs.Laws.Edges.Marks.{Back, back-parent, back-once, first-back}
 use Rattle.graph.specs.Laws.Bridges.Sweep.{least-begin, least-pass, least-take}
 use Rattle.record.specs.Arrays.{cut, Arrays}
-use Rattle.record.specs.Laws.Rows.{starts-fit}
-use Rattle.forest.specs.Steps.{Room, Known, Searched}
+use Rattle.forest.specs.Steps.{Searched}
 use Rattle.forest.specs.Lows.{Passed, unmet, met, LowStep, way-back, counts, LowAt, OwnLow}
 use Rattle.forest.specs.Laws.Sections.{blockStart}
 use Rattle.forest.specs.Laws.Starts.{start-cut}
-use Rattle.forest.proofs.Laws.Graphs.{as-many, known, row-end, row-place}
+use Rattle.forest.proofs.Laws.Graphs.{as-many, row-end, row-place}
 
 -- ---- one place
 
@@ -114,13 +113,6 @@ module _ {starts nbrs : List ℕ} {n c : ℕ}
   }
 
   module _ {s p low back : ℕ} {work : List ℕ} (t : LowTo starts nbrs n s work c p low back) where
-    pub looked-asks : Room n s work → p < getD starts (c + 1) 0
-        → (Room n s work × Known n nbrs × (p < length nbrs) × (length nbrs ≤ 32768))
-        × ((c < n) × (low < 65536) × (back < 65536))
-    looked-asks room k =
-        let l = starts-fit (pre .0 .divided) (c + 1) (omega arith) in
-        ((room, known (pre .0) (pre .2), omega arith, pre .0 .divided .few-places), (pre .3, t .low-fits, t .back-fits))
-
     pub looked-more : {up low′ back′ : ℕ} → up ≡ getD work (s + c) 0 → p < getD starts (c + 1) 0
         → LowStep c up p (getD nbrs p 0) (getD work (2 * s + getD nbrs p 0) 0) low back low′ back′
         → (low′ < 65536) × (back′ < 65536) → LowTo starts nbrs n s work c (p + 1) low′ back′

@@ -1,7 +1,10 @@
 -- `lows::own_low` meets its contract: before p every place is looked at.
-use Prim.Native.Nat.{_-_}
+use Prim.Native.Nat.{_+_, _-_}
 use native.Mathlib.Omega.{arith}
-use Rattle.forest.proofs.Laws.Lowest.{LowTo, looked-begin, looked-asks, looked-more, looked-end}
+use borrow.Author.Needs.{needs}
+use Rattle.record.specs.Laws.Rows.{starts-fit}
+use Rattle.forest.proofs.Laws.Graphs.{known}
+use Rattle.forest.proofs.Laws.Lowest.{LowTo, looked-begin, looked-more, looked-end}
 use Rattle.forest.proofs.lows.own_low.Statement.{statement}
 use Rattle.forest.proofs.lows.own_low.Tie as tie
 
@@ -26,7 +29,8 @@ loop-holds c =
 next-low-requires : tie.Need-next-low-requires Inv-loop μ-loop
 next-low-requires c κs =
     let s = start (read (c .before)) in
-    looked-asks (s .pre .0) (c .before .loop .inv) (s .pre .1) (omega arith)
+    let l = starts-fit (s .pre .0 .0 .divided) (s .args .c + 1) (omega arith) in
+    ((s .pre .1, known (s .pre .0 .0) (s .pre .0 .2), omega arith, search needs), search needs)
 
 loop-again : tie.Need-loop-again Inv-loop μ-loop
 loop-again c =
