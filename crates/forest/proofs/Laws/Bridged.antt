@@ -1,6 +1,5 @@
 -- Section B, vertex by vertex: where a vertex's lowpoint is its own visit number, it owns both ends of the edge to it.
 --   bridge-step   what a vertex does to the bits
---   step-root, step-stays, step-parts   the same, as the code finds it
 --   Bridging      the marks of the vertices below c are there, for every forest that the work slice shows
 --   bridging-begin, bridging-asks, bridging-more, bridging-end   before the first, before and after one, past the last
 use mathlib.Core.Path.{_≡_, refl, sym, ap, ap₂, subst, _∙_}
@@ -142,22 +141,6 @@ module _ {g : Blocks} (wf : WellFormed g) {F : Forest} (span : Spanning g F) {c 
         ∙ ap bits (owns-two g (bridge g) (childEnd g F) c (own-down same f o) (own-up same f′ o′) (λ x i l r. (
         elim (bridge-own x i l r) [ inl a ↦ inl (n x i l a) | inr b ↦ inr (n′ x i l b) ]
         )))
-
--- ---- as the code finds it
-
-module _ {d b d′ low visit : ℕ} {s : List Bool} (is-d : d′ ≡ d) where
-  pub step-root : d′ ≤ 0 → BridgeStep d b low visit s s
-  step-root z = stays (λ h e. omega arith) refl
-
-  module _ {l v : ℕ} (is-low : l ≡ low) (is-visit : v ≡ visit) where
-    pub step-stays : (l ≡ v → ⊥) → BridgeStep d b low visit s s
-    step-stays n = stays (λ h e. n (omega arith)) refl
-
-    pub step-parts : {b′ : ℕ} {s₁ s′ : List Bool} → 0 < d′ → l ≡ v → b′ ≡ b → s₁ ≡ set s d′ true → s′ ≡ set s₁ b′ true
-        → BridgeStep d b low visit s s′
-    step-parts {b′} h e is-b p q =
-        parts (omega arith) (omega arith)
-        (q ∙ ap₂ (λ (t : List Bool) (i : ℕ). set t i true) (p ∙ ap (λ (i : ℕ). set s i true) is-d) is-b)
 
 -- ---- all vertices
 

@@ -1,5 +1,4 @@
 -- The least visit number over the places of one vertex, and the way back that is met among them.
---   step-back, step-counts   what a place does, as the code finds it
 --   low-step       one place more is looked at
 --   LowTo          the places of c before place p are looked at, for every forest that the work slice shows
 --   looked-begin, looked-more, looked-end   at the first place, after one more, and past the last
@@ -25,16 +24,6 @@ use Rattle.forest.specs.Laws.Starts.{start-cut}
 use Rattle.forest.proofs.Laws.Graphs.{as-many, row-end, row-place}
 
 -- ---- one place
-
-module _ (nbrs work : List ℕ) (s p : ℕ) {c up v low back : ℕ} (is-v : v ≡ getD nbrs p 0) where
-  pub step-back : v + 1 ≡ up → back ≡ 0
-      → LowStep c up p (getD nbrs p 0) (getD work (2 * s + getD nbrs p 0) 0) low back low (p + c + 1)
-  step-back e z = way-back (omega arith) z refl refl
-
-  pub step-counts : {x y : ℕ} → y ≡ getD work (2 * s + v) 0 → x ≡ min low y → (v + 1 ≡ up → back ≡ 0 → ⊥)
-      → LowStep c up p (getD nbrs p 0) (getD work (2 * s + getD nbrs p 0) 0) low back x back
-  step-counts is-y e d =
-      counts (λ a. d (omega arith)) (e ∙ ap (min low) (is-y ∙ ap (λ (i : ℕ). getD work (2 * s + i) 0) is-v)) refl
 
 module _ {g : Blocks} (wf : WellFormed g) {F : Forest} (span : Spanning g F) {c j v : ℕ} (p : Place g c j v) where
   -- a place that counts is no way back

@@ -1,9 +1,7 @@
 -- `search::pass_visited` meets its contract: up to p all places lead to visited vertices.
-use Prim.Native.Nat.{ℕ, _+_, _-_, _*_}
-use mathlib.Core.Path.{_≡_, sym, ap, _∙_}
+use Prim.Native.Nat.{_-_}
 use native.Mathlib.Omega.{arith}
 use borrow.Author.Needs.{needs}
-use lib.ListN.{getD}
 use Rattle.forest.specs.Steps.{PassedTo}
 use Rattle.forest.proofs.Laws.Passing.{passed-more, passed-stop}
 use Rattle.forest.proofs.search.pass_visited.Statement.{statement}
@@ -22,14 +20,6 @@ passing c = c .before .before .before
 abbrev begin : tie.At-loop Inv-loop μ-loop → tie.Start Inv-loop μ-loop
 begin c = c .before .before .before
 
--- the visit cell that is tested
-abbrev visit : tie.At-loop Inv-loop μ-loop → ℕ → ℕ
-visit c x = getD (begin c .args .work .now) (2 * begin c .args .s + x) 0
-
-tested : (c : tie.After-get2 Inv-loop μ-loop)
-    → c .get2 .result ≡ visit (passing c) (getD (begin (passing c) .args .nbrs .now) (passing c .loop .p) 0)
-tested c = c .get2 .ensures .0 ∙ ap (visit (passing c)) (c .before .get .ensures .0)
-
 get-requires-2 : tie.Need-get-requires-2 Inv-loop μ-loop
 get-requires-2 c κs =
     let l = c .before .before in
@@ -38,12 +28,10 @@ get-requires-2 c κs =
     omega arith
 
 returns : tie.Need-returns Inv-loop μ-loop
-returns c =
-    let l = passing (c .before) in
-    passed-stop (l .loop .inv) (begin l .args .end) (sym (tested (c .before)) ∙ c .if1 .taken)
+returns c = let l = passing (c .before) in passed-stop (l .loop .inv) (begin l .args .end) (cc)
 
 loop-again : tie.Need-loop-again Inv-loop μ-loop
-loop-again c = passed-more (passing (c .before) .loop .inv) (λ z. c .if1 .left (tested (c .before) ∙ z))
+loop-again c = passed-more (passing (c .before) .loop .inv) (λ z. c .if1 .left (cc))
 
 pub pass-visited-spec : {M : Type 1} → statement M
 pass-visited-spec =

@@ -1,9 +1,7 @@
 -- `search::try_start` meets its contract.
-use Prim.Native.Nat.{_+_, _*_, _<_}
-use mathlib.Core.Path.{_≡_, sym, _∙_}
+use Prim.Native.Nat.{_<_}
 use native.Mathlib.Omega.{arith}
 use borrow.Author.Needs.{needs}
-use lib.ListN.{getD}
 use Rattle.forest.proofs.Laws.Graphs.{as-many}
 use Rattle.forest.proofs.Laws.Stepping.{new-room, start-passed, start-entered}
 use Rattle.forest.proofs.search.try_start.Statement.{statement}
@@ -13,15 +11,11 @@ abbrev begin : tie.After-get → tie.Start
 begin c = c .before .before .before .before .before
 
 -- vertex v is not visited, so there is room for it
-new : (c : tie.Then1)
-    → getD (begin (c .before) .args .work .now) (2 * begin (c .before) .args .s + begin (c .before) .args .v) 0 ≡ 0
-new c = sym (c .before .get .ensures .0) ∙ c .if1 .taken
-
 room-left : (c : tie.Then1) → begin (c .before) .args .k < begin (c .before) .args .n
 room-left c =
     let a = begin (c .before) .args in
     let b = begin (c .before) .pre in
-    new-room (b .1 .searching) (as-many (a .starts .now) (a .nbrs .now) (b .0 .1)) (b .0 .2) (new c)
+    new-room (b .1 .searching) (as-many (a .starts .now) (a .nbrs .now) (b .0 .1)) (b .0 .2) (cc)
 
 enter-requires : tie.Need-enter-requires
 enter-requires c κs =
@@ -33,14 +27,13 @@ add-t19 c = let r = room-left (c .before .before .before .before) in omega arith
 
 returns : tie.Need-returns
 returns c = λ roots todo t.
-    let d = c .before .before .before .before in
-    let b = begin (d .before) .pre .0 in
-    start-entered t (as-many _ _ (b .1)) (b .2) (new d) (c .before .before .enter .ensures)
+    let b = begin (c .before .before .before .before .before) .pre .0 in
+    start-entered t (as-many _ _ (b .1)) (b .2) (cc) (c .before .before .enter .ensures)
 
 returns-2 : tie.Need-returns-2
 returns-2 c = λ roots todo t.
     let b = begin (c .before) .pre .0 in
-    start-passed t (as-many _ _ (b .1)) (b .2) (λ z. c .if1 .left (c .before .get .ensures .0 ∙ z))
+    start-passed t (as-many _ _ (b .1)) (b .2) (λ z. c .if1 .left (cc))
 
 pub try-start-spec : {M : Type 1} → statement M
 try-start-spec =
