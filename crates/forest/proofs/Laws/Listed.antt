@@ -5,7 +5,7 @@
 --   Lists       a list of those bits, for all owners
 --   listed, listed-below   the ones of the list are the section; its bits are there
 --   Marking     the ones of the first c places of a list are set
---   marking-begin, marking-room, marking-more, marking-end   before the first, at the next, and past the last
+--   marking-begin, marking-more, marking-end   before the first, at the next, and past the last
 use mathlib.Core.Path.{_≡_, refl, sym, ap, ap₂, _∙_}
 use mathlib.Core.Bool.{Bool, true, false}
 use mathlib.Core.List.{List, [], _∷_, _++_}
@@ -125,14 +125,8 @@ module _ {list section₀ section : List ℕ} {c : ℕ} (t : Marking list sectio
         ∙ sym (mark-more list c (replicate (8 * length section₀) false) h);
   }
 
-  module _ {k : ℕ} (e : length section₀ ≡ k) where
-    pub marking-room : {x : ℕ} → Below (8 * k) list → c < length list → x ≡ getD list c 0 → x < 8 * length section
-    marking-room b h q = let l = t .same-size in omega (arith, b c h)
-
-    pub marking-end : (next : List ℕ) → length list ≤ c
-        → (bits next ≡ set (bits section) 0 false) × (length next ≡ length section)
-        → (bits next ≡ set (markAll list (replicate (8 * k) false)) 0 false) × (length next ≡ k)
-    marking-end next h s =
-        let b : bits section ≡ markAll list (replicate (8 * k) false) =
-        t .are-bits ∙ ap₂ (λ (x : List ℕ) (i : ℕ). markAll x (replicate (8 * i) false)) (take-all c list h) e in
-        (s .0 ∙ ap (λ (x : List Bool). set x 0 false) b, s .1 ∙ t .same-size ∙ e)
+  pub marking-end : {next : List Bool} (k : ℕ) → length section₀ ≡ k → length list ≤ c
+      → next ≡ set (bits section) 0 false → next ≡ set (markAll list (replicate (8 * k) false)) 0 false
+  marking-end k e h s =
+      s ∙ ap (λ (x : List Bool). set x 0 false) (t .are-bits
+      ∙ ap₂ (λ (x : List ℕ) (i : ℕ). markAll x (replicate (8 * i) false)) (take-all c list h) e)

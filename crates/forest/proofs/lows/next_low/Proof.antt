@@ -6,11 +6,10 @@ use Rattle.forest.specs.Lows.{way-back, counts}
 use Rattle.forest.proofs.lows.next_low.Statement.{statement}
 use Rattle.forest.proofs.lows.next_low.Tie as tie
 
-abbrev start : tie.After-get → tie.Start
-start c = c .before .before .before
-
 get-requires-2 : tie.Need-get-requires-2
-get-requires-2 c κs = omega (arith, start c .pre .0 .1 _ (start c .pre .0 .2), c .get .ensures .0)
+get-requires-2 c κs =
+    let p = c .before .before .before .pre .0 in
+    omega (arith, p .1 _ (p .2), c .get .ensures .0)
 
 returns : tie.Need-returns
 returns c = (way-back (omega arith) (c .if2 .taken) refl refl, omega arith)

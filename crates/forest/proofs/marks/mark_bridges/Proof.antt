@@ -1,9 +1,7 @@
 -- `marks::mark_bridges` meets its contract: the marks of the vertices before c are there.
-use Prim.Native.Nat.{ℕ, _-_}
-use mathlib.Core.Path.{_≡_, ap, _∙_}
+use Prim.Native.Nat.{_-_}
 use native.Mathlib.Omega.{arith}
 use borrow.Author.Needs.{needs}
-use lib.ListN.{length, length-replicate}
 use Rattle.record.specs.Arrays.{cut}
 use Rattle.forest.proofs.Laws.Bridged.{Bridging, bridging-begin, bridging-asks, bridging-more, bridging-end}
 use Rattle.forest.proofs.marks.mark_bridges.Statement.{statement}
@@ -19,9 +17,6 @@ abbrev μ-loop : tie.MeasureT-loop
 abbrev start : tie.After-clear Inv-loop μ-loop → tie.Start Inv-loop μ-loop
 start c = c .before .before .before .before .before .before
 
-cleared : (c : tie.After-clear Inv-loop μ-loop) → length (c .clear .last .0) ≡ length (start c .args .section .now)
-cleared c = ap length (c .clear .ensures) ∙ length-replicate {A = ℕ} (length (start c .args .section .now)) 0
-
 abbrev begun : tie.At-loop Inv-loop μ-loop → tie.After-clear Inv-loop μ-loop
 begun c = c .before .before .before
 
@@ -35,7 +30,7 @@ mark-bridge-requires : tie.Need-mark-bridge-requires Inv-loop μ-loop
 mark-bridge-requires c κs =
     let l = c .before .before in
     let s = begun l in
-    bridging-asks (start s .pre .1) (l .loop .inv) (start s .pre .0) (cleared s) (start s .pre .2) (omega arith)
+    bridging-asks (start s .pre .1) (l .loop .inv) (start s .pre .0) (omega arith) (start s .pre .2) (omega arith)
 
 loop-again : tie.Need-loop-again Inv-loop μ-loop
 loop-again c =

@@ -1,10 +1,9 @@
 -- `marks::mark_listed` meets its contract: the bits of the list before c are set.
-use Prim.Native.Nat.{ℕ, _-_}
-use mathlib.Core.Path.{_≡_, ap, _∙_}
+use Prim.Native.Nat.{_-_}
 use native.Mathlib.Omega.{arith}
 use borrow.Author.Needs.{needs}
-use lib.ListN.{length, length-replicate}
-use Rattle.forest.proofs.Laws.Listed.{Marking, marking-begin, marking-room, marking-more, marking-end}
+use lib.ListN.{length}
+use Rattle.forest.proofs.Laws.Listed.{Marking, marking-begin, marking-more, marking-end}
 use Rattle.forest.proofs.marks.mark_listed.Statement.{statement}
 use Rattle.forest.proofs.marks.mark_listed.Tie as tie
 
@@ -17,9 +16,6 @@ abbrev μ-loop : tie.MeasureT-loop
 -- the section is cleared
 abbrev start : tie.After-clear Inv-loop μ-loop → tie.Start Inv-loop μ-loop
 start c = c .before .before .before .before
-
-cleared : (c : tie.After-clear Inv-loop μ-loop) → length (c .clear .last .0) ≡ length (start c .args .section .now)
-cleared c = ap length (c .clear .ensures) ∙ length-replicate {A = ℕ} (length (start c .args .section .now)) 0
 
 abbrev begun : tie.At-loop Inv-loop μ-loop → tie.After-clear Inv-loop μ-loop
 begun c = c .before .before .before
@@ -36,8 +32,8 @@ loop-holds c =
 set-bit-requires : tie.Need-set-bit-requires Inv-loop μ-loop
 set-bit-requires c κs =
     let l = at c in
-    let s = begun l in
-    marking-room (l .loop .inv) (cleared s) (start s .pre .1) (omega arith) (c .get .ensures .0)
+    let below = start (begun l) .pre .1 (l .loop .c) (omega arith) in
+    omega arith
 
 loop-again : tie.Need-loop-again Inv-loop μ-loop
 loop-again c =
@@ -48,9 +44,9 @@ returns : tie.Need-returns Inv-loop μ-loop
 returns c =
     let f = c .before .before in
     let l = f .before .before .before in
-    let d = f .clear-first in
-    let e = marking-end (l .loop .inv) (cleared (begun l)) (d .last .0) (omega arith) (d .ensures) in
-    (e .0, (e .1, λ j. c .slice-known4 .given j .fits))
+    let k = length (start (begun l) .args .section .now) in
+    let all = marking-end (l .loop .inv) k (omega arith) (omega arith) (f .clear-first .ensures .0) in
+    (all, (omega arith, λ j. c .slice-known4 .given j .fits))
 
 pub mark-listed-spec : {M : Type 1} → statement M
 mark-listed-spec =
