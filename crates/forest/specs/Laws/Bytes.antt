@@ -96,93 +96,78 @@ module _ (g : Blocks) (F : Forest) (m : ℕ) (even : length (flatten g) ≡ 2 * 
   length-marks : (test : PlaceTest) → length (section test g) ≡ length g + 2 * m
   length-marks test = length-section test g ∙ ap (λ (k : ℕ). length g + k) even
 
-  length-E : length (sectionE g F) ≡ length g + 2 * m
-  unfolding sectionE
-  length-E = length-marks (childMark F)
-
-  length-P : length (sectionP g F) ≡ length g + 2 * m
-  unfolding sectionP
-  length-P = length-marks (parentMark g g F)
-
-  length-B : length (sectionB g) ≡ length g + 2 * m
-  unfolding sectionB
-  length-B = length-marks (bridge g)
-
-  -- the bytes of each
-  bytes-of : (s : List Bool) → length s ≡ length g + 2 * m → length (pack s) ≡ markBytes (length g) m
+  bytes-marks : (test : PlaceTest) → length (pack (section test g)) ≡ markBytes (length g) m
   unfolding markBytes
-  bytes-of s e = length-pack s ∙ ap (λ (k : ℕ). (k + 7) / 8) e
-
-  bytes-E : length (pack (sectionE g F)) ≡ markBytes (length g) m
-  bytes-E = bytes-of (sectionE g F) length-E
-
-  bytes-P : length (pack (sectionP g F)) ≡ markBytes (length g) m
-  bytes-P = bytes-of (sectionP g F) length-P
-
-  bytes-B : length (pack (sectionB g)) ≡ markBytes (length g) m
-  bytes-B = bytes-of (sectionB g) length-B
+  bytes-marks test = length-pack (section test g) ∙ ap (λ (k : ℕ). (k + 7) / 8) (length-marks test)
 
   length-stored : length (fieldBits (numbers g F)) ≡ 12 * length g
   length-stored = length-fieldBits (numbers g F) ∙ ap (λ (k : ℕ). 12 * k) (length-numbers g F)
 
   -- where they stand
-  within-E : Within (indexBy g F) (sectionE g F) 0
-  unfolding indexBy
+  within-E : Within (indexBy g F) (section (childMark F) g) 0
+  unfolding indexBy sectionE
   within-E = record { before = []; after = _; is = refl; long = refl }
 
-  within-P : Within (indexBy g F) (sectionP g F) (markBytes (length g) m)
-  unfolding indexBy
-  within-P = record { before = pack (sectionE g F); after = _; is = refl; long = bytes-E }
+  within-P : Within (indexBy g F) (section (parentMark g g F) g) (markBytes (length g) m)
+  unfolding indexBy sectionE sectionP
+  within-P = record { before = pack (sectionE g F); after = _; is = refl; long = bytes-marks (childMark F) }
 
-  within-B : Within (indexBy g F) (sectionB g) (2 * markBytes (length g) m)
-  unfolding indexBy
+  within-B : Within (indexBy g F) (section (bridge g) g) (2 * markBytes (length g) m)
+  unfolding indexBy sectionE sectionP sectionB
   within-B = record {
     before = pack (sectionE g F) ++ pack (sectionP g F);
     after = _;
     is = sym (append-assoc (pack (sectionE g F)) (pack (sectionP g F)) _);
-    long = simp length-append (omega (arith, bytes-E, bytes-P));
+    long = simp length-append (omega (arith, bytes-marks (childMark F), bytes-marks (parentMark g g F)));
   }
 
   within-numbers : Within (indexBy g F) (fieldBits (numbers g F)) (3 * markBytes (length g) m)
-  unfolding indexBy
-  within-numbers = record {
-    before = pack (sectionE g F) ++ (pack (sectionP g F) ++ pack (sectionB g));
-    after = [];
-    is = simp (append-assoc, append-nil);
-    long = simp length-append (omega (arith, bytes-E, bytes-P, bytes-B));
-  }
+  unfolding indexBy sectionE sectionP sectionB
+  within-numbers =
+      let e = bytes-marks (childMark F) in
+      let p = bytes-marks (parentMark g g F) in
+      record {
+        before = pack (sectionE g F) ++ (pack (sectionP g F) ++ pack (sectionB g));
+        after = [];
+        is = simp (append-assoc, append-nil);
+        long = simp length-append (omega (arith, bytes-marks (bridge g)));
+      }
 
   pub length-index : length (indexBy g F) ≡ indexLength (length g) m
-  unfolding indexLength indexBy numberBytes
+  unfolding indexLength numberBytes within-numbers
   length-index =
+      let w = within-numbers .long in
       let n = length-pack (fieldBits (numbers g F)) ∙ ap (λ (k : ℕ). (k + 7) / 8) length-stored in
-      simp length-append (omega (arith, bytes-E, bytes-P, bytes-B))
+      ap length (within-numbers .is) ∙ length-append (within-numbers .before) _ ∙ simp append-nil (omega arith)
 
   -- the sections, read back
   pub string-E : string (indexBy g F) 0 (length g + 2 * m) ≡ sectionE g F
-  string-E = string-of within-E (length g + 2 * m) length-E
+  unfolding sectionE
+  string-E = string-of within-E (length g + 2 * m) (length-marks (childMark F))
 
   pub string-P : string (indexBy g F) (8 * markBytes (length g) m) (length g + 2 * m) ≡ sectionP g F
-  string-P = string-of within-P (length g + 2 * m) length-P
+  unfolding sectionP
+  string-P = string-of within-P (length g + 2 * m) (length-marks (parentMark g g F))
 
   pub string-B : string (indexBy g F) (8 * (2 * markBytes (length g) m)) (length g + 2 * m) ≡ sectionB g
-  string-B = string-of within-B (length g + 2 * m) length-B
+  unfolding sectionB
+  string-B = string-of within-B (length g + 2 * m) (length-marks (bridge g))
 
   -- the fill bits of each section are zeros
   pub fill-E : (i : ℕ) → length g + 2 * m ≤ i → i < 8 * markBytes (length g) m
       → getD (bits (indexBy g F)) i false ≡ false
   unfolding markBytes
-  fill-E i h k = filled within-E length-E i (omega arith) (omega arith)
+  fill-E i h k = filled within-E (length-marks (childMark F)) i (omega arith) (omega arith)
 
   pub fill-P : (i : ℕ) → 8 * markBytes (length g) m + (length g + 2 * m) ≤ i → i < 8 * (2 * markBytes (length g) m)
       → getD (bits (indexBy g F)) i false ≡ false
   unfolding markBytes
-  fill-P i h k = filled within-P length-P i h (omega arith)
+  fill-P i h k = filled within-P (length-marks (parentMark g g F)) i h (omega arith)
 
   pub fill-B : (i : ℕ) → 8 * (2 * markBytes (length g) m) + (length g + 2 * m) ≤ i
       → i < 8 * (3 * markBytes (length g) m) → getD (bits (indexBy g F)) i false ≡ false
   unfolding markBytes
-  fill-B i h k = filled within-B length-B i h (omega arith)
+  fill-B i h k = filled within-B (length-marks (bridge g)) i h (omega arith)
 
   pub fill-numbers : (i : ℕ) → 8 * (3 * markBytes (length g) m) + 12 * length g ≤ i → i < 8 * indexLength (length g) m
       → getD (bits (indexBy g F)) i false ≡ false
