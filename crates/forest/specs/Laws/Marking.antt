@@ -107,4 +107,4 @@ pub section-also : (test : PlaceTest) (g : Blocks) (u j : ℕ) → u < length g 
 unfolding section
 section-also test g u j h k =
     let z : 0 + u ≡ u = omega arith in
-    laid-also test 0 g u j h k ∙ ap (λ (v : ℕ). laidFrom (also test v j) 0 g) z
+    rw z at (laid-also test 0 g u j h k)

@@ -114,9 +114,8 @@ laid-on : (test : PlaceTest) (u : ℕ) (b : List ℕ) (g : Blocks) (k : ℕ)
     → getD (laidFrom test u (b ∷ g)) (suc (length b + k)) false ≡ getD (laidFrom test (suc u) g) k false
 unfolding layOut marksFrom
 laid-on test u b g k =
-    let e : length b + k ≡ length (marksOf test u b) + k = rw (length-each (test u) 0 (length b)) in
-    ap (λ (i : ℕ). getD (marksOf test u b ++ laidFrom test (suc u) g) i false) e
-    ∙ getD-append-add (marksOf test u b) (laidFrom test (suc u) g) k false
+    rw (length-each (test u) 0 (length b)) at
+    (getD-append-add (marksOf test u b) (laidFrom test (suc u) g) k false)
 
 own-from : (test : PlaceTest) (t : ℕ) (g : Blocks) (u : ℕ) → u < length g
     → getD (laidFrom test t g) (blockStart g u + u) false ≡ false
@@ -126,8 +125,7 @@ own-from test t (b ∷ g) zero h = refl
 own-from test t (b ∷ g) (suc u) h =
     let e : length (b ++ flatten (take u g)) + suc u ≡ suc (length b + (blockStart g u + u)) =
     omega (arith, length-append b (flatten (take u g))) in
-    ap (λ (i : ℕ). getD (laidFrom test t (b ∷ g)) i false) e
-    ∙ laid-on test t b g (blockStart g u + u) ∙ own-from test (suc t) g u (omega arith)
+    rw e (laid-on test t b g (blockStart g u + u) ∙ own-from test (suc t) g u (omega arith))
 
 mark-from : (test : PlaceTest) (t : ℕ) (g : Blocks) (u j : ℕ) → u < length g → j < length (block g u)
     → getD (laidFrom test t g) (blockStart g u + u + 1 + j) false ≡ test (t + u) j
@@ -137,18 +135,14 @@ mark-from test t (b ∷ g) zero j h k =
     let e : 1 + j ≡ suc j = omega arith in
     let l : j < length (marksOf test t b) = rw (length-each (test t) 0 (length b)) k in
     let z : 0 + j ≡ j = omega arith in
-    let y : t ≡ t + 0 = omega arith in
-    ap (λ (i : ℕ). getD (laidFrom test t (b ∷ g)) i false) e
-    ∙ List·getD-append (marksOf test t b) (laidFrom test (suc t) g) false j l
-    ∙ each-at (test t) false 0 (length b) j k
-    ∙ ap₂ test y z
+    let y : t + 0 ≡ t = omega arith in
+    rw (e, y) (List·getD-append (marksOf test t b) (laidFrom test (suc t) g) false j l
+    ∙ rw z at (each-at (test t) false 0 (length b) j k))
 mark-from test t (b ∷ g) (suc u) j h k =
     let e : length (b ++ flatten (take u g)) + suc u + 1 + j ≡ suc (length b + (blockStart g u + u + 1 + j)) =
     omega (arith, length-append b (flatten (take u g))) in
     let y : suc t + u ≡ t + suc u = omega arith in
-    ap (λ (i : ℕ). getD (laidFrom test t (b ∷ g)) i false) e
-    ∙ laid-on test t b g (blockStart g u + u + 1 + j) ∙ mark-from test (suc t) g u j (omega arith) k
-    ∙ ap (λ (i : ℕ). test i j) y
+    rw (e, ← y) (laid-on test t b g (blockStart g u + u + 1 + j) ∙ mark-from test (suc t) g u j (omega arith) k)
 
 -- the bit of a vertex itself
 pub own-bit : (test : PlaceTest) (g : Blocks) (u : ℕ) → u < length g
@@ -160,7 +154,7 @@ own-bit test g u h = own-from test 0 g u h
 pub mark-bit : (test : PlaceTest) (g : Blocks) (u j : ℕ) → u < length g → j < length (block g u)
     → getD (section test g) (placeBit g u j) false ≡ test u j
 unfolding section
-mark-bit test g u j h k = let z : 0 + u ≡ u = omega arith in mark-from test 0 g u j h k ∙ ap (λ (i : ℕ). test i j) z
+mark-bit test g u j h k = let z : 0 + u ≡ u = omega arith in rw z at (mark-from test 0 g u j h k)
 
 -- ---- the numbers
 
@@ -170,4 +164,4 @@ length-numbers g F = length-each (number F) 0 (length g)
 
 pub number-at : (g : Blocks) (F : Forest) (v : ℕ) → v < length g → getD (numbers g F) v 0 ≡ number F v
 unfolding numbers
-number-at g F v h = let z : 0 + v ≡ v = omega arith in each-at (number F) 0 0 (length g) v h ∙ ap (number F) z
+number-at g F v h = let z : 0 + v ≡ v = omega arith in rw z at (each-at (number F) 0 0 (length g) v h)
