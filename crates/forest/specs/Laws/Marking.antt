@@ -66,7 +66,7 @@ each-set f i (suc n) zero h =
 each-set f i (suc n) (suc k) h =
     let e : suc i + k ≡ i + suc k = omega arith in
     ap₂ (λ (x : Bool) (l : List Bool). x ∷ l) (rw (ne-eqb i (i + suc k) (λ q. omega arith)))
-    (each-set f (suc i) n k (omega arith) ∙ ap (λ (y : ℕ). map (λ x. eqb x y || f x) (countUp (suc i) n)) e)
+    (rw e at (each-set f (suc i) n k (omega arith)))
 
 -- within its block
 marks-also : (test : PlaceTest) (t : ℕ) (b : List ℕ) (j : ℕ) → j < length b
@@ -88,19 +88,17 @@ laid-also test t (b ∷ g) zero j h k =
     let inside : j < length (marksOf test t b) = rw (length-each (test t) 0 (length b)) k in
     let rest = marks-same test (also test (t + 0) j) (suc t) g
     (λ x i l m. sym (also-other test (t + 0) j (suc t + x) i (λ q. omega arith))) in
-    ap (λ (i : ℕ). set (laidFrom test t (b ∷ g)) i true) e
-    ∙ ap (λ (x : List Bool). false ∷ x) (set-append-left (marksOf test t b) (laidFrom test (suc t) g) j true inside
-    ∙ ap₂ (λ (x y : List Bool). x ++ y) (marks-also test t b j k) (ap (layOut false) rest))
+    rw e (ap (λ (x : List Bool). false ∷ x) (set-append-left (marksOf test t b) (laidFrom test (suc t) g) j true inside
+    ∙ ap₂ (λ (x y : List Bool). x ++ y) (marks-also test t b j k) (ap (layOut false) rest)))
 laid-also test t (b ∷ g) (suc u) j h k =
     let e : length (b ++ flatten (take u g)) + suc u + 1 + j ≡ suc (length b + placeBit g u j) =
     omega (arith, length-append b (flatten (take u g))) in
     let y : suc t + u ≡ t + suc u = omega arith in
     let first = each-same (test t) (also test (t + suc u) j t) 0 (length b)
     (λ i l. sym (also-other test (t + suc u) j t (0 + i) (λ q. omega arith))) in
-    let rest = laid-also test (suc t) g u j (omega arith) k ∙ ap (λ (v : ℕ). laidFrom (also test v j) (suc t) g) y in
-    ap (λ (i : ℕ). set (laidFrom test t (b ∷ g)) i true) e
-    ∙ ap (λ (x : List Bool). false ∷ x) (set-past (marksOf test t b) _ _ true (length-each (test t) 0 (length b))
-    ∙ ap₂ (λ (x y : List Bool). x ++ y) first rest)
+    let rest = rw y at (laid-also test (suc t) g u j (omega arith) k) in
+    rw e (ap (λ (x : List Bool). false ∷ x) (set-past (marksOf test t b) _ _ true (length-each (test t) 0 (length b))
+    ∙ ap₂ (λ (x y : List Bool). x ++ y) first rest))
 
 pub section-also : (test : PlaceTest) (g : Blocks) (u j : ℕ) → u < length g → j < length (block g u)
     → set (section test g) (placeBit g u j) true ≡ section (also test u j) g
