@@ -2,7 +2,7 @@
 --   bridge-step   what a vertex does to the bits
 --   Bridging      the marks of the vertices below c are there, for every forest that the work slice shows
 --   bridging-begin, bridging-asks, bridging-more, bridging-end   before the first, before and after one, past the last
-use mathlib.Core.Path.{_≡_, refl, sym, ap, ap₂, subst, _∙_}
+use mathlib.Core.Path.{_≡_, refl, sym, ap, subst, _∙_}
 use mathlib.Core.Logic.{_⊎_, inl, inr}
 use mathlib.Core.Bool.{Bool, true, false}
 use mathlib.Core.List.{List, List·Memᴰ}
@@ -10,7 +10,7 @@ use Prim.Native.Nat.{ℕ, suc, _+_, _*_, _≤_, _<_}
 use native.Mathlib.Omega.{arith}
 use borrow.Author.Tests.{eq-eqb, eqb-true}
 use lib.Dec.{eqb}
-use lib.ListN.{length, getD, set, replicate}
+use lib.ListN.{length, getD, replicate}
 use Rattle.bits.specs.Bits.{bits}
 use Rattle.bits.specs.Laws.Bytes.{AreBytes}
 use Rattle.bits.specs.Laws.Packing.{zero-bits}
@@ -135,12 +135,10 @@ module _ {g : Blocks} (wf : WellFormed g) {F : Forest} (span : Spanning g F) {c 
     bridge-step (one u j f at o n) (one w k f′ at′ o′ n′) el ev is (parts h q e) =
         let same : t c ≡ number F c = omega arith in
         let test = bridgeMarks g F c in
-        e ∙ ap₂ (λ (x : List Bool) (y : ℕ). set x y true)
-        (ap₂ (λ (x : List Bool) (y : ℕ). set x y true) is at ∙ bits-also g test u j f) at′
-        ∙ bits-also g (also test u j) w k f′
-        ∙ ap bits (owns-two g (bridge g) (childEnd g F) c (own-down same f o) (own-up same f′ o′) (λ x i l r. (
+        let both = owns-two g (bridge g) (childEnd g F) c (own-down same f o) (own-up same f′ o′) (λ x i l r. (
         elim (bridge-own x i l r) [ inl a ↦ inl (n x i l a) | inr b ↦ inr (n′ x i l b) ]
-        )))
+        )) in
+        cc (bits-also g test u j f, bits-also g (also test u j) w k f′)
 
 -- ---- all vertices
 

@@ -5,7 +5,7 @@
 --   lift-root, lift-child   the vertex of visit number k, where it has no parent and where it has one
 --   Swept         the vertices of visit number k and more are lifted
 --   swept-asks, swept-more, swept-end   before and after the next, and past the first
-use mathlib.Core.Path.{_≡_, refl, sym, ap, _∙_}
+use mathlib.Core.Path.{_≡_, refl, ap, _∙_}
 use mathlib.Core.List.{List}
 use Prim.Native.Nat.{ℕ, zero, suc, _+_, _-_, _*_, _≤_, _<_, min}
 use native.Mathlib.Numerals.{add-one}
@@ -208,10 +208,10 @@ module _ {g : Blocks} {F : Forest} {n s k v : ℕ} {work : List ℕ} (many : len
 
         cells : (y : ℕ) → y < n → Dec (y ≡ up - 1)
             → getD next (5 * s + y) 0 ≡ suc (changed (f .low-of) (up - 1) least y)
-        cells y l (yes q) = rw q (put-here p (lift-up z) ∙ is-least ∙ ap suc (sym (stored .hit)))
+        cells y l (yes q) = rw q (cc (put-here p (lift-up z), is-least, stored .hit))
         cells y l (no d) =
-            put-other p (5 * s + y) (λ q. d (omega arith)) ∙ f .low-cells y l
-            ∙ ap suc (sym (stored .rest y (omega arith) d))
+            let other = put-other p (5 * s + y) (λ q. d (omega arith)) in
+            cc (f .low-cells y l, stored .rest y (omega arith) d)
 
 -- ---- from the last visited vertex back
 

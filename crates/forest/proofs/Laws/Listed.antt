@@ -40,9 +40,7 @@ pub mark-more : (l : List ℕ) (c : ℕ) (s : List Bool) → c < length l
     → markAll (take (c + 1) l) s ≡ set (markAll (take c l) s) (getD l c 0) true
 unfolding markAll
 mark-more l c s h =
-    ap (λ (x : ℕ). markAll (take x l) s) (add-one c)
-    ∙ ap (λ (x : List ℕ). markAll x s) (take-suc l c 0 h)
-    ∙ mark-append (take c l) (getD l c 0 ∷ []) s
+    rw (add-one c, take-suc l c 0 h) (mark-append (take c l) (getD l c 0 ∷ []) s)
 
 -- ---- what one owner marks
 
@@ -61,11 +59,10 @@ owns-more : {g : Blocks} {mark : PlaceTest} {owner : ℕ → ℕ → ℕ} {c bit
     → set s 0 false ≡ bits (marked g (upTo mark owner c))
     → set (set s bit true) 0 false ≡ bits (marked g (upTo mark owner (c + 1)))
 owns-more {g} {mark} {owner} {c} s (nothing e n) is =
-    ap (λ (x : ℕ). set (set s x true) 0 false) e ∙ set-set s 0 true false ∙ is ∙ ap bits (owns-none g mark owner c n)
+    cc (set-set s 0 true false, owns-none g mark owner c n)
 owns-more {g} {mark} {owner} {c} {bit} s (one u j f e o n) is =
-    set-comm s bit 0 true false (λ q. omega arith)
-    ∙ ap₂ (λ (x : List Bool) (y : ℕ). set x y true) is e
-    ∙ bits-also g (upTo mark owner c) u j f ∙ ap bits (owns-one g mark owner c o n)
+    let other = set-comm s bit 0 true false (λ q. omega arith) in
+    cc (bits-also g (upTo mark owner c) u j f, owns-one g mark owner c o n)
 
 -- ---- all owners
 

@@ -1,6 +1,6 @@
 -- Visited neighbours are passed over, from one place up to another: no end is asked for until the passing stops.
 --   passed-more, passed-stop   one more is passed, or the passing stops at an unvisited neighbour
-use mathlib.Core.Path.{_≡_, sym, ap, _∙_}
+use mathlib.Core.Path.{_≡_}
 use mathlib.Core.List.{List}
 use Prim.Native.Nat.{ℕ, _+_, _*_, _≤_, _<_}
 use native.Mathlib.Decide.{ℕ-discrete}
@@ -17,7 +17,7 @@ module _ {nbrs : List ℕ} {s : ℕ} {work : List ℕ} {from p : ℕ} (t : Passe
   }
     where
       at : (q : ℕ) → from ≤ q → q < p + 1 → getD work (2 * s + getD nbrs q 0) 0 ≡ 0 → Dec (q ≡ p) → ⊥
-      at q l h z (yes e) = d (ap (λ x. getD work (2 * s + getD nbrs x 0) 0) (sym e) ∙ z)
+      at q l h z (yes e) = d (cc)
       at q l h z (no n) = t .visited q l (omega arith) z
 
   pub passed-stop : (end : ℕ) → getD work (2 * s + getD nbrs p 0) 0 ≡ 0 → PassedTo nbrs s work from end p

@@ -4,7 +4,7 @@
 --   hand-vertex                  the vertex at hand is a vertex
 --   next-fits                    where the passing stopped there is a vertex, and room for it
 --   next-left, next-entered      it stopped at the end of the block, or before it
-use mathlib.Core.Path.{_≡_, refl, sym, ap, _∙_}
+use mathlib.Core.Path.{_≡_, refl, ap, _∙_}
 use mathlib.Core.List.{List, _∷_}
 use Prim.Native.Nat.{ℕ, suc, _+_, _-_, _*_, _≤_, _<_}
 use native.Mathlib.Numerals.{add-one}
@@ -68,7 +68,7 @@ module _ {starts nbrs : List ℕ} (a : Arrays starts nbrs) {n : ℕ} (fit : n + 
     from-next = is-from ∙ t .tied .nexts u hand-vertex
 
     end-next : end ≡ getD starts (u + 1) 0
-    end-next = is-end ∙ ap (λ x. getD starts x 0) (is-cur ∙ sym (add-one u))
+    end-next = cc (add-one u)
 
     passed : (j : ℕ) → getD starts u 0 + j ≤ p
         → Visited (cut starts nbrs) (cellsOf s (t .next-of) (t .slot-of) work) u (t .next-of u) j

@@ -3,7 +3,7 @@
 --   tied-next         a next position is stored
 --   tied-enter        a vertex is entered
 --   enters            the same, for the arrays of a search program
-use mathlib.Core.Path.{_≡_, refl, sym, ap, ap₂, _∙_}
+use mathlib.Core.Path.{_≡_, refl, sym, ap, _∙_}
 use mathlib.Core.List.{List}
 use Prim.Native.Nat.{ℕ, _+_, _*_, _≤_, _<_}
 use native.Mathlib.Decide.{ℕ-discrete}
@@ -46,10 +46,8 @@ module _ {g : Blocks} {starts : List ℕ} {n s : ℕ} {work : List ℕ} {next-of
         at : (v : ℕ) → v < n → Dec (v ≡ u) → getD mid v 0 ≡ getD starts v 0 + changed next-of u x v
         at v l (yes e) =
             let r = t .room in
-            rw e (put-here p (omega arith) ∙ ap (λ y. getD starts u 0 + y) (sym (stored-changed n next-of u x .hit)))
-        at v l (no d) =
-            put-other p v d ∙ t .nexts v l
-            ∙ ap (λ y. getD starts v 0 + y) (sym (stored-changed n next-of u x .rest v l d))
+            rw e (cc (put-here p (omega arith), stored-changed n next-of u x .hit))
+        at v l (no d) = cc (put-other p v d, t .nexts v l, stored-changed n next-of u x .rest v l d)
 
         new : (v : ℕ) → v < n → getD work (2 * s + v) 0 ≡ 0 → changed next-of u x v ≡ 0
         new v l z =
@@ -75,13 +73,10 @@ module _ {g : Blocks} {starts : List ℕ} {n s : ℕ} {work : List ℕ} {next-of
 
         at : (x : ℕ) → x < n → (getD next (2 * s + x) 0 ≡ 0 → ⊥) → Dec (x ≡ v)
             → getD next (4 * s + x) 0 ≡ downBit g (getD next (s + x) 0) (changed slot-of v j x)
-        at x l z (yes q) =
-            rw q (e .downs-set .hit ∙ b
-            ∙ sym (ap₂ (downBit g) (e .parents-set .hit) (stored-changed n slot-of v j .hit)))
+        at x l z (yes q) = rw q (cc (stored-changed n slot-of v j .hit))
         at x l z (no d) =
-            e .downs-set .rest x l d
-            ∙ t .downs x l (λ y. z (e .visits-set .rest x l d ∙ y))
-            ∙ sym (ap₂ (downBit g) (e .parents-set .rest x l d) (stored-changed n slot-of v j .rest x l d))
+            let old = t .downs x l (λ y. z (e .visits-set .rest x l d ∙ y)) in
+            cc (e .downs-set .rest x l d, e .parents-set .rest x l d, stored-changed n slot-of v j .rest x l d)
 
 -- v is entered, after stores in the first part
 pub enters : {n s v k p bit : ℕ} (j : ℕ) (work : List ℕ) {mid next : List ℕ} (before next-of slot-of : ℕ → ℕ)
