@@ -8,10 +8,10 @@
 --   Same, Own    one place; a place has a mark that c owns
 --   owns-none, owns-one, owns-two   c owns no mark, one, or two
 --   upto-none, upto-all   no owner, and all
-use mathlib.Core.Path.{_≡_, refl, sym, ap, ap₂, _∙_}
+use mathlib.Core.Path.{_≡_, refl, sym, ap, _∙_}
 use mathlib.Core.Logic.{_⊎_, inl, inr, _↔_}
 use mathlib.Core.Bool.{Bool, true, false, _&&_, _||_}
-use mathlib.Core.List.{List, _++_, flatten}
+use mathlib.Core.List.{List, flatten}
 use Prim.Native.Nat.{ℕ, suc, _+_, _-_, _*_, _/_, _≤_, _<_}
 use native.Mathlib.Decide.{ℕ-discrete}
 use native.Mathlib.Omega.{arith}
@@ -60,10 +60,8 @@ no-marks {g} {k = k} z =
     let e = sized-bytes z in
     let l : ℕ = length g + length (flatten g) in
     let r : 8 * k ≡ l + (8 * ((l + 7) / 8) - l) = omega arith in
-    ap (λ (x : ℕ). replicate x false) r
-    ∙ sym (replicate-append-replicate l (8 * ((l + 7) / 8) - l) false)
-    ∙ sym (bits-pack (section none g)
-    ∙ ap₂ (λ (x : List Bool) (y : ℕ). x ++ fill y) (section-none g) (length-section none g))
+    let zeros = replicate-append-replicate l (8 * ((l + 7) / 8) - l) false in
+    cc (bits-pack (section none g), section-none g, length-section none g)
 
 pub bits-also : (g : Blocks) (test : PlaceTest) (u j : ℕ) → j < length (block g u)
     → set (bits (marked g test)) (placeBit g u j) true ≡ bits (marked g (also test u j))
@@ -71,10 +69,9 @@ bits-also g test u j h =
     let e = length-section test g in
     let l = e ∙ sym (length-section (also test u j) g) in
     let f : placeBit g u j < length (section test g) = omega (arith, bit-fits g u j h) in
-    ap (λ (x : List Bool). set x (placeBit g u j) true) (bits-pack (section test g))
-    ∙ set-append-left (section test g) (fill (length (section test g))) (placeBit g u j) true f
-    ∙ ap₂ (λ (x : List Bool) (y : ℕ). x ++ fill y) (section-also test g u j (source (place-at {g = g} {u = u} h)) h) l
-    ∙ sym (bits-pack (section (also test u j) g))
+    let one = section-also test g u j (source (place-at {g = g} {u = u} h)) h in
+    let whole = set-append-left (section test g) (fill (length (section test g))) (placeBit g u j) true f in
+    cc (bits-pack (section test g), bits-pack (section (also test u j) g))
 
 pub same-bits : (g : Blocks) (test : PlaceTest) {bytes : List ℕ} → AreBytes bytes → bits bytes ≡ bits (marked g test)
     → bytes ≡ marked g test

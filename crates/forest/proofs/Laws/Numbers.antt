@@ -3,10 +3,10 @@
 --   pairs-begin, pairs-room, pairs-rest, pairs-more, pairs-last, pairs-end   as the code goes
 --   visitCells, visits-many   the visit cells in the work slice, as many as vertices
 --   listed-visits, listed-numbers   those of a forest are visit numbers; each less 1, they are the forest's
-use mathlib.Core.Path.{_≡_, refl, sym, ap, ap₂, _∙_}
+use mathlib.Core.Path.{_≡_, refl, sym, ap, _∙_}
 use mathlib.Core.Bool.{Bool, false}
 use mathlib.Core.List.{List, [], _∷_, _++_, map, append-assoc, append-nil}
-use Prim.Native.Nat.{ℕ, zero, suc, _+_, _-_, _*_, _/_, _≤_, _<_}
+use Prim.Native.Nat.{ℕ, zero, suc, _+_, _-_, _*_, _≤_, _<_}
 use native.Mathlib.Numerals.{add-one}
 use native.Mathlib.Omega.{arith}
 use lib.ListN.{length, take, drop, getD, replicate, length-replicate, length-map, List·getD-map}
@@ -38,9 +38,8 @@ put-behind : (a : List Bool) (v k : ℕ) {start : ℕ} → length a ≡ start
 unfolding put
 put-behind a v k {start} e =
     let z : List Bool = replicate k false in
-    ap₂ (λ (x y : List Bool). x ++ (toBits 12 v ++ y)) (take-at a z start e)
-    (sym (drop-drop 12 start (a ++ z)) ∙ ap (drop 12) (drop-at a z start e) ∙ drop-zeros 12 k)
-    ∙ sym (append-assoc a (toBits 12 v) (replicate (k - 12) false))
+    let whole = append-assoc a (toBits 12 v) (replicate (k - 12) false) in
+    cc (take-at a z start e, drop-drop 12 start (a ++ z), drop-at a z start e, drop-zeros 12 k)
 
 -- the first i numbers in 8·k bits, and zeros after them
 abbrev front : List ℕ → ℕ → ℕ → List Bool
@@ -53,12 +52,9 @@ front-more xs k i {x} h e =
     let z : 8 * k - 12 * i - 12 ≡ 8 * k - 12 * (i + 1) = omega arith in
     let a : length (fieldBits (take i xs)) ≡ 12 * i =
     length-fieldBits (take i xs) ∙ ap (λ (k : ℕ). 12 * k) (length-take-le i xs (omega arith)) in
-    let n : fieldBits (take i xs) ++ toBits 12 x ≡ fieldBits (take (i + 1) xs) =
-    rw (add-one i) (sym (ap fieldBits (take-suc xs i 0 h) ∙ fieldBits-append (take i xs) (getD xs i 0 ∷ [])
-    ∙ ap (λ (t : List Bool). fieldBits (take i xs) ++ t)
-    (append-nil (toBits 12 (getD xs i 0)) ∙ ap (toBits 12) (sym e)))) in
-    put-behind (fieldBits (take i xs)) x (8 * k - 12 * i) a
-    ∙ ap₂ (λ (s : List Bool) (j : ℕ). s ++ replicate j false) n z
+    let more = fieldBits-append (take i xs) (getD xs i 0 ∷ []) in
+    let put = put-behind (fieldBits (take i xs)) x (8 * k - 12 * i) a in
+    cc (add-one i, take-suc xs i 0 h, append-nil (toBits 12 (getD xs i 0)))
 
 -- ---- the numbers, from the front
 
@@ -101,11 +97,8 @@ all-written visits {section} are s e =
     let xs : List ℕ = less visits in
     let l : length (fieldBits xs) ≡ 12 * length visits =
     length-fieldBits xs ∙ ap (λ (x : ℕ). 12 * x) (less-many visits) in
-    let rest : 8 * length section - 12 * length visits ≡ 8 * ((length (fieldBits xs) + 7) / 8) - length (fieldBits xs) =
-    ap₂ (λ (x y : ℕ). 8 * x - y) s refl ∙ sym (ap (λ (x : ℕ). 8 * ((x + 7) / 8) - x) l) in
-    bits-injective section (pack (fieldBits xs)) are (pack-bytes (fieldBits xs))
-    (e ∙ ap₂ (λ (t : List ℕ) (j : ℕ). fieldBits t ++ replicate j false)
-    (take-all (length visits) xs (omega (arith, less-many visits))) rest ∙ sym (bits-pack (fieldBits xs)))
+    let all = take-all (length visits) xs (omega (arith, less-many visits)) in
+    bits-injective section (pack (fieldBits xs)) are (pack-bytes (fieldBits xs)) (cc (bits-pack (fieldBits xs)))
 
 module _ {visits section : List ℕ} {v at : ℕ} (p : Pairs visits section v at) where
   pub pairs-room : v + 2 ≤ length visits → at + 3 ≤ length section
@@ -121,8 +114,7 @@ module _ {visits section : List ℕ} {v at : ℕ} (p : Pairs visits section v at
       → put 12 (a - 1) (bits section) (12 * v) ≡ front (less visits) (length section) (v + 1)
   next {a} h e =
       let x = less-at visits v in
-      ap (λ (t : List Bool). put 12 (a - 1) t (12 * v)) (p .are-bits)
-      ∙ front-more (less visits) (length section) v (omega (arith, less-many visits)) (omega arith)
+      rw (p .are-bits) (front-more (less visits) (length section) v (omega (arith, less-many visits)) (omega arith))
 
   module _ {after : List ℕ} (are : AreBytes after) (same : length after ≡ length section) where
     pub pairs-more : {a b : ℕ} → v + 2 ≤ length visits → a ≡ getD visits v 0 → b ≡ getD visits (v + 1) 0
@@ -133,15 +125,14 @@ module _ {visits section : List ℕ} {v at : ℕ} (p : Pairs visits section v at
         let y = less-at visits (v + 1) in
         let s : 8 * at + 12 ≡ 12 * (v + 1) = omega arith in
         let z : v + 1 + 1 ≡ v + 2 = omega arith in
+        let two = front-more (less visits) (length section) (v + 1) {x = b - 1} (omega (arith, less-many visits))
+        (omega arith) in
         record {
           size = same ∙ p .size;
           upto = omega arith;
           even = omega arith;
           are-bytes = are;
-          are-bits = rw same (g ∙ ap₂ (λ (i j : ℕ). put 12 (b - 1) (put 12 (a - 1) (bits section) i) j) q s
-              ∙ ap (λ (t : List Bool). put 12 (b - 1) t (12 * (v + 1))) (next (omega arith) e)
-              ∙ front-more (less visits) (length section) (v + 1) (omega (arith, less-many visits)) (omega arith)
-              ∙ ap (front (less visits) (length section)) z);
+          are-bits = cc (next (omega arith) e, two);
         }
 
     pub pairs-last : {a : ℕ} → v < length visits → length visits ≤ v + 1 → a ≡ getD visits v 0
@@ -149,7 +140,7 @@ module _ {visits section : List ℕ} {v at : ℕ} (p : Pairs visits section v at
     pairs-last h k e g =
         let z : v + 1 ≡ length visits = omega arith in
         all-written visits are (same ∙ p .size)
-        (rw same (g ∙ next h e ∙ ap (front (less visits) (length section)) z))
+        (cc (next h e))
 
   pub pairs-end : length visits ≤ v → section ≡ pack (fieldBits (less visits))
   pairs-end h =
