@@ -154,7 +154,7 @@ bridging-begin {g} {k = k} s work z e are = record {
   upto = omega arith;
   same-size = refl;
   are-bytes = are;
-  each = λ F f. ap bits e ∙ zero-bits k ∙ no-marks z ∙ ap bits (upto-none g (bridge g) (childEnd g F));
+  each = λ F f. cc (zero-bits k, no-marks z, upto-none g (bridge g) (childEnd g F));
 }
 
 module _ {g : Blocks} {n s c : ℕ} {work section₀ section : List ℕ} (wf : WellFormed g)

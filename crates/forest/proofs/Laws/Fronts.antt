@@ -5,7 +5,7 @@
 --   numbers-asked                what `write_numbers` asks for
 --   ready, begins-nothing        before the first section
 --   index-all                    the search of all vertices
-use mathlib.Core.Path.{_≡_, refl, sym, ap, ap₂, _∙_}
+use mathlib.Core.Path.{_≡_, refl, sym, ap, _∙_}
 use mathlib.Core.Bool.{false}
 use mathlib.Core.List.{List, [], _++_, map, append-assoc, append-nil}
 use Prim.Native.Nat.{ℕ, _+_, _-_, _*_, _≤_, _<_}
@@ -45,16 +45,14 @@ module _ {n k : ℕ} {front index : List ℕ} (b : Begins n k front index) (from
   advance same = record {
     size = same ∙ b .size;
     rest = drop w (drop from index);
-    is = ap₂ (λ (x y : List ℕ). x ++ (y ++ drop w (drop from index))) kept e
-        ∙ sym (append-assoc front next (drop w (drop from index)));
+    is = cc (kept, append-assoc front next (drop w (drop from index)));
   }
 
   -- to the end
   last : length index ≤ from + w → putMid from w index section ≡ front ++ next
   last h =
       let l : length (drop from index) ≤ w = simp length-drop (omega arith) in
-      ap₂ (λ (x y : List ℕ). x ++ y) kept
-      (ap₂ (λ (x y : List ℕ). x ++ y) e (drop-of-length-le (drop from index) l) ∙ append-nil next)
+      cc (kept, drop-of-length-le (drop from index) l, append-nil next)
 
 -- ---- the sections of the index
 

@@ -6,7 +6,7 @@
 --   listed, listed-below   the ones of the list are the section; its bits are there
 --   Marking     the ones of the first c places of a list are set
 --   marking-begin, marking-more, marking-end   before the first, at the next, and past the last
-use mathlib.Core.Path.{_≡_, refl, sym, ap, ap₂, _∙_}
+use mathlib.Core.Path.{_≡_, refl, ap, _∙_}
 use mathlib.Core.Bool.{Bool, true, false}
 use mathlib.Core.List.{List, [], _∷_, _++_}
 use Prim.Native.Nat.{ℕ, zero, suc, _+_, _*_, _≤_, _<_}
@@ -88,8 +88,7 @@ module _ {g : Blocks} {mark : PlaceTest} {owner : ℕ → ℕ → ℕ} {list : L
       → bits bytes ≡ set (markAll list (replicate (8 * k) false)) 0 false → bytes ≡ marked g mark
   listed {k = k} e are is =
       same-bits g mark are
-      (is ∙ ap (λ (x : List ℕ). set (markAll x (replicate (8 * k) false)) 0 false) (sym (take-length list))
-      ∙ listed-to e (length list) (omega arith) ∙ ap bits (upto-all g mark owner (l .all)))
+      (cc (take-length list, listed-to e (length list) (omega arith), upto-all g mark owner (l .all)))
 
   pub listed-below : {n m k : ℕ} → Sized g n m k → 0 < n → Below (8 * k) list
   listed-below z h c i = owns-below z h (l .each c i)
@@ -105,12 +104,8 @@ pub marking-begin : (list : List ℕ) (k : ℕ) {section : List ℕ} → section
     → Marking list section section 0
 unfolding markAll
 marking-begin list k {section} e =
-    let l : k ≡ length section = sym (ap length e ∙ length-replicate {A = ℕ} k 0) in
-    record {
-      upto = omega arith;
-      same-size = refl;
-      are-bits = ap bits e ∙ zero-bits k ∙ ap (λ (x : ℕ). replicate (8 * x) false) l;
-    }
+    let l = length-replicate {A = ℕ} k 0 in
+    record { upto = omega arith; same-size = refl; are-bits = cc (zero-bits k) }
 
 module _ {list section₀ section : List ℕ} {c : ℕ} (t : Marking list section₀ section c) where
   pub marking-more : {x : ℕ} {next : List ℕ} → c < length list → x ≡ getD list c 0
@@ -118,12 +113,9 @@ module _ {list section₀ section : List ℕ} {c : ℕ} (t : Marking list sectio
   marking-more h q s = record {
     upto = omega arith;
     same-size = s .1 ∙ t .same-size;
-    are-bits = s .0 ∙ ap₂ (λ (b : List Bool) (i : ℕ). set b i true) (t .are-bits) q
-        ∙ sym (mark-more list c (replicate (8 * length section₀) false) h);
+    are-bits = cc (mark-more list c (replicate (8 * length section₀) false) h);
   }
 
   pub marking-end : {next : List Bool} (k : ℕ) → length section₀ ≡ k → length list ≤ c
       → next ≡ set (bits section) 0 false → next ≡ set (markAll list (replicate (8 * k) false)) 0 false
-  marking-end k e h s =
-      s ∙ ap (λ (x : List Bool). set x 0 false) (t .are-bits
-      ∙ ap₂ (λ (x : List ℕ) (i : ℕ). markAll x (replicate (8 * i) false)) (take-all c list h) e)
+  marking-end k e h s = cc (take-all c list h)
