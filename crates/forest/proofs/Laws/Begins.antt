@@ -34,9 +34,7 @@ busy-start {n} {i} {cur} e h = ltb-true i n (rw (le-ltb 0 cur h) at e)
 idle : {n i cur : ℕ} → (ltb 0 cur || ltb i n) ≡ false → (cur ≡ 0) × (n ≤ i)
 idle {n} {i} {cur} e =
     let (a, b) = neither (ltb 0 cur) (ltb i n) e in
-    let c = ltb-false 0 cur a in
-    let d = ltb-false i n b in
-    (omega arith, d)
+    (omega (arith, ltb-false 0 cur a), ltb-false i n b)
 
 -- no vertex is at hand, and i is the next start
 module _ {g : Blocks} {starts : List ℕ} {n s : ℕ} {work : List ℕ} {left cur k : ℕ} (none : cur ≤ 0) where
@@ -101,9 +99,7 @@ module _ {starts nbrs : List ℕ} (a : Arrays starts nbrs) {n : ℕ} (fit : n + 
     entered v h = let size = as-many starts nbrs fit in spans .whole v (omega arith)
 
     visits : (v : ℕ) → v < n → getD work (2 * s + v) 0 ≡ suc (number (forestOf (cut starts nbrs) n) v)
-    visits v h =
-        let size = as-many starts nbrs fit in
-        kept .visit-cells v (omega arith) ∙ visit-entered (entered v h)
+    visits v h = kept .visit-cells v (omega (arith, as-many starts nbrs fit)) ∙ visit-entered (entered v h)
 
     pub search-ended : Searched (cut starts nbrs) (forestOf (cut starts nbrs) n) n s work
     search-ended = record {
@@ -111,10 +107,7 @@ module _ {starts nbrs : List ℕ} (a : Arrays starts nbrs) {n : ℕ} (fit : n + 
       room = t .tied .room;
       visits = visits;
       parents = λ v h. kept .parent-cells v (entered v h);
-      order = λ j h.
-          let size = as-many starts nbrs fit in
-          let many = forest-length spans in
-          kept .order-cells j (omega arith);
+      order = λ j h. kept .order-cells j (omega (arith, as-many starts nbrs fit, forest-length spans));
       downs = λ v h. t .tied .downs v h (λ z. (let y = visits v h in omega arith))
           ∙ ap₂ (downBit (cut starts nbrs)) (kept .parent-cells v (entered v h)) (kept .slot-cells v (entered v h));
     }

@@ -29,10 +29,7 @@ module _ {g : Blocks} (wf : WellFormed g) {F : Forest} (span : Spanning g F) {c 
   -- a place that counts is no way back
   not-back : {back : ℕ} → (parent F c ≡ suc v → back ≡ 0 → ⊥) → Passed g g F c j back → Back g g F c j → ⊥
   not-back d (unmet z m) b = d (back-parent (both-ends wf) (span .built) b ∙ ap suc (p .leads)) z
-  not-back d (met r) b =
-      let e = back-once (both-ends wf) (span .built) b (r .is-back) in
-      let l = r .before in
-      omega arith
+  not-back d (met r) b = omega (arith, back-once (both-ends wf) (span .built) b (r .is-back), r .before)
 
   passed-more : {back : ℕ} → (parent F c ≡ suc v → back ≡ 0 → ⊥) → Passed g g F c j back → Passed g g F c (suc j) back
   passed-more d (met r) =

@@ -56,10 +56,7 @@ module _ {starts nbrs : List ℕ} (a : Arrays starts nbrs) {n : ℕ} (fit : n + 
   hand = rw is-cur at (t .loop)
 
   pub hand-vertex : u < n
-  hand-vertex =
-      let l = as-many starts nbrs fit in
-      let v = loop-vertex hand in
-      omega arith
+  hand-vertex = omega (arith, as-many starts nbrs fit, loop-vertex hand)
 
   module _ {from end p : ℕ} (is-from : from ≡ getD work u 0) (is-end : end ≡ getD starts cur 0)
       (d : PassedTo nbrs s work from end p) where
@@ -90,10 +87,7 @@ module _ {starts nbrs : List ℕ} (a : Arrays starts nbrs) {n : ℕ} (fit : n + 
     pos = p - getD starts u 0
 
     place-is : getD starts u 0 + pos ≡ p
-    place-is =
-        let f = from-next in
-        let l = d .low in
-        omega arith
+    place-is = omega (arith, from-next, d .low)
 
     module _ {v : ℕ} (h : p < end) (is-v : v ≡ getD nbrs p 0) where
       next-place : Place (cut starts nbrs) u pos v

@@ -8,6 +8,7 @@ use mathlib.Core.List.{List}
 use Prim.Native.Nat.{ℕ, _+_, _*_, _≤_, _<_}
 use native.Mathlib.Decide.{ℕ-discrete}
 use native.Mathlib.Omega.{arith}
+use borrow.Author.Needs.{needs}
 use lib.ListN.{length, getD}
 use Rattle.graph.specs.Graph.{Blocks}
 use Rattle.graph.specs.Laws.Loop.Arrays.{Enters}
@@ -16,13 +17,7 @@ use Rattle.forest.proofs.Laws.Stores.{Put, put-length, put-other, put-h
 use Rattle.forest.proofs.Laws.Stores.{changed, stored-changed, stored-after}
 
 pub room-after : {n s : ℕ} {work next : List ℕ} → Room n s work → length next ≡ length work → Room n s next
-room-after r e = record {
-  some = r .some;
-  few = r .few;
-  apart = r .apart;
-  near = r .near;
-  size = let z = r .size in omega arith;
-}
+room-after r e = search needs
 
 module _ {g : Blocks} {starts : List ℕ} {n s : ℕ} {work : List ℕ} {next-of slot-of : ℕ → ℕ}
     (t : Tied g starts n s work next-of slot-of) where

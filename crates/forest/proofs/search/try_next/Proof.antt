@@ -30,10 +30,7 @@ end-fits c =
 
 -- a place before that end
 place-fits : (c : tie.After-get3) → stopped c .pass-visited .result < 32768
-place-fits c =
-    let f = end-fits (ended (stopped c)) in
-    let p = begin (ended (stopped c)) .pre .0 .0 .divided .few-places in
-    omega arith
+place-fits c = omega (arith, end-fits (ended (stopped c)), begin (ended (stopped c)) .pre .0 .0 .divided .few-places)
 
 -- the neighbour there, which is to be entered
 fits : (c : tie.After-get3)
