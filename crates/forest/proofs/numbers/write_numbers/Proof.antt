@@ -31,10 +31,7 @@ loop-holds c =
     (λ j. c .slice-known2 .given j .fits)
 
 write-pair-requires : tie.Need-write-pair-requires Inv-loop μ-loop
-write-pair-requires c κs =
-    let a = c .before .visit .ensures in
-    let b = c .visit2 .ensures in
-    (pairs-room (pair c .loop .inv) (omega arith), a .1, a .2, b .1, b .2)
+write-pair-requires c κs = let r = pairs-room (pair c .loop .inv) (omega arith) in search needs
 
 loop-again : tie.Need-loop-again Inv-loop μ-loop
 loop-again c =
@@ -45,9 +42,9 @@ loop-again c =
 write-last-requires : tie.Need-write-last-requires Inv-loop μ-loop
 write-last-requires c κs =
     let l = last c in
-    let a = c .visit3 .ensures in
     let f = start l .pre .0 .few in
-    (omega arith, pairs-rest (l .loop .inv) (omega arith), a .1, a .2)
+    let r = pairs-rest (l .loop .inv) (omega arith) in
+    search needs
 
 returns : tie.Need-returns Inv-loop μ-loop
 returns c =

@@ -26,8 +26,9 @@ returns c = λ roots t. c .before .before .try-next .ensures roots _ t
 
 try-start-requires : tie.Need-try-start-requires
 try-start-requires c κs =
-    let b = begin (c .before) .pre in
-    ((b .0 .0, b .0 .1, start (c .before)), underway-start (c .before .if1 .left) (b .1))
+    let h = start (c .before) in
+    let t = underway-start (c .before .if1 .left) (begin (c .before) .pre .1) in
+    search needs
 
 add-t17 : tie.Need-add-t17
 add-t17 c = let h = start (c .before .before .before .before) in omega arith

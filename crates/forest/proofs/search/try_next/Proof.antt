@@ -1,12 +1,10 @@
 -- `search::try_next` meets its contract.
 use Prim.Native.Nat.{_-_, _≤_, _<_}
-use mathlib.Core.Path.{ap, _∙_}
 use native.Mathlib.Omega.{arith}
 use borrow.Author.Needs.{needs}
-use lib.ListN.{length, length-set}
+use lib.ListN.{length}
 use Rattle.record.specs.Laws.Rows.{starts-fit}
 use Rattle.forest.proofs.Laws.Graphs.{known}
-use Rattle.forest.proofs.Laws.Tied.{room-after}
 use Rattle.forest.proofs.Laws.Stepping.{next-fits, next-left, next-entered}
 use Rattle.forest.proofs.search.try_next.Statement.{statement}
 use Rattle.forest.proofs.search.try_next.Tie as tie
@@ -56,13 +54,9 @@ enter-requires : tie.Need-enter-requires
 enter-requires c κs =
     let d = c .before .before .before .before .before in
     let r = begin (ended (stopped d)) .pre .1 .searching .tied .room in
-    let p = place-fits d in (
-      room-after r (ap length (c .before .before .before .put .ensures) ∙ simp length-set),
-      fits d .0,
-      fits d .1,
-      omega arith,
-      omega arith,
-    )
+    let f = fits d in
+    let p = place-fits d in
+    search needs
 
 add-t25 : tie.Need-add-t25
 add-t25 c = let r = fits (c .before .before .before .before .before .before .before .before) in omega arith

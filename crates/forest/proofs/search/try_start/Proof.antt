@@ -18,9 +18,7 @@ room-left c =
     new-room (b .1 .searching) (as-many (a .starts .now) (a .nbrs .now) (b .0 .1)) (b .0 .2) (cc)
 
 enter-requires : tie.Need-enter-requires
-enter-requires c κs =
-    let b = begin (c .before .before) .pre in
-    (b .1 .searching .tied .room, b .0 .2, room-left (c .before), omega arith, omega arith)
+enter-requires c κs = let r = room-left (c .before) in search needs
 
 add-t19 : tie.Need-add-t19
 add-t19 c = let r = room-left (c .before .before .before .before) in omega arith
