@@ -32,7 +32,6 @@ use Rattle.forest.proofs.Laws.Tied.{room-after}
 stays-searched : {g : Blocks} {F : Forest} {n s : ℕ} {work next : List ℕ} → length next ≡ length work
     → ((i : ℕ) → s ≤ i → i < 5 * s → getD next i 0 ≡ getD work i 0) → Searched g F n s work → Searched g F n s next
 stays-searched {n = n} {s = s} e same a =
-    let o = a .room .apart in
     record {
       spans = a .spans;
       room = room-after (a .room) e;
@@ -120,7 +119,6 @@ module _ {g : Blocks} {n s : ℕ} {work₀ work : List ℕ} {c : ℕ} (f : Fille
           → LowAt g F x (length (block g x)) (getD next (5 * s + x) 0) (getD next x 0)
       more F a x l (yes e) = rw (e, low-here, back-here) (own F (f .searched F a))
       more F a x l (no d) =
-          let o = r in
           let b = other (5 * s + x) (λ e. d (omega arith)) (λ e. omega arith) in
           rw (b, other x (λ e. omega arith) d) (f .each F a x (omega arith))
 
@@ -228,13 +226,11 @@ module _ {g : Blocks} {n s k : ℕ} {work₀ work : List ℕ} (t : Swept g n s w
   pub swept-asks : {before : List ℕ} → 0 < k → length g ≡ n → Searches g n s before → Lowers g n s before work₀ n
       → (length g ≡ n) × (k - 1 < n) × Lifts g n s work (k - 1 + 1)
   swept-asks h many a l =
-      let u = t .upto in
       (many, omega arith, record { forest = a .forest; lifting = again h (a .forest) (l (a .forest) (a .searched)) })
 
   pub swept-more : {next : List ℕ} → 0 < k → LiftsOne g n s work next (k - 1) → length next ≡ length work
       → Swept g n s work₀ next (k - 1)
   swept-more h one e =
-      let u = t .upto in
       record { upto = omega arith; same-size = e ∙ t .same-size; each = λ F f. one F (again h F f) }
 
   pub swept-end : {before : List ℕ} → k ≤ 0 → Lowers g n s before work₀ n → Lowers g n s before work 0

@@ -60,7 +60,6 @@ module _ {g : Blocks} (wf : WellFormed g) {F : Forest} (span : Spanning g F) {c 
         passed = met (record { slot = j; before = omega arith; is-back = w; is = omega arith });
       }
   low-step e f is-at (counts d a b) l =
-      let q = l .is-low in
       record {
         least-number = min (l .least-number) (number F v);
         is-low = omega arith;
@@ -103,7 +102,6 @@ module _ {starts nbrs : List ℕ} {n c : ℕ}
         → LowStep c up p (getD nbrs p 0) (getD work (2 * s + getD nbrs p 0) 0) low back low′ back′
         → (low′ < 65536) × (back′ < 65536) → LowTo starts nbrs n s work c (p + 1) low′ back′
     looked-more {up} {low′} {back′} is-up k step fits =
-        let f = t .from in
         record { from = omega arith; upto = omega arith; low-fits = fits .0; back-fits = fits .1; at = more }
       where
         place : Place (cut starts nbrs) c (p - getD starts c 0) (getD nbrs p 0)

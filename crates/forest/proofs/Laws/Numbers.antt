@@ -144,7 +144,6 @@ module _ {visits section : List ℕ} {v at : ℕ} (p : Pairs visits section v at
 
   pub pairs-end : length visits ≤ v → section ≡ pack (fieldBits (less visits))
   pairs-end h =
-      let u = p .upto in
       let z : v ≡ length visits = omega arith in
       all-written visits (p .are-bytes) (p .size) (p .are-bits ∙ ap (front (less visits) (length section)) z)
 

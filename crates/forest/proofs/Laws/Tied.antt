@@ -40,7 +40,6 @@ module _ {g : Blocks} {starts : List ℕ} {n s : ℕ} {work : List ℕ} {next-of
       where
         at : (v : ℕ) → v < n → Dec (v ≡ u) → getD mid v 0 ≡ getD starts v 0 + changed next-of u x v
         at v l (yes e) =
-            let r = t .room in
             rw e (cc (put-here p (omega arith), stored-changed n next-of u x .hit))
         at v l (no d) = cc (put-other p v d, t .nexts v l, stored-changed n next-of u x .rest v l d)
 

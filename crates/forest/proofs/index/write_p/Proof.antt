@@ -18,7 +18,6 @@ size s = part-size (s .args .k) (2 * s .args .k) (s .args .index .now) (omega ar
 slice-aggregate-mark-listed : tie.Need-slice-aggregate-mark-listed
 slice-aggregate-mark-listed c =
     let s = c .before .before .before .before .before in
-    let r = s .pre .0 .lifting .searched .room in
     sym (length-take-le (s .args .n) (s .args .work .now) (omega arith))
 
 mark-listed-requires : tie.Need-mark-listed-requires

@@ -11,7 +11,6 @@ use Rattle.forest.proofs.index.write_rest.Tie as tie
 write-numbers-requires : tie.Need-write-numbers-requires
 write-numbers-requires c κs =
     let s = c .before .before .before .before .before .before in
-    let e = s .pre .1 .size in
     numbers-asked (s .pre .0)
     (part-size (3 * s .args .k) (length (s .args .index .now)) (s .args .index .now) (omega arith) (omega arith))
 
