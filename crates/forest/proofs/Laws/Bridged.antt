@@ -171,7 +171,6 @@ module _ {g : Blocks} {n s c : ℕ} {work section₀ section : List ℕ} (wf : W
       × ((getD work (4 * s + c) 0 < 8 * length section) × (getD work c 0 < 8 * length section))
   bridging-asks z e l h =
       let f = l .lifting in
-      let q = t .same-size in
       let a = owns-below z (f .searched .room .some) (down (z .vertices) f h) in
       let b = owns-below z (f .searched .room .some) (up f h) in
       ((f .searched .room, h), (omega arith, omega arith))

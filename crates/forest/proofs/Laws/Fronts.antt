@@ -64,8 +64,7 @@ module _ {g : Blocks} {F : Forest} {n m s k : ℕ} {work : List ℕ} (r : Ready 
   length-upToP = simp length-append (omega (arith, length-upToE, length-marks (r .sized) (parentMark g g F)))
 
   pub length-upToB : length (upToB g F) ≡ 3 * k
-  length-upToB =
-      length-append (upToP g F) _ ∙ omega (arith, length-upToP, length-marks (r .sized) (bridge g))
+  length-upToB = length-append (upToP g F) _ ∙ omega (arith, length-upToP, length-marks (r .sized) (bridge g))
 
   -- E and P, from a list of bits
   module _ {mark : PlaceTest} {owner : ℕ → ℕ → ℕ} {list : List ℕ} (l : Lists g mark owner list) {len : ℕ}

@@ -39,8 +39,7 @@ mark-append (i ∷ a) b s = mark-append a b (set s i true)
 pub mark-more : (l : List ℕ) (c : ℕ) (s : List Bool) → c < length l
     → markAll (take (c + 1) l) s ≡ set (markAll (take c l) s) (getD l c 0) true
 unfolding markAll
-mark-more l c s h =
-    rw (add-one c, take-suc l c 0 h) (mark-append (take c l) (getD l c 0 ∷ []) s)
+mark-more l c s h = rw (add-one c, take-suc l c 0 h) (mark-append (take c l) (getD l c 0 ∷ []) s)
 
 -- ---- what one owner marks
 
@@ -58,8 +57,7 @@ owns-below {g} z h (one u j f e o x) = omega (arith, sized-bits z, bit-fits g u 
 owns-more : {g : Blocks} {mark : PlaceTest} {owner : ℕ → ℕ → ℕ} {c bit : ℕ} (s : List Bool) → Owns g mark owner c bit
     → set s 0 false ≡ bits (marked g (upTo mark owner c))
     → set (set s bit true) 0 false ≡ bits (marked g (upTo mark owner (c + 1)))
-owns-more {g} {mark} {owner} {c} s (nothing e n) is =
-    cc (set-set s 0 true false, owns-none g mark owner c n)
+owns-more {g} {mark} {owner} {c} s (nothing e n) is = cc (set-set s 0 true false, owns-none g mark owner c n)
 owns-more {g} {mark} {owner} {c} {bit} s (one u j f e o n) is =
     let other = set-comm s bit 0 true false (λ q. omega arith) in
     cc (bits-also g (upTo mark owner c) u j f, owns-one g mark owner c o n)

@@ -110,7 +110,6 @@ module _ {starts nbrs : List ℕ} {n c : ℕ}
         more : (F : Forest) → Searched (cut starts nbrs) F n s work
             → LowAt (cut starts nbrs) F c (p + 1 - getD starts c 0) low′ back′
         more F a =
-            let f = t .from in
             let size = as-many starts nbrs (pre .2) in
             let begin = start-cut (pre .0 .divided) c (omega arith) in
             let inside = pre .1 .in-range c _ _ place in
@@ -120,7 +119,6 @@ module _ {starts nbrs : List ℕ} {n c : ℕ}
 
     pub looked-end : getD starts (c + 1) 0 ≤ p → OwnLow (cut starts nbrs) n s work c low back
     looked-end k F a =
-        let u = t .upto in
         let b = row-end (pre .0) (pre .2) (pre .3) in
         let e : p - getD starts c 0 ≡ length (block (cut starts nbrs) c) = omega arith in
         rw e at (t .at F a)

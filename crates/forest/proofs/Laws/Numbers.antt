@@ -121,7 +121,6 @@ module _ {visits section : List ℕ} {v at : ℕ} (p : Pairs visits section v at
         → bits after ≡ put 12 (b - 1) (put 12 (a - 1) (bits section) (8 * at)) (8 * at + 12)
         → Pairs visits after (v + 2) (at + 3)
     pairs-more {a} {b} h e f g =
-        let q = p .even in
         let y = less-at visits (v + 1) in
         let s : 8 * at + 12 ≡ 12 * (v + 1) = omega arith in
         let z : v + 1 + 1 ≡ v + 2 = omega arith in
@@ -166,7 +165,6 @@ module _ {g : Blocks} {F : Forest} {n s : ℕ} {work : List ℕ} (many : length 
   pub listed-visits : Visits (visitCells n s work)
   listed-visits =
       let l = visits-many in
-      let f = a .room .few in
       record {
         few = omega arith;
         some = λ v h. (let e = visit-at v (omega arith) in omega arith);

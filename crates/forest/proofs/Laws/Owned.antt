@@ -83,7 +83,6 @@ pub children : {g : Blocks} {F : Forest} {n s : ℕ} {work : List ℕ} → lengt
     → Lists g (childMark F) (target g) (take (4 * s + n - 4 * s) (drop (4 * s) work))
 children {g} {n = n} {s = s} {work = work} many a =
     let span = a .spans in
-    let r = a .room in
     let fits : 4 * s + n ≤ length work = omega arith in
     let l = part-size (4 * s) (4 * s + n) work refl fits in
     record {
@@ -99,7 +98,6 @@ children {g} {n = n} {s = s} {work = work} many a =
 pub parents : {g : Blocks} {F : Forest} {n s i : ℕ} {work : List ℕ} → WellFormed g → length g ≡ n
     → Lifting g F n s work i → Lists g (parentMark g g F) (λ u j. u) (take n work)
 parents {n = n} {work = work} wf many f =
-    let r = f .searched .room in
     let l = length-take-le n work (omega arith) in
     record {
       each = λ c h. rw (getD-take n work c 0 (omega arith))

@@ -30,14 +30,11 @@ module _ {starts : List ℕ} {n s : ℕ} {work : List ℕ} {v : ℕ} (t : Begun 
       q = record { is = f ∙ ap (set mid v) i }
 
       visit : (x : ℕ) → x < v + 1 → Dec (x ≡ v) → getD next (2 * s + x) 0 ≡ 0
-      visit x l (yes e) =
-          let r = room in
-          rw e (put-other q (2 * s + v) (λ z. omega arith) ∙ put-here p (omega arith))
+      visit x l (yes e) = rw e (put-other q (2 * s + v) (λ z. omega arith) ∙ put-here p (omega arith))
       visit x l (no d) =
           put-other q (2 * s + x) (λ z. omega arith) ∙ put-other p (2 * s + x) (λ z. d (omega arith))
           ∙ t .unvisited x (omega arith)
 
       place : (x : ℕ) → x < v + 1 → Dec (x ≡ v) → getD next x 0 ≡ getD starts x 0
       place x l (yes e) = let r = room in rw e (put-here q (omega (arith, put-length p)))
-      place x l (no d) =
-          put-other q x d ∙ put-other p x (λ z. omega arith) ∙ t .at-start x (omega arith)
+      place x l (no d) = put-other q x d ∙ put-other p x (λ z. omega arith) ∙ t .at-start x (omega arith)

@@ -115,7 +115,6 @@ module _ {starts nbrs : List ℕ} (a : Arrays starts nbrs) {n : ℕ} (fit : n + 
 
         behind : (i : ℕ) → s ≤ i → getD mid i 0 ≡ getD work i 0
         behind i l =
-            let r = t .tied .room .apart in
             let w = hand-vertex in
             put-other store i (λ q. omega arith)
 
@@ -139,7 +138,6 @@ module _ {starts nbrs : List ℕ} (a : Arrays starts nbrs) {n : ℕ} (fit : n + 
             let c = enters {n = n} pos work (t .next-of) later (t .slot-of) behind x z in
             let y = stored-changed (length (cut starts nbrs)) (t .next-of) u (suc pos) in
             let f = from-next in
-            let b = place-is in
             rw (add-one v, add-one k)
             (searching (tied-enter tied-mid pos x bit-is)
             (loop-enter-at hand (in-range a) (omega arith) (passed pos (omega arith)) next-place next-new y

@@ -39,8 +39,7 @@ module _ {g : Blocks} {starts : List ℕ} {n s : ℕ} {work : List ℕ} {next-of
     }
       where
         at : (v : ℕ) → v < n → Dec (v ≡ u) → getD mid v 0 ≡ getD starts v 0 + changed next-of u x v
-        at v l (yes e) =
-            rw e (cc (put-here p (omega arith), stored-changed n next-of u x .hit))
+        at v l (yes e) = rw e (cc (put-here p (omega arith), stored-changed n next-of u x .hit))
         at v l (no d) = cc (put-other p v d, t .nexts v l, stored-changed n next-of u x .rest v l d)
 
         new : (v : ℕ) → v < n → getD work (2 * s + v) 0 ≡ 0 → changed next-of u x v ≡ 0
@@ -62,7 +61,6 @@ module _ {g : Blocks} {starts : List ℕ} {n s : ℕ} {work : List ℕ} {next-of
         other : (x : ℕ) → getD next (2 * s + x) 0 ≡ 0 → x ≡ v → ⊥
         other x z q =
             let y = ap (λ i. getD next (2 * s + i) 0) q in
-            let h = e .visits-set .hit in
             omega arith
 
         at : (x : ℕ) → x < n → (getD next (2 * s + x) 0 ≡ 0 → ⊥) → Dec (x ≡ v)

@@ -48,7 +48,6 @@ module _ {bytes : List ℕ} {s : List Bool} {start : ℕ} (w : Within bytes s st
   -- it is a string of the whole
   string-of : (places : ℕ) → length s ≡ places → string bytes (8 * start) places ≡ s
   string-of places e =
-      let l = w .long in
       let n = ap length (w .is) ∙ length-append (w .before) _ in
       let z = length-append (pack s) (w .after) in
       let fits : 8 * start + places ≤ 8 * length bytes = omega (arith, length-pack s) in
@@ -61,7 +60,6 @@ module _ {bytes : List ℕ} {s : List Bool} {start : ℕ} (w : Within bytes s st
   filled : {places : ℕ} → length s ≡ places → (i : ℕ) → 8 * start + places ≤ i
       → i < 8 * (start + (places + 7) / 8) → getD (bits bytes) i false ≡ false
   filled {places} f i h k =
-      let l = w .long in
       let n = length-bits (w .before) in
       let j : ℕ = i - (8 * start + places) in
       let e : i ≡ length (bits (w .before)) + (length s + j) = omega arith in

@@ -36,7 +36,6 @@ start-cut {starts} {nbrs} i (suc u) h =
 pub places-cut : {starts nbrs : List ℕ} → Divided starts nbrs → length (flatten (cut starts nbrs)) ≡ length nbrs
 places-cut {starts} {nbrs} i =
     let l = length-cut starts nbrs in
-    let s = i .some in
     let e = start-cut i (length starts - 1) (omega arith) in
     let a = take-all (length starts - 1) (cut starts nbrs) (omega arith) in
     sym (ap (λ (g : Blocks). length (flatten g)) a) ∙ sym e ∙ i .last

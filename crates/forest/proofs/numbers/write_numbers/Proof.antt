@@ -42,7 +42,6 @@ loop-again c =
 write-last-requires : tie.Need-write-last-requires Inv-loop μ-loop
 write-last-requires c κs =
     let l = last c in
-    let f = start l .pre .0 .few in
     let r = pairs-rest (l .loop .inv) (omega arith) in
     search needs
 

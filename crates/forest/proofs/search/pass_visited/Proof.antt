@@ -24,7 +24,6 @@ get-requires-2 : tie.Need-get-requires-2 Inv-loop μ-loop
 get-requires-2 c κs =
     let l = c .before .before in
     let k = begin l .pre .1 (l .loop .p) (omega arith) in
-    let e = c .get .ensures .0 in
     omega arith
 
 returns : tie.Need-returns Inv-loop μ-loop

@@ -23,7 +23,6 @@ stopped c = c .before .before
 end-fits : (c : tie.After-get) → c .get .result ≤ length (begin c .args .nbrs .now)
 end-fits c =
     let f = starts-fit (begin c .pre .0 .0 .divided) (begin c .args .cur) (omega arith) in
-    let e = c .get .ensures .0 in
     omega arith
 
 -- a place before that end
