@@ -13,7 +13,10 @@ use Rattle.forest.specs.Index.{indexOf, indexLength}
 -- Check's rules, then 9 and 10
 unfoldable pub buildRules : List ℕ → List ℕ → List ℕ → List Rule
 buildRules bytes work index =
-    checkRules bytes ++ ((9, ltb (length work) (8 * terminals bytes)) ∷ (10, otherLength index (indexLength (terminals bytes) (wires bytes))) ∷ [])
+    checkRules bytes
+    ++ ((9, ltb (length work) (8 * terminals bytes))
+    ∷ (10, otherLength index (indexLength (terminals bytes) (wires bytes)))
+    ∷ [])
 
 unfoldable pub build : List ℕ → List ℕ → List ℕ → Answer (Unit {0})
 build bytes work index = tried (buildRules bytes work index) tt

@@ -8,6 +8,7 @@
 --   Known               each neighbour is a vertex
 --   downBit             the bit of the place by which a vertex was entered
 --   cellsOf             the parts as the arrays of a search program
+--   Tied                the cells stand for the next positions and the slots
 --   Searching           where the search stands, for a list of roots and the starts that are still to try
 --   Underway            the same, for some such lists
 --   Begun, Entering, PassedTo, StartTried, NextTried, StepTaken   what one function of the search does
@@ -26,7 +27,7 @@ use Rattle.graph.specs.Laws.Loop.Arrays.{Cells}
 use Rattle.graph.specs.Laws.Loop.Invariant.{Loop}
 use Rattle.forest.specs.Laws.Sections.{placeBit}
 
-unfoldable pub stride : ℕ → ℕ
+abbrev pub stride : ℕ → ℕ
 stride n = n + n / 16
 
 -- the parts have room: n is a number of vertices, and 6·s numbers are there
@@ -57,17 +58,20 @@ cellsOf s next-of slot-of work = record {
   order = λ k. getD work (3 * s + k) 0;
 }
 
--- from here the search of g from these roots ends in its forest; `todo` are the starts that are still to try, cur is 0
--- or 1 + the vertex at hand, and k vertices are entered. A vertex's next place is its start and the next position,
--- which is 0 before it is visited
-pub record Searching (g : Blocks) (roots todo starts : List ℕ) (n s : ℕ) (work : List ℕ) (left cur k : ℕ) : Type 0 where
-  pub next-of : ℕ → ℕ
-  pub slot-of : ℕ → ℕ
+-- a vertex's next place is its start and the next position, which is 0 before it is visited
+pub record Tied (g : Blocks) (starts : List ℕ) (n s : ℕ) (work : List ℕ) (next-of slot-of : ℕ → ℕ) : Type 0 where
   pub room : Room n s work
   pub nexts : (v : ℕ) → v < n → getD work v 0 ≡ getD starts v 0 + next-of v
   pub fresh : (v : ℕ) → v < n → getD work (2 * s + v) 0 ≡ 0 → next-of v ≡ 0
   pub downs : (v : ℕ) → v < n → (getD work (2 * s + v) 0 ≡ 0 → ⊥)
       → getD work (4 * s + v) 0 ≡ downBit g (getD work (s + v) 0) (slot-of v)
+
+-- from here the search of g from these roots ends in its forest; `todo` are the starts that are still to try, cur is 0
+-- or 1 + the vertex at hand, and k vertices are entered
+pub record Searching (g : Blocks) (roots todo starts : List ℕ) (n s : ℕ) (work : List ℕ) (left cur k : ℕ) : Type 0 where
+  pub next-of : ℕ → ℕ
+  pub slot-of : ℕ → ℕ
+  pub tied : Tied g starts n s work next-of slot-of
   pub loop : Loop g (search g all roots) left todo cur k (cellsOf s next-of slot-of work)
 
 -- for some roots, and some starts that are still to try
@@ -78,11 +82,12 @@ pub record Underway (g : Blocks) (starts : List ℕ) (n s : ℕ) (work : List �
 
 -- ---- what one function does
 
--- no vertex is visited, and the place that comes next for each is its start
-pub record Begun (starts : List ℕ) (n s : ℕ) (work : List ℕ) : Type 0 where
+-- the first v vertices are unvisited, and the place that comes next for each is its start
+pub record Begun (starts : List ℕ) (n s : ℕ) (work : List ℕ) (v : ℕ) : Type 0 where
+  pub upto : v ≤ n
   pub room : Room n s work
-  pub unvisited : (v : ℕ) → v < n → getD work (2 * s + v) 0 ≡ 0
-  pub at-start : (v : ℕ) → v < n → getD work v 0 ≡ getD starts v 0
+  pub unvisited : (x : ℕ) → x < v → getD work (2 * s + x) 0 ≡ 0
+  pub at-start : (x : ℕ) → x < v → getD work x 0 ≡ getD starts x 0
 
 -- v is entered as number k under p (0, or 1 + its parent), by the place of this bit
 pub record Entering (n s : ℕ) (work next : List ℕ) (v k p bit : ℕ) : Type 0 where

@@ -1,10 +1,11 @@
 // The index of a graph in two arrays: search, lowpoints, and the sections, written one after the other.
 ghost use mathlib.Core.Path.{_≡_};
+ghost use mathlib.Core.List.{[]};
 ghost use Prim.Native.Nat.{_+_, _*_, _≤_, _<_};
 ghost use lib.ListN.{length};
 ghost use Rattle.graph.specs.Graph.{Blocks, WellFormed};
-ghost use Rattle.adjacency.specs.Arrays.{cut, Arrays, Divided};
-ghost use Rattle.forest.specs.Index.{indexOf, indexBy, numberBytes, indexLength};
+ghost use Rattle.record.specs.Arrays.{cut, Arrays, Divided};
+ghost use Rattle.forest.specs.Index.{indexOf, indexBy, indexLength};
 ghost use Rattle.forest.specs.Steps.{stride as strideOf};
 ghost use Rattle.forest.specs.Lows.{Lifting};
 ghost use Rattle.forest.specs.Fronts.{forestOf, Ready, Begins, upToE, upToP, upToB};
@@ -25,8 +26,8 @@ fn write_e(
 )
     ghost { Blocks }
     requires { λ g. ⌜ cut (now starts) (now nbrs) ≡ g ⌝ }
-    requires { λ g. ⌜ (Ready g (forestOf g n) n m s (now work) k) × (k ≤ length (now index)) ⌝ }
-    ensures { λ g _. ⌜ (Begins (upToE g (forestOf g n)) (now (index .exit))) × (length (now (index .exit)) ≡ length (now (index .entry))) ⌝ }
+    requires { λ g. ⌜ (Ready g (forestOf g n) n m s (now work) k) × (Begins n k [] (now index)) ⌝ }
+    ensures { λ g _. ⌜ Begins n k (upToE g (forestOf g n)) (now (index .exit)) ⌝ }
 {
     let from = 4 * s;
     let to = from + n;
@@ -46,9 +47,10 @@ fn write_p(
 )
     ghost { Blocks }
     requires { λ g. ⌜ cut (now starts) (now nbrs) ≡ g ⌝ }
-    requires { λ g. ⌜ (Ready g (forestOf g n) n m s (now work) k) × (2 * k ≤ length (now index)) ⌝ }
-    requires { λ g. ⌜ Begins (upToE g (forestOf g n)) (now index) ⌝ }
-    ensures { λ g _. ⌜ (Begins (upToP g (forestOf g n)) (now (index .exit))) × (length (now (index .exit)) ≡ length (now (index .entry))) ⌝ }
+    requires { λ g. ⌜
+        (Ready g (forestOf g n) n m s (now work) k) × (Begins n k (upToE g (forestOf g n)) (now index))
+        ⌝ }
+    ensures { λ g _. ⌜ Begins n k (upToP g (forestOf g n)) (now (index .exit)) ⌝ }
 {
     mark_listed(&work[..n], &mut index[k..2 * k]);
 }
@@ -66,9 +68,10 @@ fn write_b(
 )
     ghost { Blocks }
     requires { λ g. ⌜ cut (now starts) (now nbrs) ≡ g ⌝ }
-    requires { λ g. ⌜ (Ready g (forestOf g n) n m s (now work) k) × (3 * k ≤ length (now index)) ⌝ }
-    requires { λ g. ⌜ (Divided (now starts) (now nbrs)) × (Begins (upToP g (forestOf g n)) (now index)) ⌝ }
-    ensures { λ g _. ⌜ (Begins (upToB g (forestOf g n)) (now (index .exit))) × (length (now (index .exit)) ≡ length (now (index .entry))) ⌝ }
+    requires { λ g. ⌜
+        (Ready g (forestOf g n) n m s (now work) k) × (Begins n k (upToP g (forestOf g n)) (now index))
+        ⌝ }
+    ensures { λ g _. ⌜ Begins n k (upToB g (forestOf g n)) (now (index .exit)) ⌝ }
 {
     mark_bridges(starts, nbrs, n, m, s, work, &mut index[2 * k..3 * k]);
 }
@@ -86,8 +89,9 @@ fn write_rest(
 )
     ghost { Blocks }
     requires { λ g. ⌜ cut (now starts) (now nbrs) ≡ g ⌝ }
-    requires { λ g. ⌜ (Ready g (forestOf g n) n m s (now work) k) × (length (now index) ≡ 3 * k + numberBytes n) ⌝ }
-    requires { λ g. ⌜ Begins (upToB g (forestOf g n)) (now index) ⌝ }
+    requires { λ g. ⌜
+        (Ready g (forestOf g n) n m s (now work) k) × (Begins n k (upToB g (forestOf g n)) (now index))
+        ⌝ }
     ensures { λ g _. ⌜ now (index .exit) ≡ indexBy g (forestOf g n) ⌝ }
 {
     let from = 2 * s;
@@ -107,8 +111,12 @@ fn write_sections(
 )
     ghost { Blocks }
     requires { λ g. ⌜ cut (now starts) (now nbrs) ≡ g ⌝ }
-    requires { λ g. ⌜ (Divided (now starts) (now nbrs)) × (n + 1 ≡ length (now starts)) × (length (now nbrs) ≡ 2 * m) ⌝ }
-    requires { λ g. ⌜ (WellFormed g) × (Lifting g (forestOf g n) n s (now work) 0) × (length (now index) ≡ indexLength n m) ⌝ }
+    requires { λ g. ⌜
+        (Divided (now starts) (now nbrs)) × (n + 1 ≡ length (now starts)) × (length (now nbrs) ≡ 2 * m)
+        ⌝ }
+    requires { λ g. ⌜
+        (WellFormed g) × (Lifting g (forestOf g n) n s (now work) 0) × (length (now index) ≡ indexLength n m)
+        ⌝ }
     ensures { λ g _. ⌜ now (index .exit) ≡ indexBy g (forestOf g n) ⌝ }
 {
     let k = super::lengths::mark_bytes(n, m);
@@ -138,7 +146,9 @@ pub fn write_index(
     ghost { Blocks }
     requires { λ g. ⌜ cut (now starts) (now nbrs) ≡ g ⌝ }
     requires { λ g. ⌜ (Arrays (now starts) (now nbrs)) × (n + 1 ≡ length (now starts)) × (length (now nbrs) ≡ 2 * m) ⌝ }
-    requires { λ g. ⌜ (WellFormed g) × (0 < n) × (8 * n ≤ length (now work)) × (length (now index) ≡ indexLength n m) ⌝ }
+    requires { λ g. ⌜
+        (WellFormed g) × (0 < n) × (8 * n ≤ length (now work)) × (length (now index) ≡ indexLength n m)
+        ⌝ }
     ensures { λ g _. ⌜ now (index .exit) ≡ indexOf g ⌝ }
 {
     let s = stride(n);

@@ -17,10 +17,13 @@ pub mod lengths; // lengths.rt: the lengths of a section and of the index
 // A visit number, from 1: the paper's depth-first index.
 pub struct Dfi(pub usize);
 
-// Build: writes the index of an accepted record. What the work slice and the buffer hold before does not matter; a refused call leaves the
-// buffer as it was.
+// Build: writes the index of an accepted record. What the work slice and the buffer hold before does not matter; a
+// refused call leaves the buffer as it was.
 pub fn build(bytes: &[u8], work: &mut [u16], index: &mut [u8]) -> Verdict
-    ensures { λ r. ⌜ (verdict r ≡ buildOf (now (bytes .entry)) (now (work .entry)) (now (index .entry))) × (now (index .exit) ≡ built (now (bytes .entry)) (now (work .entry)) (now (index .entry))) ⌝ }
+    ensures { λ r. ⌜
+        (verdict r ≡ buildOf (now (bytes .entry)) (now (work .entry)) (now (index .entry)))
+        × (now (index .exit) ≡ built (now (bytes .entry)) (now (work .entry)) (now (index .entry)))
+        ⌝ }
 {
     match record::header::laid_out(bytes) {
         Shape::Refused(r) => Verdict::Refused(r),

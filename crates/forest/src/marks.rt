@@ -3,14 +3,14 @@ ghost use mathlib.Core.Path.{_≡_};
 ghost use mathlib.Core.Bool.{false};
 ghost use Prim.Native.Nat.{_+_, _*_, _<_};
 ghost use lib.ListN.{length, getD, set, replicate};
-ghost use Rattle.bits.specs.Bits.{bits, pack};
+ghost use Rattle.bits.specs.Bits.{bits};
 ghost use Rattle.bits.specs.Laws.Bytes.{AreBytes};
 ghost use Rattle.graph.specs.Graph.{Blocks, WellFormed};
-ghost use Rattle.adjacency.specs.Arrays.{cut, Divided};
-ghost use Rattle.forest.specs.Index.{sectionB, markBytes};
+ghost use Rattle.graph.specs.Joined.{bridge};
+ghost use Rattle.record.specs.Arrays.{cut};
 ghost use Rattle.forest.specs.Steps.{Room};
 ghost use Rattle.forest.specs.Lows.{Lifts};
-ghost use Rattle.forest.specs.Marks.{markAll, Below, BridgeStep};
+ghost use Rattle.forest.specs.Marks.{Sized, markAll, Below, marked, BridgeStep};
 use super::clear::clear;
 use adjacency::cells::get;
 use bits::fields::clear_first;
@@ -70,11 +70,8 @@ pub fn mark_bridges(
 )
     ghost { Blocks }
     requires { λ g. ⌜ cut (now starts) (now nbrs) ≡ g ⌝ }
-    requires { λ g. ⌜
-        (Divided (now starts) (now nbrs)) × (n + 1 ≡ length (now starts)) × (length (now nbrs) ≡ 2 * m)
-        ⌝ }
-    requires { λ g. ⌜ (WellFormed g) × (Lifts g n s (now work) 0) × (length (now section) ≡ markBytes n m) ⌝ }
-    ensures { λ g _. ⌜ now (section .exit) ≡ pack (sectionB g) ⌝ }
+    requires { λ g. ⌜ (Sized g n m (length (now section))) × (WellFormed g) × (Lifts g n s (now work) 0) ⌝ }
+    ensures { λ g _. ⌜ now (section .exit) ≡ marked g (bridge g) ⌝ }
 {
     clear(section);
     let mut c = 0;

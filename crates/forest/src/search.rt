@@ -95,7 +95,7 @@ fn try_next(
 ) -> Hand
     ghost { Blocks }
     requires { λ g. ⌜ cut (now starts) (now nbrs) ≡ g ⌝ }
-    requires { λ g. ⌜ (Arrays (now starts) (now nbrs)) × (n + 1 ≡ length (now starts)) × (0 < cur) ⌝ }
+    requires { λ g. ⌜ (Arrays (now starts) (now nbrs)) × (n + 1 ≡ length (now starts)) × (0 < cur) × (cur ≤ n) ⌝ }
     requires { λ g. ⌜ Underway g (now starts) n s (now work) left cur k ⌝ }
     ensures { λ g r. ⌜
         NextTried g (now (starts .entry)) n s (now (work .entry)) (now (work .exit)) left cur k (r .cur) (r .k)
@@ -167,7 +167,7 @@ fn step(
 // No vertex is visited, and the place that comes next for each is its start.
 fn begin(starts: &[u16], n: usize, s: usize, work: &mut [u16])
     requires { ⌜ (Room n s (now work)) × (n < length (now starts)) ⌝ }
-    ensures { λ _. ⌜ Begun (now (starts .entry)) n s (now (work .exit)) ⌝ }
+    ensures { λ _. ⌜ Begun (now (starts .entry)) n s (now (work .exit)) n ⌝ }
 {
     let mut v = 0;
     while v < n {

@@ -2,7 +2,7 @@
 --   busy-start, underway-start, next-start       no vertex is at hand: the next vertex is a start
 --   From                                         the vertices from i on are still to try
 --   search-begun, searching-busy, search-ended   before the first step, before a step, and after the last
-use mathlib.Core.Path.{_≡_, refl, sym, ap, ap₂, subst, _∙_}
+use mathlib.Core.Path.{_≡_, refl, sym, ap, ap₂, _∙_}
 use mathlib.Core.Bool.{true, false, _||_}
 use mathlib.Core.List.{List, _∷_}
 use Prim.Native.Nat.{ℕ, zero, suc, _+_, _-_, _*_, _≤_, _<_}
@@ -12,17 +12,18 @@ use borrow.Author.Tests.{ltb-true, ltb-false, le-ltb}
 use lib.Dec.{ltb}
 use lib.ListN.{length, getD}
 use Rattle.graph.specs.Graph.{Blocks}
-use Rattle.graph.specs.Search.{all, search, countUp}
+use Rattle.graph.specs.Search.{countUp}
 use Rattle.graph.specs.Forest.{number}
 use Rattle.graph.specs.Laws.Tree.Entries.{Entered}
 use Rattle.graph.specs.Laws.Joined.Spanning.{count-length, count-more, count-none, Covers, covers-vertices}
 use Rattle.graph.specs.Laws.Joined.Spanning.{Spanning, search-spans, forest-length}
 use Rattle.graph.specs.Laws.Loop.Arrays.{Kept, visit-entered}
-use Rattle.graph.specs.Laws.Loop.Invariant.{Loop, loop-begin, loop-end, loop-busy-start, loop-busy}
-use Rattle.adjacency.specs.Arrays.{cut, Arrays}
+use Rattle.graph.specs.Laws.Loop.Invariant.{loop-begin, loop-end, loop-busy-start, loop-busy}
+use Rattle.record.specs.Arrays.{cut, Arrays}
 use Rattle.record.specs.Laws.First.{neither}
 use Rattle.forest.specs.Laws.Starts.{places-cut}
 use Rattle.forest.specs.Steps.{downBit, cellsOf, Searching, Underway, Begun, Searched}
+use Rattle.forest.specs.Fronts.{forestOf}
 use Rattle.forest.proofs.Laws.Graphs.{as-many, in-range}
 
 -- ---- something is left to do
@@ -33,9 +34,7 @@ busy-start {n} {i} {cur} e h = ltb-true i n (rw (le-ltb 0 cur h) at e)
 idle : {n i cur : ℕ} → (ltb 0 cur || ltb i n) ≡ false → (cur ≡ 0) × (n ≤ i)
 idle {n} {i} {cur} e =
     let (a, b) = neither (ltb 0 cur) (ltb i n) e in
-    let c = ltb-false 0 cur a in
-    let d = ltb-false i n b in
-    (omega arith, d)
+    (omega (arith, ltb-false 0 cur a), ltb-false i n b)
 
 -- no vertex is at hand, and i is the next start
 module _ {g : Blocks} {starts : List ℕ} {n s : ℕ} {work : List ℕ} {left cur k : ℕ} (none : cur ≤ 0) where
@@ -66,55 +65,49 @@ all-starts : (starts nbrs : List ℕ) (n : ℕ) → n + 1 ≡ length starts → 
 all-starts starts nbrs n fit = rw (as-many starts nbrs fit) at (covers-vertices (cut starts nbrs))
 
 module _ {starts nbrs : List ℕ} (a : Arrays starts nbrs) {n : ℕ} (fit : n + 1 ≡ length starts) where
-  pub search-begun : {s : ℕ} {work : List ℕ} → Begun starts n s work
+  pub search-begun : {s : ℕ} {work : List ℕ} → Begun starts n s work n
       → From (cut starts nbrs) starts n s work (2 * n + 2 * length nbrs) 0 0 0
   search-begun {s} {work} b =
       let size = as-many starts nbrs fit in
       let c = count-length 0 n in
       let p = places-cut (a .divided) in
-      let e : n ≡ n - 0 = omega arith in
-      let l = loop-begin (in-range a) (all-starts starts nbrs n fit .inside) {c = cellsOf s (λ x. 0) (λ x. 0) work}
-      (λ v h. b .unvisited v (omega arith)) {left = 2 * n + 2 * length nbrs} (omega arith) in
+      let e : n - 0 ≡ n = omega arith in
       record {
         next-of = λ x. 0;
         slot-of = λ x. 0;
-        room = b .room;
-        nexts = λ v h. let q = b .at-start v h in omega arith;
-        fresh = λ v h z. refl;
-        downs = λ v h d. absurd (d (b .unvisited v h));
-        loop = subst (λ x. Loop (cut starts nbrs) (search (cut starts nbrs) all (countUp 0 n)) (2 * n + 2 * length nbrs)
-            (countUp 0 x) 0 0 (cellsOf s (λ x. 0) (λ x. 0) work)) e l;
+        tied = record {
+          room = b .room;
+          nexts = λ v h. let q = b .at-start v h in omega arith;
+          fresh = λ v h z. refl;
+          downs = λ v h d. absurd (d (b .unvisited v h));
+        };
+        loop = rw e (loop-begin (in-range a) (all-starts starts nbrs n fit .inside)
+            (λ v h. b .unvisited v (omega arith)) (omega arith));
       }
 
   module _ {s : ℕ} {work : List ℕ} {left cur k : ℕ} (i : ℕ) (t : From (cut starts nbrs) starts n s work left i cur k)
       (e : (ltb 0 cur || ltb i n) ≡ false) where
-    spans : Spanning (cut starts nbrs) (search (cut starts nbrs) all (countUp 0 n))
+    spans : Spanning (cut starts nbrs) (forestOf (cut starts nbrs) n)
     spans = search-spans (in-range a) (all-starts starts nbrs n fit)
 
-    kept : Kept (cut starts nbrs) (search (cut starts nbrs) all (countUp 0 n))
-        (cellsOf s (t .next-of) (t .slot-of) work)
+    kept : Kept (cut starts nbrs) (forestOf (cut starts nbrs) n) (cellsOf s (t .next-of) (t .slot-of) work)
     kept =
         let (none, done) = idle {n = n} {i = i} {cur = cur} e in
         loop-end (rw (none, count-none n i done) at (t .loop))
 
-    entered : (v : ℕ) → v < n → Entered v (search (cut starts nbrs) all (countUp 0 n))
+    entered : (v : ℕ) → v < n → Entered v (forestOf (cut starts nbrs) n)
     entered v h = let size = as-many starts nbrs fit in spans .whole v (omega arith)
 
-    visits : (v : ℕ) → v < n → getD work (2 * s + v) 0 ≡ suc (number (search (cut starts nbrs) all (countUp 0 n)) v)
-    visits v h =
-        let size = as-many starts nbrs fit in
-        kept .visit-cells v (omega arith) ∙ visit-entered (entered v h)
+    visits : (v : ℕ) → v < n → getD work (2 * s + v) 0 ≡ suc (number (forestOf (cut starts nbrs) n) v)
+    visits v h = kept .visit-cells v (omega (arith, as-many starts nbrs fit)) ∙ visit-entered (entered v h)
 
-    pub search-ended : Searched (cut starts nbrs) (search (cut starts nbrs) all (countUp 0 n)) n s work
+    pub search-ended : Searched (cut starts nbrs) (forestOf (cut starts nbrs) n) n s work
     search-ended = record {
       spans = spans;
-      room = t .room;
+      room = t .tied .room;
       visits = visits;
       parents = λ v h. kept .parent-cells v (entered v h);
-      order = λ j h.
-          let size = as-many starts nbrs fit in
-          let many = forest-length spans in
-          kept .order-cells j (omega arith);
-      downs = λ v h. t .downs v h (λ z. (let y = visits v h in omega arith))
+      order = λ j h. kept .order-cells j (omega (arith, as-many starts nbrs fit, forest-length spans));
+      downs = λ v h. t .tied .downs v h (λ z. (let y = visits v h in omega arith))
           ∙ ap₂ (downBit (cut starts nbrs)) (kept .parent-cells v (entered v h)) (kept .slot-cells v (entered v h));
     }

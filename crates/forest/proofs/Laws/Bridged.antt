@@ -1,9 +1,8 @@
 -- Section B, vertex by vertex: where a vertex's lowpoint is its own visit number, it owns both ends of the edge to it.
 --   bridge-step   what a vertex does to the bits
---   step-root, step-stays, step-parts   the same, as the code finds it
 --   Bridging      the marks of the vertices below c are there, for every forest that the work slice shows
 --   bridging-begin, bridging-asks, bridging-more, bridging-end   before the first, before and after one, past the last
-use mathlib.Core.Path.{_≡_, refl, sym, ap, ap₂, subst, _∙_}
+use mathlib.Core.Path.{_≡_, refl, sym, ap, subst, _∙_}
 use mathlib.Core.Logic.{_⊎_, inl, inr}
 use mathlib.Core.Bool.{Bool, true, false}
 use mathlib.Core.List.{List, List·Memᴰ}
@@ -11,8 +10,8 @@ use Prim.Native.Nat.{ℕ, suc, _+_, _*_, _≤_, _<_}
 use native.Mathlib.Omega.{arith}
 use borrow.Author.Tests.{eq-eqb, eqb-true}
 use lib.Dec.{eqb}
-use lib.ListN.{length, getD, set, replicate}
-use Rattle.bits.specs.Bits.{bits, pack}
+use lib.ListN.{length, getD, replicate}
+use Rattle.bits.specs.Bits.{bits}
 use Rattle.bits.specs.Laws.Bytes.{AreBytes}
 use Rattle.bits.specs.Laws.Packing.{zero-bits}
 use Rattle.graph.specs.Graph.{Blocks, block, target, WellFormed, twin}
@@ -27,12 +26,11 @@ use Rattle.graph.specs.Laws.Joined.Spanning.{Spanning, tree-place}
 use Rattle.graph.specs.Laws.Edges.Marks.{Back, back, child-mark-entry, back-parent, back-place}
 use Rattle.graph.specs.Laws.Bridges.Crossings.{outside-no-bridge}
 use Rattle.graph.specs.Laws.Bridges.Lowpoints.{Lows, bridge-at-child, bridge-at-parent}
-use Rattle.forest.specs.Index.{sectionB}
 use Rattle.forest.specs.Steps.{Room}
 use Rattle.forest.specs.Lows.{Lifting, Lifts}
-use Rattle.forest.specs.Marks.{childEnd, bridgeMarks, marked, BridgeStep, parts, stays}
+use Rattle.forest.specs.Marks.{Sized, childEnd, bridgeMarks, marked, BridgeStep, parts, stays}
 use Rattle.forest.specs.Laws.Marking.{also}
-use Rattle.forest.proofs.Laws.Marked.{Sized, no-marks, bits-also, same-bits}
+use Rattle.forest.proofs.Laws.Marked.{no-marks, bits-also, same-bits}
 use Rattle.forest.proofs.Laws.Marked.{Own, owns-none, owns-two, upto-none, upto-all}
 use Rattle.forest.proofs.Laws.Listed.{Owns, nothing, one, owns-below}
 use Rattle.forest.proofs.Laws.Owned.{entry-at, child-own, children-own, back-at, parent-own, parents-own}
@@ -70,10 +68,9 @@ module _ {g : Blocks} (wf : WellFormed g) {F : Forest} (span : Spanning g F) {c 
   -- where c owns no mark of E, it owns none of P, and the other way round
   no-parent : ((x i : ℕ) → i < length (block g x) → OwnChild g F c x i → ⊥)
       → (x i : ℕ) → i < length (block g x) → OwnParent g F c x i → ⊥
-  no-parent n x i l o = go (back-at (both-ends wf) (span .built) l o)
-    where
-      go : Back g g F c i → ⊥
-      go (back u j m e) = n u j (tree-place span m .fits) (child-own span m)
+  no-parent n x i l o = elim (back-at (both-ends wf) (span .built) l o) [
+    | back u j m e ↦ n u j (tree-place span m .fits) (child-own span m)
+  ]
 
   has-parent : {u j : ℕ} → List·Memᴰ (via u j c) F
       → ((x i : ℕ) → i < length (block g x) → OwnParent g F c x i → ⊥) → ⊥
@@ -100,32 +97,26 @@ module _ {g : Blocks} (wf : WellFormed g) {F : Forest} (span : Spanning g F) {c 
   -- ---- the lowpoint tells
 
   module _ {t : ℕ → ℕ} (lo : Lows g F 0 t) where
-    at-child : {x i : ℕ} → i < length (block g x) → OwnChild g F c x i → eqb (t c) (number F c) ≡ bridge g x i
-    at-child {x} {i} l o =
-        subst (λ (v : ℕ). eqb (t v) (number F v) ≡ bridge g x i) (o .owned)
-        (bridge-at-child wf span lo (place-at l) (o .is-marked))
-
-    at-parent : {x i : ℕ} → i < length (block g x) → OwnParent g F c x i → eqb (t c) (number F c) ≡ bridge g x i
-    at-parent {x} {i} l o =
+    tells : {x i : ℕ} → i < length (block g x) → OwnChild g F c x i ⊎ OwnParent g F c x i
+        → eqb (t c) (number F c) ≡ bridge g x i
+    tells l (inl o) = rw (o .owned) at (bridge-at-child wf span lo (place-at l) (o .is-marked))
+    tells {x} {i} l (inr o) =
         subst (λ (v : ℕ). eqb (t v) (number F v) ≡ bridge g x i) (o .owned)
         (bridge-at-parent wf span lo (place-at l) (o .is-marked))
 
     no-bridge : (t c ≡ number F c → ⊥) → (x i : ℕ) → i < length (block g x) → OwnBridge g F c x i → ⊥
-    no-bridge d x i l o = tells (elim (bridge-own x i l o) [ inl a ↦ at-child l a | inr b ↦ at-parent l b ])
-      where
-        tells : eqb (t c) (number F c) ≡ bridge g x i → ⊥
-        tells e = d (eqb-true (t c) (number F c) (e ∙ o .is-marked))
+    no-bridge d x i l o = d (eqb-true (t c) (number F c) (tells l (bridge-own x i l o) ∙ o .is-marked))
 
     module _ (same : t c ≡ number F c) where
       own-down : {x i : ℕ} → i < length (block g x) → OwnChild g F c x i → OwnBridge g F c x i
       own-down {x} {i} l o = record {
-        is-marked = sym (at-child l o) ∙ eq-eqb (t c) (number F c) same;
+        is-marked = sym (tells l (inl o)) ∙ eq-eqb (t c) (number F c) same;
         owned = child-end g F x i (o .is-marked) ∙ o .owned;
       }
 
       own-up : {x i : ℕ} → i < length (block g x) → OwnParent g F c x i → OwnBridge g F c x i
       own-up {x} {i} l o = record {
-        is-marked = sym (at-parent l o) ∙ eq-eqb (t c) (number F c) same;
+        is-marked = sym (tells l (inr o)) ∙ eq-eqb (t c) (number F c) same;
         owned = own-end g F x i (fails (childMark F x i) (not-down l o)) ∙ o .owned;
       }
 
@@ -144,28 +135,10 @@ module _ {g : Blocks} (wf : WellFormed g) {F : Forest} (span : Spanning g F) {c 
     bridge-step (one u j f at o n) (one w k f′ at′ o′ n′) el ev is (parts h q e) =
         let same : t c ≡ number F c = omega arith in
         let test = bridgeMarks g F c in
-        e ∙ ap₂ (λ (x : List Bool) (y : ℕ). set x y true)
-        (ap₂ (λ (x : List Bool) (y : ℕ). set x y true) is at ∙ bits-also g test u j f) at′
-        ∙ bits-also g (also test u j) w k f′
-        ∙ ap bits (owns-two g (bridge g) (childEnd g F) c (own-down same f o) (own-up same f′ o′) (λ x i l r. (
+        let both = owns-two g (bridge g) (childEnd g F) c (own-down same f o) (own-up same f′ o′) (λ x i l r. (
         elim (bridge-own x i l r) [ inl a ↦ inl (n x i l a) | inr b ↦ inr (n′ x i l b) ]
-        )))
-
--- ---- as the code finds it
-
-module _ {d b d′ low visit : ℕ} {s : List Bool} (is-d : d′ ≡ d) where
-  pub step-root : d′ ≤ 0 → BridgeStep d b low visit s s
-  step-root z = stays (λ h e. omega arith) refl
-
-  module _ {l v : ℕ} (is-low : l ≡ low) (is-visit : v ≡ visit) where
-    pub step-stays : (l ≡ v → ⊥) → BridgeStep d b low visit s s
-    step-stays n = stays (λ h e. n (omega arith)) refl
-
-    pub step-parts : {b′ : ℕ} {s₁ s′ : List Bool} → 0 < d′ → l ≡ v → b′ ≡ b → s₁ ≡ set s d′ true → s′ ≡ set s₁ b′ true
-        → BridgeStep d b low visit s s′
-    step-parts {b′} h e is-b p q =
-        parts (omega arith) (omega arith)
-        (q ∙ ap₂ (λ (t : List Bool) (i : ℕ). set t i true) (p ∙ ap (λ (i : ℕ). set s i true) is-d) is-b)
+        )) in
+        cc (bits-also g test u j f, bits-also g (also test u j) w k f′)
 
 -- ---- all vertices
 
@@ -181,7 +154,7 @@ bridging-begin {g} {k = k} s work z e are = record {
   upto = omega arith;
   same-size = refl;
   are-bytes = are;
-  each = λ F f. ap bits e ∙ zero-bits k ∙ no-marks z ∙ ap bits (upto-none g (bridge g) (childEnd g F));
+  each = λ F f. cc (zero-bits k, no-marks z, upto-none g (bridge g) (childEnd g F));
 }
 
 module _ {g : Blocks} {n s c : ℕ} {work section₀ section : List ℕ} (wf : WellFormed g)
@@ -198,7 +171,6 @@ module _ {g : Blocks} {n s c : ℕ} {work section₀ section : List ℕ} (wf : W
       × ((getD work (4 * s + c) 0 < 8 * length section) × (getD work c 0 < 8 * length section))
   bridging-asks z e l h =
       let f = l .lifting in
-      let q = t .same-size in
       let a = owns-below z (f .searched .room .some) (down (z .vertices) f h) in
       let b = owns-below z (f .searched .room .some) (up f h) in
       ((f .searched .room, h), (omega arith, omega arith))
@@ -215,8 +187,7 @@ module _ {g : Blocks} {n s c : ℕ} {work section₀ section : List ℕ} (wf : W
         (f .searched .visits c h) (t .each F f) step;
   }
 
-  pub bridging-end : length g ≡ n → Lifts g n s work 0 → n ≤ c → section ≡ pack (sectionB g)
-  unfolding sectionB
+  pub bridging-end : length g ≡ n → Lifts g n s work 0 → n ≤ c → section ≡ marked g (bridge g)
   bridging-end many l h =
       same-bits g (bridge g) (t .are-bytes)
       (t .each (l .forest) (l .lifting) ∙ ap bits (upto-all g (bridge g) (childEnd g (l .forest)) below))

@@ -5,8 +5,8 @@
 --   Lists       a list of those bits, for all owners
 --   listed, listed-below   the ones of the list are the section; its bits are there
 --   Marking     the ones of the first c places of a list are set
---   marking-begin, marking-room, marking-more, marking-end   before the first, at the next, and past the last
-use mathlib.Core.Path.{_≡_, refl, sym, ap, ap₂, _∙_}
+--   marking-begin, marking-more, marking-end   before the first, at the next, and past the last
+use mathlib.Core.Path.{_≡_, refl, ap, _∙_}
 use mathlib.Core.Bool.{Bool, true, false}
 use mathlib.Core.List.{List, [], _∷_, _++_}
 use Prim.Native.Nat.{ℕ, zero, suc, _+_, _*_, _≤_, _<_}
@@ -19,9 +19,9 @@ use Rattle.bits.specs.Laws.Bytes.{AreBytes}
 use Rattle.bits.specs.Laws.Packing.{zero-bits}
 use Rattle.graph.specs.Graph.{Blocks, block}
 use Rattle.graph.specs.Search.{PlaceTest}
-use Rattle.forest.specs.Marks.{markAll, Below, upTo, marked}
+use Rattle.forest.specs.Marks.{Sized, markAll, Below, upTo, marked}
 use Rattle.forest.specs.Laws.Sections.{placeBit}
-use Rattle.forest.proofs.Laws.Marked.{Sized, sized-bits, bit-fits, no-marks, bits-also, same-bits}
+use Rattle.forest.proofs.Laws.Marked.{sized-bits, bit-fits, no-marks, bits-also, same-bits}
 use Rattle.forest.proofs.Laws.Marked.{Same, Own, owns-none, owns-one, upto-none, upto-all}
 
 -- ---- ones at the places of a list
@@ -39,10 +39,7 @@ mark-append (i ∷ a) b s = mark-append a b (set s i true)
 pub mark-more : (l : List ℕ) (c : ℕ) (s : List Bool) → c < length l
     → markAll (take (c + 1) l) s ≡ set (markAll (take c l) s) (getD l c 0) true
 unfolding markAll
-mark-more l c s h =
-    ap (λ (x : ℕ). markAll (take x l) s) (add-one c)
-    ∙ ap (λ (x : List ℕ). markAll x s) (take-suc l c 0 h)
-    ∙ mark-append (take c l) (getD l c 0 ∷ []) s
+mark-more l c s h = rw (add-one c, take-suc l c 0 h) (mark-append (take c l) (getD l c 0 ∷ []) s)
 
 -- ---- what one owner marks
 
@@ -53,19 +50,17 @@ pub data Owns (g : Blocks) (mark : PlaceTest) (owner : ℕ → ℕ → ℕ) (c b
 
 pub owns-below : {g : Blocks} {mark : PlaceTest} {owner : ℕ → ℕ → ℕ} {n m k c bit : ℕ} → Sized g n m k → 0 < n
     → Owns g mark owner c bit → bit < 8 * k
-owns-below z h (nothing e x) = let r = sized-bits z in let v = z .vertices in omega arith
-owns-below {g} z h (one u j f e o x) = let r = sized-bits z in let b = bit-fits g u j f in omega arith
+owns-below z h (nothing e x) = let v = z .vertices in omega (arith, sized-bits z)
+owns-below {g} z h (one u j f e o x) = omega (arith, sized-bits z, bit-fits g u j f)
 
 -- the first bit stays clear while they are set
 owns-more : {g : Blocks} {mark : PlaceTest} {owner : ℕ → ℕ → ℕ} {c bit : ℕ} (s : List Bool) → Owns g mark owner c bit
     → set s 0 false ≡ bits (marked g (upTo mark owner c))
     → set (set s bit true) 0 false ≡ bits (marked g (upTo mark owner (c + 1)))
-owns-more {g} {mark} {owner} {c} s (nothing e n) is =
-    ap (λ (x : ℕ). set (set s x true) 0 false) e ∙ set-set s 0 true false ∙ is ∙ ap bits (owns-none g mark owner c n)
+owns-more {g} {mark} {owner} {c} s (nothing e n) is = cc (set-set s 0 true false, owns-none g mark owner c n)
 owns-more {g} {mark} {owner} {c} {bit} s (one u j f e o n) is =
-    set-comm s bit 0 true false (λ q. omega arith)
-    ∙ ap₂ (λ (x : List Bool) (y : ℕ). set x y true) is e
-    ∙ bits-also g (upTo mark owner c) u j f ∙ ap bits (owns-one g mark owner c o n)
+    let other = set-comm s bit 0 true false (λ q. omega arith) in
+    cc (bits-also g (upTo mark owner c) u j f, owns-one g mark owner c o n)
 
 -- ---- all owners
 
@@ -84,18 +79,14 @@ module _ {g : Blocks} {mark : PlaceTest} {owner : ℕ → ℕ → ℕ} {list : L
   listed-to {k = k} e zero h = clear-zeros (8 * k) ∙ no-marks e ∙ ap bits (upto-none g mark owner)
   listed-to {k = k} e (suc c) h =
       let z : List Bool = replicate (8 * k) false in
-      let n : suc c ≡ c + 1 = omega arith in
-      ap (λ (x : ℕ). set (markAll (take x list) z) 0 false) n
-      ∙ ap (λ (x : List Bool). set x 0 false) (mark-more list c z (omega arith))
-      ∙ owns-more (markAll (take c list) z) (l .each c (omega arith)) (listed-to e c (omega arith))
-      ∙ ap (λ (x : ℕ). bits (marked g (upTo mark owner x))) (sym n)
+      rw (← add-one c) (ap (λ (x : List Bool). set x 0 false) (mark-more list c z (omega arith))
+      ∙ owns-more (markAll (take c list) z) (l .each c (omega arith)) (listed-to e c (omega arith)))
 
   pub listed : {n m k : ℕ} {bytes : List ℕ} → Sized g n m k → AreBytes bytes
       → bits bytes ≡ set (markAll list (replicate (8 * k) false)) 0 false → bytes ≡ marked g mark
   listed {k = k} e are is =
       same-bits g mark are
-      (is ∙ ap (λ (x : List ℕ). set (markAll x (replicate (8 * k) false)) 0 false) (sym (take-length list))
-      ∙ listed-to e (length list) (omega arith) ∙ ap bits (upto-all g mark owner (l .all)))
+      (cc (take-length list, listed-to e (length list) (omega arith), upto-all g mark owner (l .all)))
 
   pub listed-below : {n m k : ℕ} → Sized g n m k → 0 < n → Below (8 * k) list
   listed-below z h c i = owns-below z h (l .each c i)
@@ -111,10 +102,8 @@ pub marking-begin : (list : List ℕ) (k : ℕ) {section : List ℕ} → section
     → Marking list section section 0
 unfolding markAll
 marking-begin list k {section} e =
-    let l : k ≡ length section = sym (ap length e ∙ length-replicate {A = ℕ} k 0) in
-    let b : bits section ≡ replicate (8 * length section) false =
-    ap bits e ∙ zero-bits k ∙ ap (λ (x : ℕ). replicate (8 * x) false) l in
-    record { upto = omega arith; same-size = refl; are-bits = b }
+    let l = length-replicate {A = ℕ} k 0 in
+    record { upto = omega arith; same-size = refl; are-bits = cc (zero-bits k) }
 
 module _ {list section₀ section : List ℕ} {c : ℕ} (t : Marking list section₀ section c) where
   pub marking-more : {x : ℕ} {next : List ℕ} → c < length list → x ≡ getD list c 0
@@ -122,18 +111,9 @@ module _ {list section₀ section : List ℕ} {c : ℕ} (t : Marking list sectio
   marking-more h q s = record {
     upto = omega arith;
     same-size = s .1 ∙ t .same-size;
-    are-bits = s .0 ∙ ap₂ (λ (b : List Bool) (i : ℕ). set b i true) (t .are-bits) q
-        ∙ sym (mark-more list c (replicate (8 * length section₀) false) h);
+    are-bits = cc (mark-more list c (replicate (8 * length section₀) false) h);
   }
 
-  module _ {k : ℕ} (e : length section₀ ≡ k) where
-    pub marking-room : {x : ℕ} → Below (8 * k) list → c < length list → x ≡ getD list c 0 → x < 8 * length section
-    marking-room b h q = let l = t .same-size in let i = b c h in omega arith
-
-    pub marking-end : (next : List ℕ) → length list ≤ c
-        → (bits next ≡ set (bits section) 0 false) × (length next ≡ length section)
-        → (bits next ≡ set (markAll list (replicate (8 * k) false)) 0 false) × (length next ≡ k)
-    marking-end next h s =
-        let b : bits section ≡ markAll list (replicate (8 * k) false) =
-        t .are-bits ∙ ap₂ (λ (x : List ℕ) (i : ℕ). markAll x (replicate (8 * i) false)) (take-all c list h) e in
-        (s .0 ∙ ap (λ (x : List Bool). set x 0 false) b, s .1 ∙ t .same-size ∙ e)
+  pub marking-end : {next : List Bool} (k : ℕ) → length section₀ ≡ k → length list ≤ c
+      → next ≡ set (bits section) 0 false → next ≡ set (markAll list (replicate (8 * k) false)) 0 false
+  marking-end k e h s = cc (take-all c list h)

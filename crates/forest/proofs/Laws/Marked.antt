@@ -1,7 +1,6 @@
 -- The bits of a section of marks: without a mark, and with the marks of one more owner.
---   Sized        k bytes are a section of marks of g, which has n vertices and 2·m places
---   sized-cut    so it is for a graph in two arrays
---   sized-bytes, sized-bits   that is, by the vertices and the places themselves
+--   sized-bytes, sized-bits   the bytes of a section, by the vertices and the places themselves
+--   length-marks  a section has so many bytes
 --   bit-fits     the bit of a place is one of the section's
 --   no-marks     a section without marks is zeros
 --   bits-also    the bit of a place is set
@@ -9,10 +8,10 @@
 --   Same, Own    one place; a place has a mark that c owns
 --   owns-none, owns-one, owns-two   c owns no mark, one, or two
 --   upto-none, upto-all   no owner, and all
-use mathlib.Core.Path.{_≡_, refl, sym, ap, ap₂, _∙_}
+use mathlib.Core.Path.{_≡_, refl, sym, ap, _∙_}
 use mathlib.Core.Logic.{_⊎_, inl, inr, _↔_}
 use mathlib.Core.Bool.{Bool, true, false, _&&_, _||_}
-use mathlib.Core.List.{List, _++_, flatten}
+use mathlib.Core.List.{List, flatten}
 use Prim.Native.Nat.{ℕ, suc, _+_, _-_, _*_, _/_, _≤_, _<_}
 use native.Mathlib.Decide.{ℕ-discrete}
 use native.Mathlib.Omega.{arith}
@@ -22,17 +21,14 @@ use lib.ListN.{length, set, replicate, replicate-append-replicate}
 use lib.Seq.{set-append-left}
 use Rattle.bits.specs.Bits.{bits, pack}
 use Rattle.bits.specs.Laws.Bytes.{AreBytes}
-use Rattle.bits.specs.Laws.Packing.{bits-pack, pack-bytes, bits-injective}
+use Rattle.bits.specs.Laws.Packing.{length-pack, bits-pack, pack-bytes, bits-injective}
 use Rattle.graph.specs.Graph.{Blocks, block}
 use Rattle.graph.specs.Search.{PlaceTest}
 use Rattle.graph.specs.Laws.Places.Basics.{same-outcome, or-cases, or-left, or-right, and-parts, and-both, clash}
 use Rattle.graph.specs.Laws.Places.Pairing.{place-at, source}
-use Rattle.adjacency.specs.Arrays.{cut, Divided}
-use Rattle.adjacency.specs.Laws.Rows.{length-cut}
 use Rattle.forest.specs.Index.{section, markBytes}
-use Rattle.forest.specs.Marks.{upTo, marked}
+use Rattle.forest.specs.Marks.{Sized, upTo, marked}
 use Rattle.forest.specs.Laws.Sections.{placeBit, start-more, start-most, length-section, section-same}
-use Rattle.forest.specs.Laws.Starts.{places-cut}
 use Rattle.forest.specs.Laws.Marking.{none, section-none, also, section-also}
 
 -- ---- bits
@@ -40,59 +36,42 @@ use Rattle.forest.specs.Laws.Marking.{none, section-none, also, section-
 pub bit-fits : (g : Blocks) (u j : ℕ) → j < length (block g u) → placeBit g u j < length g + length (flatten g)
 bit-fits g u j h =
     let i = source (place-at {g = g} {u = u} h) in
-    let a = start-more g u i in
-    let b = start-most g (suc u) in
-    omega arith
+    omega (arith, start-more g u i, start-most g (suc u))
 
 -- the zero bits after k others in the last byte
 abbrev fill : ℕ → List Bool
 fill k = replicate (8 * ((k + 7) / 8) - k) false
 
-pub record Sized (g : Blocks) (n m k : ℕ) : Type 0 where
-  pub vertices : length g ≡ n
-  pub places : length (flatten g) ≡ 2 * m
-  pub bytes : k ≡ markBytes n m
-
 module _ {g : Blocks} {n m k : ℕ} (z : Sized g n m k) where
   pub sized-bytes : k ≡ (length g + length (flatten g) + 7) / 8
   unfolding markBytes
-  sized-bytes = let a = z .vertices in let b = z .places in z .bytes ∙ ap (λ (x : ℕ). (x + 7) / 8) (omega arith)
+  sized-bytes = rw (z .vertices, z .places) (z .bytes)
 
   -- there is room for all bits
   pub sized-bits : length g + length (flatten g) ≤ 8 * k
   sized-bits = let e = sized-bytes in omega arith
 
--- as a graph in two arrays has it
-pub sized-cut : (starts nbrs : List ℕ) {n m k : ℕ}
-    → Divided starts nbrs × (n + 1 ≡ length starts) × (length nbrs ≡ 2 * m) → k ≡ markBytes n m
-    → Sized (cut starts nbrs) n m k
-sized-cut starts nbrs d e = record {
-  vertices = let l = length-cut starts nbrs in let q = d .1 in omega arith;
-  places = places-cut (d .0) ∙ d .2;
-  bytes = e;
-}
+  pub length-marks : (test : PlaceTest) → length (marked g test) ≡ k
+  length-marks test =
+      length-pack (section test g) ∙ ap (λ (x : ℕ). (x + 7) / 8) (length-section test g) ∙ sym sized-bytes
 
 pub no-marks : {g : Blocks} {n m k : ℕ} → Sized g n m k → replicate (8 * k) false ≡ bits (marked g none)
 no-marks {g} {k = k} z =
     let e = sized-bytes z in
     let l : ℕ = length g + length (flatten g) in
     let r : 8 * k ≡ l + (8 * ((l + 7) / 8) - l) = omega arith in
-    ap (λ (x : ℕ). replicate x false) r
-    ∙ sym (replicate-append-replicate l (8 * ((l + 7) / 8) - l) false)
-    ∙ sym (bits-pack (section none g)
-    ∙ ap₂ (λ (x : List Bool) (y : ℕ). x ++ fill y) (section-none g) (length-section none g))
+    let zeros = replicate-append-replicate l (8 * ((l + 7) / 8) - l) false in
+    cc (bits-pack (section none g), section-none g, length-section none g)
 
 pub bits-also : (g : Blocks) (test : PlaceTest) (u j : ℕ) → j < length (block g u)
     → set (bits (marked g test)) (placeBit g u j) true ≡ bits (marked g (also test u j))
 bits-also g test u j h =
-    let l : length (section test g) ≡ length (section (also test u j) g) =
-    length-section test g ∙ sym (length-section (also test u j) g) in
-    let f : placeBit g u j < length (section test g) =
-    let b = bit-fits g u j h in let e = length-section test g in omega arith in
-    ap (λ (x : List Bool). set x (placeBit g u j) true) (bits-pack (section test g))
-    ∙ set-append-left (section test g) (fill (length (section test g))) (placeBit g u j) true f
-    ∙ ap₂ (λ (x : List Bool) (y : ℕ). x ++ fill y) (section-also test g u j (source (place-at {g = g} {u = u} h)) h) l
-    ∙ sym (bits-pack (section (also test u j) g))
+    let e = length-section test g in
+    let l = e ∙ sym (length-section (also test u j) g) in
+    let f : placeBit g u j < length (section test g) = omega (arith, bit-fits g u j h) in
+    let one = section-also test g u j (source (place-at {g = g} {u = u} h)) h in
+    let whole = set-append-left (section test g) (fill (length (section test g))) (placeBit g u j) true f in
+    cc (bits-pack (section test g), bits-pack (section (also test u j) g))
 
 pub same-bits : (g : Blocks) (test : PlaceTest) {bytes : List ℕ} → AreBytes bytes → bits bytes ≡ bits (marked g test)
     → bytes ≡ marked g test

@@ -1,14 +1,12 @@
 -- The section of the visit numbers, written from the front into zeros.
---   Written        the first i of the numbers are written
---   written-start, written-one, written-two, written-end   before the first, one or two more, and past the last
---   less-at        a number of a list whose numbers are each less 1
 --   Pairs          the first v visit numbers are written, two in three bytes
---   pairs-begin, pairs-size, pairs-upto, pairs-room, pairs-rest, pairs-more, pairs-last, pairs-end   as the code goes
---   listed-visits, listed-numbers   the visit cells of a forest are visit numbers; each less 1, they are the forest's
-use mathlib.Core.Path.{_≡_, sym, ap, ap₂, _∙_}
+--   pairs-begin, pairs-room, pairs-rest, pairs-more, pairs-last, pairs-end   as the code goes
+--   visitCells, visits-many   the visit cells in the work slice, as many as vertices
+--   listed-visits, listed-numbers   those of a forest are visit numbers; each less 1, they are the forest's
+use mathlib.Core.Path.{_≡_, refl, sym, ap, _∙_}
 use mathlib.Core.Bool.{Bool, false}
 use mathlib.Core.List.{List, [], _∷_, _++_, map, append-assoc, append-nil}
-use Prim.Native.Nat.{ℕ, zero, suc, _+_, _-_, _*_, _/_, _≤_, _<_}
+use Prim.Native.Nat.{ℕ, zero, suc, _+_, _-_, _*_, _≤_, _<_}
 use native.Mathlib.Numerals.{add-one}
 use native.Mathlib.Omega.{arith}
 use lib.ListN.{length, take, drop, getD, replicate, length-replicate, length-map, List·getD-map}
@@ -40,9 +38,8 @@ put-behind : (a : List Bool) (v k : ℕ) {start : ℕ} → length a ≡ start
 unfolding put
 put-behind a v k {start} e =
     let z : List Bool = replicate k false in
-    ap₂ (λ (x y : List Bool). x ++ (toBits 12 v ++ y)) (take-at a z start e)
-    (sym (drop-drop 12 start (a ++ z)) ∙ ap (drop 12) (drop-at a z start e) ∙ drop-zeros 12 k)
-    ∙ sym (append-assoc a (toBits 12 v) (replicate (k - 12) false))
+    let whole = append-assoc a (toBits 12 v) (replicate (k - 12) false) in
+    cc (take-at a z start e, drop-drop 12 start (a ++ z), drop-at a z start e, drop-zeros 12 k)
 
 -- the first i numbers in 8·k bits, and zeros after them
 abbrev front : List ℕ → ℕ → ℕ → List Bool
@@ -55,144 +52,119 @@ front-more xs k i {x} h e =
     let z : 8 * k - 12 * i - 12 ≡ 8 * k - 12 * (i + 1) = omega arith in
     let a : length (fieldBits (take i xs)) ≡ 12 * i =
     length-fieldBits (take i xs) ∙ ap (λ (k : ℕ). 12 * k) (length-take-le i xs (omega arith)) in
-    let n : fieldBits (take i xs) ++ toBits 12 x ≡ fieldBits (take (i + 1) xs) =
-    rw (add-one i) (sym (ap fieldBits (take-suc xs i 0 h) ∙ fieldBits-append (take i xs) (getD xs i 0 ∷ [])
-    ∙ ap (λ (t : List Bool). fieldBits (take i xs) ++ t)
-    (append-nil (toBits 12 (getD xs i 0)) ∙ ap (toBits 12) (sym e)))) in
-    put-behind (fieldBits (take i xs)) x (8 * k - 12 * i) a
-    ∙ ap₂ (λ (s : List Bool) (j : ℕ). s ++ replicate j false) n z
+    let more = fieldBits-append (take i xs) (getD xs i 0 ∷ []) in
+    let put = put-behind (fieldBits (take i xs)) x (8 * k - 12 * i) a in
+    cc (add-one i, take-suc xs i 0 h, append-nil (toBits 12 (getD xs i 0)))
 
 -- ---- the numbers, from the front
 
-pub record Written (numbers section : List ℕ) (i : ℕ) : Type 0 where
-  pub size : length section ≡ numberBytes (length numbers)
-  pub upto : i ≤ length numbers
-  pub are-bytes : AreBytes section
-  pub are-bits : bits section ≡ front numbers (length section) i
+-- the visit numbers, each less 1
+abbrev less : List ℕ → List ℕ
+less visits = map (λ x. x - 1) visits
 
-pub written-start : (numbers : List ℕ) {section : List ℕ} {k : ℕ} → k ≡ numberBytes (length numbers)
-    → section ≡ replicate k 0 → AreBytes section → Written numbers section 0
-unfolding fieldBits
-written-start numbers {section} {k} l e h =
-    let r : length section ≡ k = ap length e ∙ length-replicate {A = ℕ} k 0 in
-    let z : 8 * length section - 12 * 0 ≡ 8 * k = omega arith in
-    record { size = r ∙ l; upto = omega arith; are-bytes = h; are-bits = rw z (ap bits e ∙ zero-bits k) }
-
-module _ {numbers section : List ℕ} {i : ℕ} (w : Written numbers section i) where
-  module _ {next : List ℕ} (are : AreBytes next) (size : length next ≡ length section) where
-    pub written-one : {x : ℕ} → i < length numbers → x ≡ getD numbers i 0 → bits next ≡ put 12 x (bits section) (12 * i)
-        → Written numbers next (i + 1)
-    written-one {x} h e f = record {
-      size = size ∙ w .size;
-      upto = omega arith;
-      are-bytes = are;
-      are-bits = rw size (f ∙ ap (λ (t : List Bool). put 12 x t (12 * i)) (w .are-bits)
-          ∙ front-more numbers (length section) i h e);
-    }
-
-    pub written-two : {x y : ℕ} (at : ℕ) → i + 1 < length numbers → x ≡ getD numbers i 0 → y ≡ getD numbers (i + 1) 0
-        → 8 * at ≡ 12 * i → bits next ≡ put 12 y (put 12 x (bits section) (8 * at)) (8 * at + 12)
-        → Written numbers next (i + 2)
-    written-two {x} {y} at h e f a g =
-        let b : 8 * at + 12 ≡ 12 * (i + 1) = omega arith in
-        let z : i + 1 + 1 ≡ i + 2 = omega arith in
-        record {
-          size = size ∙ w .size;
-          upto = omega arith;
-          are-bytes = are;
-          are-bits = rw size (g ∙ ap₂ (λ (p q : ℕ). put 12 y (put 12 x (bits section) p) q) a b
-              ∙ ap (λ (t : List Bool). put 12 y (put 12 x t (12 * i)) (12 * (i + 1))) (w .are-bits)
-              ∙ ap (λ (t : List Bool). put 12 y t (12 * (i + 1)))
-              (front-more numbers (length section) i (omega arith) e)
-              ∙ front-more numbers (length section) (i + 1) h f
-              ∙ ap (front numbers (length section)) z);
-        }
-
-  pub written-end : length numbers ≤ i → section ≡ pack (fieldBits numbers)
-  unfolding numberBytes
-  written-end h =
-      let s = w .size in
-      let u = w .upto in
-      let l : length (fieldBits numbers) ≡ 12 * length numbers = length-fieldBits numbers in
-      let j : 8 * length section - 12 * i ≡ 8 * ((12 * length numbers + 7) / 8) - 12 * length numbers = omega arith in
-      let k : 8 * length section - 12 * i ≡ 8 * ((length (fieldBits numbers) + 7) / 8) - length (fieldBits numbers) =
-      j ∙ sym (ap (λ (x : ℕ). 8 * ((x + 7) / 8) - x) l) in
-      bits-injective section (pack (fieldBits numbers)) (w .are-bytes) (pack-bytes (fieldBits numbers))
-      (w .are-bits ∙ ap₂ (λ (t : List ℕ) (j : ℕ). fieldBits t ++ replicate j false) (take-all i numbers h) k
-      ∙ sym (bits-pack (fieldBits numbers)))
-
--- ---- visit numbers, each less 1
-
-pub less-at : (visits : List ℕ) (v : ℕ) → getD (map (λ x. x - 1) visits) v 0 ≡ getD visits v 0 - 1
+less-at : (visits : List ℕ) (v : ℕ) → getD (less visits) v 0 ≡ getD visits v 0 - 1
 less-at visits v = List·getD-map (λ (x : ℕ). x - 1) visits v 0
 
--- two numbers in three bytes
+less-many : (visits : List ℕ) → length (less visits) ≡ length visits
+less-many visits = length-map visits (λ x. x - 1)
+
 pub record Pairs (visits section : List ℕ) (v at : ℕ) : Type 0 where
-  pub written : Written (map (λ x. x - 1) visits) section v
+  pub size : length section ≡ numberBytes (length visits)
+  pub upto : v ≤ length visits
   pub even : 8 * at ≡ 12 * v
+  pub are-bytes : AreBytes section
+  pub are-bits : bits section ≡ front (less visits) (length section) v
 
 pub pairs-begin : (visits : List ℕ) {section : List ℕ} {k : ℕ} → k ≡ numberBytes (length visits)
     → section ≡ replicate k 0 → AreBytes section → Pairs visits section 0 0
-pairs-begin visits l e are = record {
-  written = written-start (map (λ x. x - 1) visits) (l ∙ ap numberBytes (sym (length-map visits (λ x. x - 1)))) e are;
-  even = omega arith;
-}
+unfolding fieldBits
+pairs-begin visits {section} {k} l e are =
+    let r : length section ≡ k = ap length e ∙ length-replicate {A = ℕ} k 0 in
+    let z : 8 * length section - 12 * 0 ≡ 8 * k = omega arith in
+    record {
+      size = r ∙ l;
+      upto = omega arith;
+      even = omega arith;
+      are-bytes = are;
+      are-bits = rw z (ap bits e ∙ zero-bits k);
+    }
+
+all-written : (visits : List ℕ) {section : List ℕ} → AreBytes section
+    → length section ≡ numberBytes (length visits)
+    → bits section ≡ front (less visits) (length section) (length visits) → section ≡ pack (fieldBits (less visits))
+unfolding numberBytes
+all-written visits {section} are s e =
+    let xs : List ℕ = less visits in
+    let l : length (fieldBits xs) ≡ 12 * length visits =
+    length-fieldBits xs ∙ ap (λ (x : ℕ). 12 * x) (less-many visits) in
+    let all = take-all (length visits) xs (omega (arith, less-many visits)) in
+    bits-injective section (pack (fieldBits xs)) are (pack-bytes (fieldBits xs)) (cc (bits-pack (fieldBits xs)))
 
 module _ {visits section : List ℕ} {v at : ℕ} (p : Pairs visits section v at) where
-  many : length (map (λ x. x - 1) visits) ≡ length visits
-  many = length-map visits (λ x. x - 1)
-
-  pub pairs-size : length section ≡ numberBytes (length visits)
-  pairs-size = p .written .size ∙ ap numberBytes many
-
-  pub pairs-upto : v ≤ length visits
-  pairs-upto = let m = many in let u = p .written .upto in omega arith
-
   pub pairs-room : v + 2 ≤ length visits → at + 3 ≤ length section
   unfolding numberBytes
-  pairs-room h = let z = pairs-size in let e = p .even in omega arith
+  pairs-room h = let q = p in omega arith
 
   pub pairs-rest : v < length visits → 12 * v + 12 ≤ 8 * length section
   unfolding numberBytes
-  pairs-rest h = let z = pairs-size in omega arith
+  pairs-rest h = let q = p in omega arith
 
-  module _ {next : List ℕ} (are : AreBytes next) (same : length next ≡ length section) where
+  -- one number more
+  next : {a : ℕ} → v < length visits → a ≡ getD visits v 0
+      → put 12 (a - 1) (bits section) (12 * v) ≡ front (less visits) (length section) (v + 1)
+  next {a} h e =
+      let x = less-at visits v in
+      rw (p .are-bits) (front-more (less visits) (length section) v (omega (arith, less-many visits)) (omega arith))
+
+  module _ {after : List ℕ} (are : AreBytes after) (same : length after ≡ length section) where
     pub pairs-more : {a b : ℕ} → v + 2 ≤ length visits → a ≡ getD visits v 0 → b ≡ getD visits (v + 1) 0
-        → bits next ≡ put 12 (b - 1) (put 12 (a - 1) (bits section) (8 * at)) (8 * at + 12)
-        → Pairs visits next (v + 2) (at + 3)
-    pairs-more h e f g =
-        let m = many in
-        let x = less-at visits v in
+        → bits after ≡ put 12 (b - 1) (put 12 (a - 1) (bits section) (8 * at)) (8 * at + 12)
+        → Pairs visits after (v + 2) (at + 3)
+    pairs-more {a} {b} h e f g =
         let y = less-at visits (v + 1) in
-        let q = p .even in
+        let s : 8 * at + 12 ≡ 12 * (v + 1) = omega arith in
+        let z : v + 1 + 1 ≡ v + 2 = omega arith in
+        let two = front-more (less visits) (length section) (v + 1) {x = b - 1} (omega (arith, less-many visits))
+        (omega arith) in
         record {
-          written = written-two (p .written) are same at (omega arith) (omega arith) (omega arith) q g;
+          size = same ∙ p .size;
+          upto = omega arith;
           even = omega arith;
+          are-bytes = are;
+          are-bits = cc (next (omega arith) e, two);
         }
 
     pub pairs-last : {a : ℕ} → v < length visits → length visits ≤ v + 1 → a ≡ getD visits v 0
-        → bits next ≡ put 12 (a - 1) (bits section) (12 * v) → next ≡ pack (fieldBits (map (λ x. x - 1) visits))
+        → bits after ≡ put 12 (a - 1) (bits section) (12 * v) → after ≡ pack (fieldBits (less visits))
     pairs-last h k e g =
-        let m = many in
-        let x = less-at visits v in
-        written-end (written-one (p .written) are same (omega arith) (omega arith) g) (omega arith)
+        let z : v + 1 ≡ length visits = omega arith in
+        all-written visits are (same ∙ p .size)
+        (cc (next h e))
 
-  pub pairs-end : length visits ≤ v → section ≡ pack (fieldBits (map (λ x. x - 1) visits))
-  pairs-end h = let m = many in written-end (p .written) (omega arith)
+  pub pairs-end : length visits ≤ v → section ≡ pack (fieldBits (less visits))
+  pairs-end h =
+      let z : v ≡ length visits = omega arith in
+      all-written visits (p .are-bytes) (p .size) (p .are-bits ∙ ap (front (less visits) (length section)) z)
 
 -- ---- those of a forest
 
+-- the visit cells, as the code lends them
+abbrev pub visitCells : ℕ → ℕ → List ℕ → List ℕ
+visitCells n s work = take (2 * s + n - 2 * s) (drop (2 * s) work)
+
 module _ {g : Blocks} {F : Forest} {n s : ℕ} {work : List ℕ} (many : length g ≡ n) (a : Searched g F n s work) where
   fits : 2 * s + n ≤ length work
-  fits = let o = a .room .apart in let z = a .room .size in omega arith
+  fits = let r = a .room in omega arith
 
-  visit-at : (v : ℕ) → v < n → getD (take n (drop (2 * s) work)) v 0 ≡ suc (number F v)
-  visit-at v h = part-cell n (2 * s) work fits v h ∙ a .visits v h
+  pub visits-many : length (visitCells n s work) ≡ n
+  visits-many = part-size (2 * s) (2 * s + n) work refl fits
 
-  pub listed-visits : Visits (take n (drop (2 * s) work))
+  visit-at : (v : ℕ) → v < n → getD (visitCells n s work) v 0 ≡ suc (number F v)
+  visit-at v h = part-cell (2 * s) (2 * s + n) work refl fits v h ∙ a .visits v h
+
+  pub listed-visits : Visits (visitCells n s work)
   listed-visits =
-      let l = part-size n (2 * s) work fits in
-      let f = a .room .few in
+      let l = visits-many in
       record {
         few = omega arith;
         some = λ v h. (let e = visit-at v (omega arith) in omega arith);
@@ -203,13 +175,13 @@ module _ {g : Blocks} {F : Forest} {n s : ℕ} {work : List ℕ} (many : length 
             );
       }
 
-  pub listed-numbers : map (λ x. x - 1) (take n (drop (2 * s) work)) ≡ numbers g F
+  pub listed-numbers : map (λ x. x - 1) (visitCells n s work) ≡ numbers g F
   listed-numbers =
-      let l : length (map (λ x. x - 1) (take n (drop (2 * s) work))) ≡ n =
-      length-map (take n (drop (2 * s) work)) (λ x. x - 1) ∙ part-size n (2 * s) work fits in
-      ext-getD 0 (map (λ x. x - 1) (take n (drop (2 * s) work))) (numbers g F) (l ∙ sym (length-numbers g F ∙ many))
+      let l : length (map (λ x. x - 1) (visitCells n s work)) ≡ n =
+      length-map (visitCells n s work) (λ x. x - 1) ∙ visits-many in
+      ext-getD 0 (map (λ x. x - 1) (visitCells n s work)) (numbers g F) (l ∙ sym (length-numbers g F ∙ many))
       (λ v h. (
-      let e = less-at (take n (drop (2 * s) work)) v in
+      let e = less-at (visitCells n s work) v in
       let c = visit-at v (omega arith) in
       let b = number-at g F v (omega arith) in
       omega arith

@@ -2,19 +2,14 @@
 --   entry-at, child-own     a mark of E that c owns is the place by which c was entered
 --   back-at, parent-own     a mark of P that c owns is the way back from c
 --   children-own, parents-own         the bit of the one that c owns, or 0
---   children-listed, parents-listed   a list of those bits
 --   part-size, part-cell    a part of a list
---   listed-children, listed-parents   the bytes that it leads to, where the list is a part of the work slice
---   children-below, parents-below     and its bits are there
-use mathlib.Core.Path.{_≡_, refl, sym, ap, subst, _∙_}
-use mathlib.Core.Bool.{false}
+--   children, parents       the parts of the work slice that list those bits
+use mathlib.Core.Path.{_≡_, refl, ap, subst, _∙_}
 use mathlib.Core.List.{List, List·Memᴰ}
-use Prim.Native.Nat.{ℕ, zero, suc, _+_, _*_, _≤_, _<_}
+use Prim.Native.Nat.{ℕ, zero, suc, _+_, _-_, _*_, _≤_, _<_}
 use native.Mathlib.Omega.{arith}
-use lib.ListN.{length, take, drop, getD, set, replicate, length-drop}
+use lib.ListN.{length, take, drop, getD, length-drop}
 use lib.Seq.{length-take-le, getD-take, getD-drop}
-use Rattle.bits.specs.Bits.{bits, pack}
-use Rattle.bits.specs.Laws.Bytes.{AreBytes}
 use Rattle.graph.specs.Graph.{Blocks, block, target, Place, WellFormed}
 use Rattle.graph.specs.Search.{Forest, via}
 use Rattle.graph.specs.Forest.{parent, childMark, parentMark}
@@ -24,12 +19,10 @@ use Rattle.graph.specs.Laws.Tree.Climbs.{slot, parent-child, child-entry}
 use Rattle.graph.specs.Laws.Joined.Spanning.{Spanning, tree-place}
 use Rattle.graph.specs.Laws.Edges.Marks.{Back, child-mark, child-mark-entry, back-place}
 use Rattle.graph.specs.Laws.Edges.Marks.{back-marked, marked-back, back-parent, back-once}
-use Rattle.forest.specs.Index.{sectionE, sectionP}
 use Rattle.forest.specs.Steps.{downBit, Searched}
 use Rattle.forest.specs.Lows.{Passed, unmet, met, Lifting}
-use Rattle.forest.specs.Marks.{markAll, Below}
-use Rattle.forest.proofs.Laws.Marked.{Sized, Same, Own}
-use Rattle.forest.proofs.Laws.Listed.{Owns, nothing, one, Lists, listed, listed-below}
+use Rattle.forest.proofs.Laws.Marked.{Same, Own}
+use Rattle.forest.proofs.Laws.Listed.{Owns, nothing, one, Lists}
 
 -- ---- E
 
@@ -76,65 +69,38 @@ module _ {g h : Blocks} (bal : Balanced g h) {F : Forest} (b : Built (Place g) F
       one c (r .slot) (r .before) (r .is) (parent-own (r .is-back))
       (λ x i l o. record { vertex = o .owned; position = back-once bal b (back-at l o) (r .is-back) })
 
--- ---- a list for all vertices
+-- ---- the lists for all vertices, as they stand in the work slice
 
-pub children-listed : {g : Blocks} {F : Forest} {list : List ℕ} → Spanning g F → length list ≡ length g
-    → ((c : ℕ) → c < length g → getD list c 0 ≡ downBit g (parent F c) (slot F c))
-    → Lists g (childMark F) (target g) list
-children-listed {g} {F} {list} span e each = record {
-  each = λ c h. rw (each c (omega arith)) (children-own span (omega arith));
-  all = λ x i h l. (let w = span .within (target g x i) (span .closed x i (target g x i) (place-at l)) in omega arith);
-}
+module _ (a b : ℕ) (work : List ℕ) {n : ℕ} (is : a + n ≡ b) (fits : b ≤ length work) where
+  pub part-size : length (take (b - a) (drop a work)) ≡ n
+  part-size = length-take-le (b - a) (drop a work) (simp length-drop (omega arith)) ∙ omega arith
 
-pub parents-listed : {g h : Blocks} {F : Forest} {list : List ℕ} → Balanced g h → Built (Place g) F
-    → length list ≡ length h → ((c : ℕ) → c < length h → Passed g h F c (length (block h c)) (getD list c 0))
-    → Lists h (parentMark h g F) (λ u j. u) list
-parents-listed bal b e each = record {
-  each = λ c l. parents-own bal b (each c (omega arith));
-  all = λ x i l k. omega arith;
-}
+  pub part-cell : (c : ℕ) → c < n → getD (take (b - a) (drop a work)) c 0 ≡ getD work (a + c) 0
+  part-cell c h = getD-take (b - a) (drop a work) c 0 (omega arith) ∙ getD-drop a work c 0
 
--- ---- as they stand in the work slice
+-- for E
+pub children : {g : Blocks} {F : Forest} {n s : ℕ} {work : List ℕ} → length g ≡ n → Searched g F n s work
+    → Lists g (childMark F) (target g) (take (4 * s + n - 4 * s) (drop (4 * s) work))
+children {g} {n = n} {s = s} {work = work} many a =
+    let span = a .spans in
+    let fits : 4 * s + n ≤ length work = omega arith in
+    let l = part-size (4 * s) (4 * s + n) work refl fits in
+    record {
+      each = λ c h. rw (part-cell (4 * s) (4 * s + n) work refl fits c (omega arith) ∙ a .downs c (omega arith))
+          (children-own span (omega arith));
+      all = λ x i h k. (
+          let w = span .within (target g x i) (span .closed x i (target g x i) (place-at k)) in
+          omega arith
+          );
+    }
 
-module _ (n a : ℕ) (work : List ℕ) (fits : a + n ≤ length work) where
-  pub part-size : length (take n (drop a work)) ≡ n
-  part-size = length-take-le n (drop a work) (simp length-drop (omega arith))
-
-  pub part-cell : (c : ℕ) → c < n → getD (take n (drop a work)) c 0 ≡ getD work (a + c) 0
-  part-cell c h = getD-take n (drop a work) c 0 h ∙ getD-drop a work c 0
-
-module _ {g : Blocks} {F : Forest} {n m k s : ℕ} {work : List ℕ} (z : Sized g n m k) (a : Searched g F n s work) where
-  children : Lists g (childMark F) (target g) (take n (drop (4 * s) work))
-  children =
-      let many = z .vertices in
-      let o = a .room .apart in
-      let r = a .room .size in
-      children-listed (a .spans) (part-size n (4 * s) work (omega arith) ∙ sym many)
-      (λ c h. part-cell n (4 * s) work (omega arith) c (omega arith) ∙ a .downs c (omega arith))
-
-  pub listed-children : {bytes : List ℕ} → AreBytes bytes
-      → bits bytes ≡ set (markAll (take n (drop (4 * s) work)) (replicate (8 * k) false)) 0 false
-      → bytes ≡ pack (sectionE g F)
-  unfolding sectionE
-  listed-children are e = listed children z are e
-
-  pub children-below : Below (8 * k) (take n (drop (4 * s) work))
-  children-below = listed-below children z (a .room .some)
-
-module _ {g : Blocks} {F : Forest} {n m k s i : ℕ} {work : List ℕ} (z : Sized g n m k) (wf : WellFormed g)
-    (f : Lifting g F n s work i) where
-  parents : Lists g (parentMark g g F) (λ u j. u) (take n work)
-  parents =
-      let many = z .vertices in
-      let o = f .searched .room .apart in
-      let r = f .searched .room .size in
-      parents-listed (both-ends wf) (f .searched .spans .built) (length-take-le n work (omega arith) ∙ sym many)
-      (λ c h. rw (getD-take n work c 0 (omega arith)) (f .backs c (omega arith)))
-
-  pub listed-parents : {bytes : List ℕ} → AreBytes bytes
-      → bits bytes ≡ set (markAll (take n work) (replicate (8 * k) false)) 0 false → bytes ≡ pack (sectionP g F)
-  unfolding sectionP
-  listed-parents are e = listed parents z are e
-
-  pub parents-below : Below (8 * k) (take n work)
-  parents-below = listed-below parents z (f .searched .room .some)
+-- for P
+pub parents : {g : Blocks} {F : Forest} {n s i : ℕ} {work : List ℕ} → WellFormed g → length g ≡ n
+    → Lifting g F n s work i → Lists g (parentMark g g F) (λ u j. u) (take n work)
+parents {n = n} {work = work} wf many f =
+    let l = length-take-le n work (omega arith) in
+    record {
+      each = λ c h. rw (getD-take n work c 0 (omega arith))
+          (parents-own (both-ends wf) (f .searched .spans .built) (f .backs c (omega arith)));
+      all = λ x i h k. omega arith;
+    }

@@ -1,57 +1,23 @@
 -- How the cells of the work slice stand for the next positions and the slots, and what the stores of a step do to it.
---   Tied              the cells stand for two functions
---   tied, searching   the part of `Searching` that speaks of the cells
 --   room-after        room is left by what keeps the length
 --   tied-next         a next position is stored
 --   tied-enter        a vertex is entered
 --   enters            the same, for the arrays of a search program
-use mathlib.Core.Path.{_≡_, refl, sym, ap, ap₂, _∙_}
+use mathlib.Core.Path.{_≡_, refl, sym, ap, _∙_}
 use mathlib.Core.List.{List}
 use Prim.Native.Nat.{ℕ, _+_, _*_, _≤_, _<_}
 use native.Mathlib.Decide.{ℕ-discrete}
 use native.Mathlib.Omega.{arith}
+use borrow.Author.Needs.{needs}
 use lib.ListN.{length, getD}
 use Rattle.graph.specs.Graph.{Blocks}
-use Rattle.graph.specs.Search.{all, search}
 use Rattle.graph.specs.Laws.Loop.Arrays.{Enters}
-use Rattle.graph.specs.Laws.Loop.Invariant.{Loop}
-use Rattle.forest.specs.Steps.{Room, downBit, cellsOf, Searching, Entering}
+use Rattle.forest.specs.Steps.{Room, downBit, cellsOf, Tied, Entering}
 use Rattle.forest.proofs.Laws.Stores.{Put, put-length, put-other, put-here}
 use Rattle.forest.proofs.Laws.Stores.{changed, stored-changed, stored-after}
 
-pub record Tied (g : Blocks) (starts : List ℕ) (n s : ℕ) (work : List ℕ) (next-of slot-of : ℕ → ℕ) : Type 0 where
-  pub room : Room n s work
-  pub nexts : (v : ℕ) → v < n → getD work v 0 ≡ getD starts v 0 + next-of v
-  pub fresh : (v : ℕ) → v < n → getD work (2 * s + v) 0 ≡ 0 → next-of v ≡ 0
-  pub downs : (v : ℕ) → v < n → (getD work (2 * s + v) 0 ≡ 0 → ⊥)
-      → getD work (4 * s + v) 0 ≡ downBit g (getD work (s + v) 0) (slot-of v)
-
-module _ {g : Blocks} {roots todo starts : List ℕ} {n s : ℕ} {work : List ℕ} {left cur k : ℕ} where
-  pub tied : (t : Searching g roots todo starts n s work left cur k)
-      → Tied g starts n s work (t .next-of) (t .slot-of)
-  tied t = record { room = t .room; nexts = t .nexts; fresh = t .fresh; downs = t .downs }
-
-  pub searching : {next-of slot-of : ℕ → ℕ} → Tied g starts n s work next-of slot-of
-      → Loop g (search g all roots) left todo cur k (cellsOf s next-of slot-of work)
-      → Searching g roots todo starts n s work left cur k
-  searching {next-of} {slot-of} t l = record {
-    next-of = next-of;
-    slot-of = slot-of;
-    room = t .room;
-    nexts = t .nexts;
-    fresh = t .fresh;
-    downs = t .downs;
-    loop = l;
-  }
-
 pub room-after : {n s : ℕ} {work next : List ℕ} → Room n s work → length next ≡ length work → Room n s next
-room-after r e = record {
-  some = r .some;
-  few = r .few;
-  apart = r .apart;
-  near = r .near;
-  size = let z = r .size in omega arith;
-}
+room-after r e = search needs
 
 module _ {g : Blocks} {starts : List ℕ} {n s : ℕ} {work : List ℕ} {next-of slot-of : ℕ → ℕ}
     (t : Tied g starts n s work next-of slot-of) where
@@ -73,12 +39,8 @@ module _ {g : Blocks} {starts : List ℕ} {n s : ℕ} {work : List ℕ} {next-of
     }
       where
         at : (v : ℕ) → v < n → Dec (v ≡ u) → getD mid v 0 ≡ getD starts v 0 + changed next-of u x v
-        at v l (yes e) =
-            let r = t .room in
-            rw e (put-here p (omega arith) ∙ ap (λ y. getD starts u 0 + y) (sym (stored-changed n next-of u x .hit)))
-        at v l (no d) =
-            put-other p v d ∙ t .nexts v l
-            ∙ ap (λ y. getD starts v 0 + y) (sym (stored-changed n next-of u x .rest v l d))
+        at v l (yes e) = rw e (cc (put-here p (omega arith), stored-changed n next-of u x .hit))
+        at v l (no d) = cc (put-other p v d, t .nexts v l, stored-changed n next-of u x .rest v l d)
 
         new : (v : ℕ) → v < n → getD work (2 * s + v) 0 ≡ 0 → changed next-of u x v ≡ 0
         new v l z =
@@ -99,18 +61,14 @@ module _ {g : Blocks} {starts : List ℕ} {n s : ℕ} {work : List ℕ} {next-of
         other : (x : ℕ) → getD next (2 * s + x) 0 ≡ 0 → x ≡ v → ⊥
         other x z q =
             let y = ap (λ i. getD next (2 * s + i) 0) q in
-            let h = e .visits-set .hit in
             omega arith
 
         at : (x : ℕ) → x < n → (getD next (2 * s + x) 0 ≡ 0 → ⊥) → Dec (x ≡ v)
             → getD next (4 * s + x) 0 ≡ downBit g (getD next (s + x) 0) (changed slot-of v j x)
-        at x l z (yes q) =
-            rw q (e .downs-set .hit ∙ b
-            ∙ sym (ap₂ (downBit g) (e .parents-set .hit) (stored-changed n slot-of v j .hit)))
+        at x l z (yes q) = rw q (cc (stored-changed n slot-of v j .hit))
         at x l z (no d) =
-            e .downs-set .rest x l d
-            ∙ t .downs x l (λ y. z (e .visits-set .rest x l d ∙ y))
-            ∙ sym (ap₂ (downBit g) (e .parents-set .rest x l d) (stored-changed n slot-of v j .rest x l d))
+            let old = t .downs x l (λ y. z (e .visits-set .rest x l d ∙ y)) in
+            cc (e .downs-set .rest x l d, e .parents-set .rest x l d, stored-changed n slot-of v j .rest x l d)
 
 -- v is entered, after stores in the first part
 pub enters : {n s v k p bit : ℕ} (j : ℕ) (work : List ℕ) {mid next : List ℕ} (before next-of slot-of : ℕ → ℕ)

@@ -7,41 +7,22 @@ use Rattle.forest.proofs.Laws.Building.{done-unread}
 use Rattle.forest.proofs.build.Statement.{statement}
 use Rattle.forest.proofs.build.Tie as tie
 
-laid-out-requires : tie.Need-laid-out-requires
-laid-out-requires c κs = search needs
-
-enum-known-r : tie.Need-enum-known-r
-enum-known-r c = search needs
-
-enum-known-s : tie.Need-enum-known-s
-enum-known-s c = search needs
-
 in-room-requires : tie.Need-in-room-requires
-in-room-requires c κs = told-laid (c .before .before .before .before .before .before .before .before .before .args .bytes .now) (sym (ap shape (c .before .before .before .s .given .1)) ∙ c .before .before .before .before .before .laid-out .ensures)
+in-room-requires c κs =
+    let passed = c .before .before .before in
+    let laid = passed .before .before in
+    told-laid (laid .before .before .before .before .args .bytes .now)
+    (sym (ap shape (passed .s .given .1)) ∙ laid .laid-out .ensures)
 
 returns : tie.Need-returns
 returns c =
-    let d = done-unread (sizesOf (c .before .before .before .before .before .before .before .args .bytes .now)) (sym (ap shape (c .before .r .given .1)) ∙ c .before .before .before .laid-out .ensures) in
+    let laid = c .before .before .before in
+    let d = done-unread (sizesOf (laid .before .before .before .before .args .bytes .now))
+    (sym (ap shape (c .before .r .given .1)) ∙ laid .laid-out .ensures) in
     (d .told, d .left)
-
-same-length : tie.Need-same-length
-same-length c = search needs
-
-same-length-2 : tie.Need-same-length-2
-same-length-2 c = search needs
-
-returns-2 : tie.Need-returns-2
-returns-2 c = (c .before .before .before .before .in-room .ensures .told, c .before .before .before .before .in-room .ensures .left)
 
 pub build-spec : {M : Type 1} → statement M
 build-spec =
     tie.close
-    (tie.spec
-    laid-out-requires
-    enum-known-r
-    enum-known-s
-    in-room-requires
-    returns
-    same-length
-    same-length-2
-    returns-2)
+    (tie.spec (λ c κs. search needs) (λ c. search needs) (λ c. search needs) in-room-requires returns
+    (λ c. search needs) (λ c. search needs) (λ c. search needs))

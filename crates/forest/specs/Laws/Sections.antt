@@ -1,4 +1,5 @@
--- The bits of a section: how many they are, and where those of a vertex and of its block stand; and the numbers in order.
+-- The bits of a section: how many they are, and where those of a vertex and of its block stand; and the numbers in
+-- order.
 use mathlib.Core.Path.{_≡_, refl, ap, ap₂, _∙_}
 use mathlib.Core.Bool.{Bool, false}
 use mathlib.Core.List.{List, [], _∷_, _++_, map, flatten}
@@ -24,7 +25,8 @@ each-at f d i zero k h = absurd (omega arith)
 each-at f d i (suc n) zero h = ap f (omega arith)
 each-at f d i (suc n) (suc k) h = each-at f d (suc i) n k (omega arith) ∙ ap f (omega arith)
 
-pub each-same : {A : Type 0} (f h : ℕ → A) (i n : ℕ) → ((k : ℕ) → k < n → f (i + k) ≡ h (i + k)) → map f (countUp i n) ≡ map h (countUp i n)
+pub each-same : {A : Type 0} (f h : ℕ → A) (i n : ℕ) → ((k : ℕ) → k < n → f (i + k) ≡ h (i + k))
+    → map f (countUp i n) ≡ map h (countUp i n)
 unfolding countUp
 each-same f h i zero e = refl
 each-same {A} f h i (suc n) e =
@@ -58,7 +60,9 @@ pub start-most : (g : Blocks) (u : ℕ) → blockStart g u ≤ length (flatten g
 unfolding flatten
 start-most g zero = omega arith
 start-most [] (suc u) = omega arith
-start-most (b ∷ g) (suc u) = let r = start-most g u in omega (arith, length-append b (flatten (take u g)), length-append b (flatten g))
+start-most (b ∷ g) (suc u) =
+    let r = start-most g u in
+    omega (arith, length-append b (flatten (take u g)), length-append b (flatten g))
 
 -- the marks laid out, where the first block is vertex u's
 abbrev pub laidFrom : PlaceTest → ℕ → Blocks → List Bool
@@ -72,50 +76,56 @@ length-laid : (test : PlaceTest) (u : ℕ) (g : Blocks) → length (laidFrom tes
 unfolding layOut marksFrom flatten
 length-laid test u [] = refl
 length-laid test u (b ∷ g) =
-    omega (arith, length-append (marksOf test u b) (laidFrom test (suc u) g), length-each (test u) 0 (length b), length-append b (flatten g), length-laid test (suc u) g)
+    let each = length-each (test u) 0 (length b) in
+    let rest = length-laid test (suc u) g in
+    omega (arith, length-append (marksOf test u b) (laidFrom test (suc u) g), length-append b (flatten g))
 
 pub length-section : (test : PlaceTest) (g : Blocks) → length (section test g) ≡ length g + length (flatten g)
 unfolding section
 length-section test g = length-laid test 0 g
 
-pub marks-same : (a b : PlaceTest) (u : ℕ) (g : Blocks) → ((x j : ℕ) → x < length g → j < length (block g x) → a (u + x) j ≡ b (u + x) j)
+pub marks-same : (a b : PlaceTest) (u : ℕ) (g : Blocks)
+    → ((x j : ℕ) → x < length g → j < length (block g x) → a (u + x) j ≡ b (u + x) j)
     → marksFrom a u g ≡ marksFrom b u g
 unfolding marksFrom
 marks-same a b u [] e = refl
 marks-same a b u (l ∷ g) e =
-    ap₂ (λ (x : List Bool) (xs : List (List Bool)). x ∷ xs) (each-same (a u) (b u) 0 (length l) first) (marks-same a b (suc u) g rest)
+    ap₂ (λ (x : List Bool) (xs : List (List Bool)). x ∷ xs) (each-same (a u) (b u) 0 (length l) first)
+    (marks-same a b (suc u) g rest)
   where
     first : (j : ℕ) → j < length l → a u (0 + j) ≡ b u (0 + j)
-    first j k = let z : u + 0 ≡ u = omega arith in let y : 0 + j ≡ j = omega arith in rw y (rw z at (e 0 j (omega arith) k))
+    first j k =
+        let z : u + 0 ≡ u = omega arith in
+        let y : 0 + j ≡ j = omega arith in
+        rw y (rw z at (e 0 j (omega arith) k))
 
     rest : (x j : ℕ) → x < length g → j < length (block g x) → a (suc u + x) j ≡ b (suc u + x) j
     rest x j k l = let c : u + suc x ≡ suc u + x = omega arith in rw c at (e (suc x) j (omega arith) l)
 
 -- tests that agree at every place
-pub section-same : (a b : PlaceTest) (g : Blocks) → ((u j : ℕ) → u < length g → j < length (block g u) → a u j ≡ b u j) → section a g ≡ section b g
+pub section-same : (a b : PlaceTest) (g : Blocks)
+    → ((u j : ℕ) → u < length g → j < length (block g u) → a u j ≡ b u j) → section a g ≡ section b g
 unfolding section
-section-same a b g e = ap (layOut false) (marks-same a b 0 g at0)
-  where
-    at0 : (u j : ℕ) → u < length g → j < length (block g u) → a (0 + u) j ≡ b (0 + u) j
-    at0 u j k l = let z : 0 + u ≡ u = omega arith in rw z (e u j k l)
+section-same a b g e =
+    ap (layOut false) (marks-same a b 0 g (λ u j k l. let z : 0 + u ≡ u = omega arith in rw z (e u j k l)))
 
 -- past the first vertex's bits
 laid-on : (test : PlaceTest) (u : ℕ) (b : List ℕ) (g : Blocks) (k : ℕ)
     → getD (laidFrom test u (b ∷ g)) (suc (length b + k)) false ≡ getD (laidFrom test (suc u) g) k false
 unfolding layOut marksFrom
 laid-on test u b g k =
-    let e : length b + k ≡ length (marksOf test u b) + k = rw (length-each (test u) 0 (length b)) in
-    ap (λ (i : ℕ). getD (marksOf test u b ++ laidFrom test (suc u) g) i false) e
-    ∙ getD-append-add (marksOf test u b) (laidFrom test (suc u) g) k false
+    rw (length-each (test u) 0 (length b)) at
+    (getD-append-add (marksOf test u b) (laidFrom test (suc u) g) k false)
 
-own-from : (test : PlaceTest) (t : ℕ) (g : Blocks) (u : ℕ) → u < length g → getD (laidFrom test t g) (blockStart g u + u) false ≡ false
+own-from : (test : PlaceTest) (t : ℕ) (g : Blocks) (u : ℕ) → u < length g
+    → getD (laidFrom test t g) (blockStart g u + u) false ≡ false
 unfolding layOut marksFrom flatten
 own-from test t [] u h = absurd (omega arith)
 own-from test t (b ∷ g) zero h = refl
 own-from test t (b ∷ g) (suc u) h =
-    let e : length (b ++ flatten (take u g)) + suc u ≡ suc (length b + (blockStart g u + u)) = omega (arith, length-append b (flatten (take u g))) in
-    ap (λ (i : ℕ). getD (laidFrom test t (b ∷ g)) i false) e
-    ∙ laid-on test t b g (blockStart g u + u) ∙ own-from test (suc t) g u (omega arith)
+    let e : length (b ++ flatten (take u g)) + suc u ≡ suc (length b + (blockStart g u + u)) =
+    omega (arith, length-append b (flatten (take u g))) in
+    rw e (laid-on test t b g (blockStart g u + u) ∙ own-from test (suc t) g u (omega arith))
 
 mark-from : (test : PlaceTest) (t : ℕ) (g : Blocks) (u j : ℕ) → u < length g → j < length (block g u)
     → getD (laidFrom test t g) (blockStart g u + u + 1 + j) false ≡ test (t + u) j
@@ -125,21 +135,18 @@ mark-from test t (b ∷ g) zero j h k =
     let e : 1 + j ≡ suc j = omega arith in
     let l : j < length (marksOf test t b) = rw (length-each (test t) 0 (length b)) k in
     let z : 0 + j ≡ j = omega arith in
-    let y : t ≡ t + 0 = omega arith in
-    ap (λ (i : ℕ). getD (laidFrom test t (b ∷ g)) i false) e
-    ∙ List·getD-append (marksOf test t b) (laidFrom test (suc t) g) false j l
-    ∙ each-at (test t) false 0 (length b) j k
-    ∙ ap₂ test y z
+    let y : t + 0 ≡ t = omega arith in
+    rw (e, y) (List·getD-append (marksOf test t b) (laidFrom test (suc t) g) false j l
+    ∙ rw z at (each-at (test t) false 0 (length b) j k))
 mark-from test t (b ∷ g) (suc u) j h k =
     let e : length (b ++ flatten (take u g)) + suc u + 1 + j ≡ suc (length b + (blockStart g u + u + 1 + j)) =
     omega (arith, length-append b (flatten (take u g))) in
     let y : suc t + u ≡ t + suc u = omega arith in
-    ap (λ (i : ℕ). getD (laidFrom test t (b ∷ g)) i false) e
-    ∙ laid-on test t b g (blockStart g u + u + 1 + j) ∙ mark-from test (suc t) g u j (omega arith) k
-    ∙ ap (λ (i : ℕ). test i j) y
+    rw (e, ← y) (laid-on test t b g (blockStart g u + u + 1 + j) ∙ mark-from test (suc t) g u j (omega arith) k)
 
 -- the bit of a vertex itself
-pub own-bit : (test : PlaceTest) (g : Blocks) (u : ℕ) → u < length g → getD (section test g) (blockStart g u + u) false ≡ false
+pub own-bit : (test : PlaceTest) (g : Blocks) (u : ℕ) → u < length g
+    → getD (section test g) (blockStart g u + u) false ≡ false
 unfolding section
 own-bit test g u h = own-from test 0 g u h
 
@@ -147,7 +154,7 @@ own-bit test g u h = own-from test 0 g u h
 pub mark-bit : (test : PlaceTest) (g : Blocks) (u j : ℕ) → u < length g → j < length (block g u)
     → getD (section test g) (placeBit g u j) false ≡ test u j
 unfolding section
-mark-bit test g u j h k = let z : 0 + u ≡ u = omega arith in mark-from test 0 g u j h k ∙ ap (λ (i : ℕ). test i j) z
+mark-bit test g u j h k = let z : 0 + u ≡ u = omega arith in rw z at (mark-from test 0 g u j h k)
 
 -- ---- the numbers
 
@@ -157,4 +164,4 @@ length-numbers g F = length-each (number F) 0 (length g)
 
 pub number-at : (g : Blocks) (F : Forest) (v : ℕ) → v < length g → getD (numbers g F) v 0 ≡ number F v
 unfolding numbers
-number-at g F v h = let z : 0 + v ≡ v = omega arith in each-at (number F) 0 0 (length g) v h ∙ ap (number F) z
+number-at g F v h = let z : 0 + v ≡ v = omega arith in rw z at (each-at (number F) 0 0 (length g) v h)

@@ -4,7 +4,7 @@ use mathlib.Core.List.{List, flatten}
 use Prim.Native.Nat.{ℕ, zero, suc, _+_, _-_, _≤_, _<_}
 use native.Mathlib.Numerals.{add-one}
 use native.Mathlib.Omega.{arith}
-use lib.ListN.{length, getD, take}
+use lib.ListN.{length, getD}
 use lib.Seq.{take-all}
 use Rattle.graph.specs.Graph.{Blocks}
 use Rattle.adjacency.specs.Arrays.{cut, Divided}
@@ -36,9 +36,8 @@ start-cut {starts} {nbrs} i (suc u) h =
 pub places-cut : {starts nbrs : List ℕ} → Divided starts nbrs → length (flatten (cut starts nbrs)) ≡ length nbrs
 places-cut {starts} {nbrs} i =
     let l = length-cut starts nbrs in
-    let s = i .some in
     let e = start-cut i (length starts - 1) (omega arith) in
-    let a : take (length starts - 1) (cut starts nbrs) ≡ cut starts nbrs = take-all (length starts - 1) (cut starts nbrs) (omega arith) in
+    let a = take-all (length starts - 1) (cut starts nbrs) (omega arith) in
     sym (ap (λ (g : Blocks). length (flatten g)) a) ∙ sym e ∙ i .last
 
 -- the same for the starts that are found in D

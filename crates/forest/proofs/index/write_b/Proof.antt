@@ -1,47 +1,19 @@
 -- `index::write_b` meets its contract.
-use borrow.Author.Needs.{needs}
-use native.Mathlib.Omega.{arith}
-use mathlib.Core.Path.{sym, ap, _∙_}
-use lib.Seq.{length-take-le}
-use lib.ListN.{length, drop, length-drop}
 use Prim.Native.Nat.{_-_, _*_}
-use Rattle.forest.proofs.Laws.Fronts.{next-written, length-upToP, b-asked}
+use borrow.Author.Needs.{needs}
+use Rattle.forest.proofs.Laws.Fronts.{length-upToP, advance}
 use Rattle.forest.proofs.index.write_b.Statement.{statement}
 use Rattle.forest.proofs.index.write_b.Tie as tie
 
-mul-mark-bridges : tie.Need-mul-mark-bridges
-mul-mark-bridges c = search needs
-
-mul-mark-bridges-2 : tie.Need-mul-mark-bridges-2
-mul-mark-bridges-2 c = search needs
-
-sub-mark-bridges : tie.Need-sub-mark-bridges
-sub-mark-bridges c = search needs
-
-part-mark-bridges-start : tie.Need-part-mark-bridges-start
-part-mark-bridges-start c = search needs
-
-part-mark-bridges-end : tie.Need-part-mark-bridges-end
-part-mark-bridges-end c = search needs
-
-mark-bridges-requires : tie.Need-mark-bridges-requires
-mark-bridges-requires c κs = b-asked (c .before .before .before .before .before .pre .0 .0) (c .before .before .before .before .before .pre .1 .0) (length-take-le (3 * c .before .before .before .before .before .args .k - 2 * c .before .before .before .before .before .args .k) (drop (2 * c .before .before .before .before .before .args .k) (c .before .before .before .before .before .args .index .now)) (let l = length-drop (2 * c .before .before .before .before .before .args .k) (c .before .before .before .before .before .args .index .now) in let h = c .before .before .before .before .before .pre .0 .1 in omega arith) ∙ omega arith)
-
-same-length : tie.Need-same-length
-same-length c = search needs
-
 returns : tie.Need-returns
-returns c = (next-written (c .before .before .before .before .before .before .before .before .pre .1 .1) (2 * c .before .before .before .before .before .before .before .before .args .k) (3 * c .before .before .before .before .before .before .before .before .args .k - 2 * c .before .before .before .before .before .before .before .before .args .k) (length-upToP (c .before .before .before .before .before .before .before .before .pre .0 .0)) (c .before .before .mark-bridges .ensures), search needs)
+returns c =
+    let m = c .before .before in
+    let s = m .before .before .before .before .before .before in
+    let k = s .args .k in
+    advance (s .pre .1) (2 * k) (3 * k - 2 * k) (length-upToP (s .pre .0)) (m .mark-bridges .ensures) (search needs)
 
 pub write-b-spec : {M : Type 1} → statement M
 write-b-spec =
     tie.close
-    (tie.spec
-    mul-mark-bridges
-    mul-mark-bridges-2
-    sub-mark-bridges
-    part-mark-bridges-start
-    part-mark-bridges-end
-    mark-bridges-requires
-    same-length
-    returns)
+    (tie.spec (λ c. search needs) (λ c. search needs) (λ c. search needs) (λ c. search needs) (λ c. search needs)
+    (λ c κs. search needs) (λ c. search needs) returns)

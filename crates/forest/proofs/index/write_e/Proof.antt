@@ -1,59 +1,39 @@
 -- `index::write_e` meets its contract.
-use borrow.Author.Needs.{needs}
+use mathlib.Core.Path.{_≡_, refl, sym}
 use native.Mathlib.Omega.{arith}
-use mathlib.Core.Path.{sym}
+use borrow.Author.Needs.{needs}
+use lib.ListN.{length, take}
 use lib.Seq.{length-take-le}
-use lib.ListN.{length, drop, length-drop}
-use Prim.Native.Nat.{_+_, _-_, _*_}
-use Rattle.forest.proofs.Laws.Fronts.{first-written, e-asked, e-written}
+use Rattle.forest.proofs.Laws.Owned.{children}
+use Rattle.forest.proofs.Laws.Fronts.{marks-asked, marks-written, advance}
 use Rattle.forest.proofs.index.write_e.Statement.{statement}
 use Rattle.forest.proofs.index.write_e.Tie as tie
 
-mul-from : tie.Need-mul-from
-mul-from c = search needs
-
-add-to : tie.Need-add-to
-add-to c = search needs
-
-mul-mark-listed : tie.Need-mul-mark-listed
-mul-mark-listed c = search needs
-
-sub-mark-listed : tie.Need-sub-mark-listed
-sub-mark-listed c = search needs
-
-part-mark-listed-start : tie.Need-part-mark-listed-start
-part-mark-listed-start c = search needs
-
-part-mark-listed-end : tie.Need-part-mark-listed-end
-part-mark-listed-end c = search needs
-
-slice-relend-prefix-mark-listed : tie.Need-slice-relend-prefix-mark-listed
-slice-relend-prefix-mark-listed c = search needs
+-- the front of the buffer, which is lent
+size : (s : tie.Start) → length (take (s .args .k) (s .args .index .now)) ≡ s .args .k
+size s = length-take-le (s .args .k) (s .args .index .now) (omega (arith, s .pre .1 .size))
 
 slice-aggregate-mark-listed : tie.Need-slice-aggregate-mark-listed
-slice-aggregate-mark-listed c = sym (length-take-le (c .before .before .before .before .before .before .args .k) (c .before .before .before .before .before .before .args .index .now) (c .before .before .before .before .before .before .pre .1))
+slice-aggregate-mark-listed c = sym (size (c .before .before .before .before .before .before))
 
 mark-listed-requires : tie.Need-mark-listed-requires
-mark-listed-requires c κs = e-asked (c .before .before .before .before .before .before .pre .0) (4 * c .before .before .before .before .before .before .args .s + c .before .before .before .before .before .before .args .n - 4 * c .before .before .before .before .before .before .args .s) (omega arith) (length-take-le (c .before .before .before .before .before .before .args .k) (c .before .before .before .before .before .before .args .index .now) (c .before .before .before .before .before .before .pre .1))
-
-same-length : tie.Need-same-length
-same-length c = search needs
+mark-listed-requires c κs =
+    let s = c .before .before .before .before .before .before in
+    let r = s .pre .0 in
+    marks-asked r (children (r .sized .vertices) (r .lifting .searched)) (size s)
 
 returns : tie.Need-returns
-returns c = (first-written _ (e-written (c .before .before .before .before .before .before .before .before .before .pre .0) (4 * c .before .before .before .before .before .before .before .before .before .args .s + c .before .before .before .before .before .before .before .before .before .args .n - 4 * c .before .before .before .before .before .before .before .before .before .args .s) (omega arith) (length-take-le (c .before .before .before .before .before .before .before .before .before .args .k) (c .before .before .before .before .before .before .before .before .before .args .index .now) (c .before .before .before .before .before .before .before .before .before .pre .1)) (c .before .before .mark-listed .ensures .1 .1) (c .before .before .mark-listed .ensures .0)), search needs)
+returns c =
+    let m = c .before .before in
+    let s = m .before .before .before .before .before .before .before in
+    let r = s .pre .0 in
+    let list = children (r .sized .vertices) (r .lifting .searched) in
+    let section = marks-written r list (size s) (m .mark-listed .ensures .1 .1) (m .mark-listed .ensures .0) in
+    advance (s .pre .1) 0 (s .args .k) refl section (search needs)
 
 pub write-e-spec : {M : Type 1} → statement M
 write-e-spec =
     tie.close
-    (tie.spec
-    mul-from
-    add-to
-    mul-mark-listed
-    sub-mark-listed
-    part-mark-listed-start
-    part-mark-listed-end
-    slice-relend-prefix-mark-listed
-    slice-aggregate-mark-listed
-    mark-listed-requires
-    same-length
+    (tie.spec (λ c. search needs) (λ c. search needs) (λ c. search needs) (λ c. search needs) (λ c. search needs)
+    (λ c. search needs) (λ c. search needs) slice-aggregate-mark-listed mark-listed-requires (λ c. search needs)
     returns)

@@ -1,40 +1,33 @@
 -- `index::write_index` meets its contract.
 use borrow.Author.Needs.{needs}
-use native.Mathlib.Omega.{arith}
-use mathlib.Core.Path.{_∙_}
-use Rattle.forest.proofs.Laws.Fronts.{room-for, index-all}
+use Rattle.forest.proofs.Laws.Fronts.{index-all}
 use Rattle.forest.proofs.index.write_index.Statement.{statement}
 use Rattle.forest.proofs.index.write_index.Tie as tie
 
-stride-requires : tie.Need-stride-requires
-stride-requires c κs = search needs
-
-search-requires : tie.Need-search-requires
-search-requires c κs = (c .before .before .before .before .before .before .pre .0 .0, c .before .before .before .before .before .before .pre .0 .1, room-for (c .before .before .before .before .before .before .args .n) (c .before .before .before .before .before .before .pre .0 .0) (c .before .before .before .before .before .before .pre .0 .1) (c .before .before .before .before .before .before .pre .1 .1) (c .before .before .before .before .before .before .pre .1 .2) (c .before .stride .ensures))
+-- the search is done
+abbrev start : tie.After-search → tie.Start
+start c = c .before .before .before .before .before .before .before
 
 lowpoints-requires : tie.Need-lowpoints-requires
-lowpoints-requires c κs = ((c .before .before .before .before .before .before .before .before .before .before .pre .0 .0, c .before .before .before .before .before .before .before .before .before .before .pre .1 .0, c .before .before .before .before .before .before .before .before .before .before .pre .0 .1), record { forest = _; searched = c .before .before .before .search .ensures })
+lowpoints-requires c κs =
+    (search needs, record { forest = _; searched = c .before .before .before .search .ensures })
 
 write-sections-requires : tie.Need-write-sections-requires
-write-sections-requires c κs = ((c .before .before .before .before .before .before .before .before .before .before .before .before .before .before .before .pre .0 .0 .divided, c .before .before .before .before .before .before .before .before .before .before .before .before .before .before .before .pre .0 .1, c .before .before .before .before .before .before .before .before .before .before .before .before .before .before .before .pre .0 .2), (c .before .before .before .before .before .before .before .before .before .before .before .before .before .before .before .pre .1 .0, c .before .before .before .before .lowpoints .ensures _ (c .before .before .before .before .before .before .before .before .search .ensures), c .before .before .before .before .before .before .before .before .before .before .before .before .before .before .before .pre .1 .3))
-
-same-length : tie.Need-same-length
-same-length c = search needs
-
-same-length-2 : tie.Need-same-length-2
-same-length-2 c = search needs
+write-sections-requires c κs =
+    let l = c .before .before .before .before in
+    let f = l .before .before .before .before in
+    let p = start f .pre in
+    let lifting = l .lowpoints .ensures _ (f .search .ensures) in
+    (search needs, (p .1 .0, lifting, p .1 .3))
 
 returns : tie.Need-returns
-returns c = index-all (c .before .before .before .before .before .before .before .before .before .before .before .before .before .before .before .before .before .before .args .n) (c .before .before .before .before .before .before .before .before .before .before .before .before .before .before .before .before .before .before .pre .0 .0) (c .before .before .before .before .before .before .before .before .before .before .before .before .before .before .before .before .before .before .pre .0 .1) (c .before .before .write-sections .ensures)
+returns c =
+    let w = c .before .before in
+    let s = start (w .before .before .before .before .before .before .before .before .before) in
+    index-all (s .args .n) (s .args .starts .now) (s .args .nbrs .now) (s .pre .0 .1) (w .write-sections .ensures)
 
 pub write-index-spec : {M : Type 1} → statement M
 write-index-spec =
     tie.close
-    (tie.spec
-    stride-requires
-    search-requires
-    lowpoints-requires
-    write-sections-requires
-    same-length
-    same-length-2
-    returns)
+    (tie.spec (λ c κs. search needs) (λ c κs. search needs) lowpoints-requires write-sections-requires
+    (λ c. search needs) (λ c. search needs) returns)

@@ -1,47 +1,42 @@
 -- `index::write_p` meets its contract.
-use borrow.Author.Needs.{needs}
-use native.Mathlib.Omega.{arith}
-use mathlib.Core.Path.{sym, _∙_}
-use lib.Seq.{length-take-le}
-use lib.ListN.{length, drop, length-drop}
+use mathlib.Core.Path.{_≡_, sym}
 use Prim.Native.Nat.{_-_, _*_}
-use Rattle.forest.proofs.Laws.Fronts.{next-written, length-upToE, p-asked, p-written}
+use native.Mathlib.Omega.{arith}
+use borrow.Author.Needs.{needs}
+use lib.ListN.{length, take, drop}
+use lib.Seq.{length-take-le}
+use Rattle.forest.proofs.Laws.Owned.{part-size, parents}
+use Rattle.forest.proofs.Laws.Fronts.{marks-asked, marks-written, length-upToE, advance}
 use Rattle.forest.proofs.index.write_p.Statement.{statement}
 use Rattle.forest.proofs.index.write_p.Tie as tie
 
+-- the part of the buffer that is lent
+size : (s : tie.Start)
+    → length (take (2 * s .args .k - s .args .k) (drop (s .args .k) (s .args .index .now))) ≡ s .args .k
+size s = part-size (s .args .k) (2 * s .args .k) (s .args .index .now) (omega arith) (omega (arith, s .pre .1 .size))
+
 slice-aggregate-mark-listed : tie.Need-slice-aggregate-mark-listed
-slice-aggregate-mark-listed c = let o = c .before .before .before .before .before .pre .0 .0 .lifting .searched .room .apart in let z = c .before .before .before .before .before .pre .0 .0 .lifting .searched .room .size in sym (length-take-le (c .before .before .before .before .before .args .n) (c .before .before .before .before .before .args .work .now) (omega arith))
-
-mul-mark-listed : tie.Need-mul-mark-listed
-mul-mark-listed c = search needs
-
-sub-mark-listed : tie.Need-sub-mark-listed
-sub-mark-listed c = search needs
-
-part-mark-listed-start : tie.Need-part-mark-listed-start
-part-mark-listed-start c = search needs
-
-part-mark-listed-end : tie.Need-part-mark-listed-end
-part-mark-listed-end c = search needs
+slice-aggregate-mark-listed c =
+    let s = c .before .before .before .before .before in
+    sym (length-take-le (s .args .n) (s .args .work .now) (omega arith))
 
 mark-listed-requires : tie.Need-mark-listed-requires
-mark-listed-requires c κs = p-asked (c .before .before .before .before .before .before .pre .0 .0) (length-take-le (2 * c .before .before .before .before .before .before .args .k - c .before .before .before .before .before .before .args .k) (drop (c .before .before .before .before .before .before .args .k) (c .before .before .before .before .before .before .args .index .now)) (let l = length-drop (c .before .before .before .before .before .before .args .k) (c .before .before .before .before .before .before .args .index .now) in let h = c .before .before .before .before .before .before .pre .0 .1 in omega arith) ∙ omega arith)
-
-same-length : tie.Need-same-length
-same-length c = search needs
+mark-listed-requires c κs =
+    let s = c .before .before .before .before .before .before in
+    let r = s .pre .0 in
+    marks-asked r (parents (r .formed) (r .sized .vertices) (r .lifting)) (size s)
 
 returns : tie.Need-returns
-returns c = (next-written (c .before .before .before .before .before .before .before .before .before .pre .1) (c .before .before .before .before .before .before .before .before .before .args .k) (2 * c .before .before .before .before .before .before .before .before .before .args .k - c .before .before .before .before .before .before .before .before .before .args .k) (length-upToE (c .before .before .before .before .before .before .before .before .before .pre .0 .0)) (p-written (c .before .before .before .before .before .before .before .before .before .pre .0 .0) (length-take-le (2 * c .before .before .before .before .before .before .before .before .before .args .k - c .before .before .before .before .before .before .before .before .before .args .k) (drop (c .before .before .before .before .before .before .before .before .before .args .k) (c .before .before .before .before .before .before .before .before .before .args .index .now)) (let l = length-drop (c .before .before .before .before .before .before .before .before .before .args .k) (c .before .before .before .before .before .before .before .before .before .args .index .now) in let h = c .before .before .before .before .before .before .before .before .before .pre .0 .1 in omega arith) ∙ omega arith) (c .before .before .mark-listed .ensures .1 .1) (c .before .before .mark-listed .ensures .0)), search needs)
+returns c =
+    let m = c .before .before in
+    let s = m .before .before .before .before .before .before .before in
+    let r = s .pre .0 in
+    let list = parents (r .formed) (r .sized .vertices) (r .lifting) in
+    let section = marks-written r list (size s) (m .mark-listed .ensures .1 .1) (m .mark-listed .ensures .0) in
+    advance (s .pre .1) (s .args .k) (2 * s .args .k - s .args .k) (length-upToE r) section (search needs)
 
 pub write-p-spec : {M : Type 1} → statement M
 write-p-spec =
     tie.close
-    (tie.spec
-    slice-aggregate-mark-listed
-    mul-mark-listed
-    sub-mark-listed
-    part-mark-listed-start
-    part-mark-listed-end
-    mark-listed-requires
-    same-length
-    returns)
+    (tie.spec slice-aggregate-mark-listed (λ c. search needs) (λ c. search needs) (λ c. search needs)
+    (λ c. search needs) mark-listed-requires (λ c. search needs) returns)

@@ -1,67 +1,29 @@
 -- `index::write_rest` meets its contract.
-use borrow.Author.Needs.{needs}
+use Prim.Native.Nat.{_-_, _*_}
 use native.Mathlib.Omega.{arith}
-use mathlib.Core.Path.{sym, _∙_}
-use lib.Seq.{length-take-le}
-use lib.ListN.{length, drop, length-drop}
-use Prim.Native.Nat.{_+_, _-_, _*_}
-use Rattle.forest.proofs.Laws.Fronts.{last-written, length-upToB, index-written, visits-asked, numbers-room, numbers-written}
+use borrow.Author.Needs.{needs}
+use lib.ListN.{length}
+use Rattle.forest.proofs.Laws.Owned.{part-size}
+use Rattle.forest.proofs.Laws.Fronts.{numbers-asked, index-written}
 use Rattle.forest.proofs.index.write_rest.Statement.{statement}
 use Rattle.forest.proofs.index.write_rest.Tie as tie
 
-mul-from : tie.Need-mul-from
-mul-from c = search needs
-
-add-to : tie.Need-add-to
-add-to c = search needs
-
-mul-write-numbers : tie.Need-mul-write-numbers
-mul-write-numbers c = search needs
-
-sub-write-numbers : tie.Need-sub-write-numbers
-sub-write-numbers c = search needs
-
-part-write-numbers-start : tie.Need-part-write-numbers-start
-part-write-numbers-start c = search needs
-
-part-write-numbers-end : tie.Need-part-write-numbers-end
-part-write-numbers-end c = search needs
-
-mul-write-numbers-2 : tie.Need-mul-write-numbers-2
-mul-write-numbers-2 c = search needs
-
-sub-write-numbers-2 : tie.Need-sub-write-numbers-2
-sub-write-numbers-2 c = search needs
-
-part-write-numbers-start-2 : tie.Need-part-write-numbers-start-2
-part-write-numbers-start-2 c = search needs
-
-part-write-numbers-end-2 : tie.Need-part-write-numbers-end-2
-part-write-numbers-end-2 c = search needs
-
 write-numbers-requires : tie.Need-write-numbers-requires
-write-numbers-requires c κs = (visits-asked (c .before .before .before .before .before .before .pre .0 .0) (2 * c .before .before .before .before .before .before .args .s + c .before .before .before .before .before .before .args .n - 2 * c .before .before .before .before .before .before .args .s) (omega arith), numbers-room (c .before .before .before .before .before .before .pre .0 .0) (2 * c .before .before .before .before .before .before .args .s + c .before .before .before .before .before .before .args .n - 2 * c .before .before .before .before .before .before .args .s) (omega arith) (length-take-le (length (c .before .before .before .before .before .before .args .index .now) - 3 * c .before .before .before .before .before .before .args .k) (drop (3 * c .before .before .before .before .before .before .args .k) (c .before .before .before .before .before .before .args .index .now)) (let l = length-drop (3 * c .before .before .before .before .before .before .args .k) (c .before .before .before .before .before .before .args .index .now) in omega arith) ∙ omega arith))
-
-same-length : tie.Need-same-length
-same-length c = search needs
+write-numbers-requires c κs =
+    let s = c .before .before .before .before .before .before in
+    numbers-asked (s .pre .0)
+    (part-size (3 * s .args .k) (length (s .args .index .now)) (s .args .index .now) (omega arith) (omega arith))
 
 returns : tie.Need-returns
-returns c = index-written (c .before .before .before .before .before .before .before .before .before .pre .0 .0) (last-written (c .before .before .before .before .before .before .before .before .before .pre .1) (3 * c .before .before .before .before .before .before .before .before .before .args .k) (length (c .before .before .before .before .before .before .before .before .before .args .index .now) - 3 * c .before .before .before .before .before .before .before .before .before .args .k) (length-upToB (c .before .before .before .before .before .before .before .before .before .pre .0 .0)) (numbers-written (c .before .before .before .before .before .before .before .before .before .pre .0 .0) (2 * c .before .before .before .before .before .before .before .before .before .args .s + c .before .before .before .before .before .before .before .before .before .args .n - 2 * c .before .before .before .before .before .before .before .before .before .args .s) (omega arith) (c .before .before .write-numbers .ensures)) (omega arith))
+returns c =
+    let w = c .before .before in
+    let s = w .before .before .before .before .before .before .before in
+    let rest = length (s .args .index .now) - 3 * s .args .k in
+    index-written (s .pre .0) (s .pre .1) rest (omega arith) (w .write-numbers .ensures)
 
 pub write-rest-spec : {M : Type 1} → statement M
 write-rest-spec =
     tie.close
-    (tie.spec
-    mul-from
-    add-to
-    mul-write-numbers
-    sub-write-numbers
-    part-write-numbers-start
-    part-write-numbers-end
-    mul-write-numbers-2
-    sub-write-numbers-2
-    part-write-numbers-start-2
-    part-write-numbers-end-2
-    write-numbers-requires
-    same-length
-    returns)
+    (tie.spec (λ c. search needs) (λ c. search needs) (λ c. search needs) (λ c. search needs) (λ c. search needs)
+    (λ c. search needs) (λ c. search needs) (λ c. search needs) (λ c. search needs) (λ c. search needs)
+    write-numbers-requires (λ c. search needs) returns)

@@ -18,87 +18,43 @@ abbrev lower : tie.After-lesser → tie.Then1
 lower c = c .before .before .before .before .before .before
 
 there : (c : tie.After-get) → 5 * start c .args .s + c .get .result < length (start c .args .work .now)
-there c = lift-room (start c .args .k) (start c .pre) (c .get .ensures .0)
+there c = let p = start c .pre in lift-room (p .0) (p .1) (c .get .ensures .0) (p .2 .lifting)
 
 above : (c : tie.Then1)
     → 5 * start (seen (c .before)) .args .s + (c .before .get2 .result - 1)
     < length (start (seen (c .before)) .args .work .now)
 above c =
     let s = seen (c .before) in
-    lift-up (start s .args .k) (start s .pre) (s .get .ensures .0) (c .before .get2 .ensures .0) (c .if1 .taken)
-
-mul-get : tie.Need-mul-get
-mul-get c = search needs
-
-add-get : tie.Need-add-get
-add-get c = search needs
-
-get-requires : tie.Need-get-requires
-get-requires c κs = search needs
-
-add-get-2 : tie.Need-add-get-2
-add-get-2 c = search needs
+    let p = start s .pre in
+    lift-up (p .0) (p .1) (s .get .ensures .0) (p .2 .lifting) (c .before .get2 .ensures .0) (c .if1 .taken)
 
 get-requires-2 : tie.Need-get-requires-2
 get-requires-2 c κs = omega (arith, there (c .before))
 
-mul-get-2 : tie.Need-mul-get-2
-mul-get-2 c = search needs
-
-add-get-3 : tie.Need-add-get-3
-add-get-3 c = search needs
-
 get-requires-3 : tie.Need-get-requires-3
 get-requires-3 c κs = there (seen (c .before .before))
-
-mul-get-3 : tie.Need-mul-get-3
-mul-get-3 c = search needs
-
-sub-get : tie.Need-sub-get
-sub-get c = search needs
-
-add-get-4 : tie.Need-add-get-4
-add-get-4 c = search needs
 
 get-requires-4 : tie.Need-get-requires-4
 get-requires-4 c κs = above (c .before .before .before)
 
-mul-put : tie.Need-mul-put
-mul-put c = search needs
-
-sub-put : tie.Need-sub-put
-sub-put c = search needs
-
-add-put : tie.Need-add-put
-add-put c = search needs
-
-lesser-requires : tie.Need-lesser-requires
-lesser-requires c κs = search needs
-
 put-requires : tie.Need-put-requires
 put-requires c κs = (above (lower c), omega arith)
-
-same-length : tie.Need-same-length
-same-length c = search needs
 
 returns : tie.Need-returns
 returns c =
     let l = c .before .before .before in
     let t = lower l in
     let v = seen (t .before) in (
-      λ F f. lift-child (start v .pre .0) (start v .pre .1) (v .get .ensures .0) (t .before .get2 .ensures .0) f
+      λ F f. lift-child (start v .pre .0) (start v .pre .1) (v .get .ensures .0) f (t .before .get2 .ensures .0)
           (t .if1 .taken) (l .before .before .before .before .get3 .ensures .0) (l .before .before .get4 .ensures .0)
           (l .lesser .ensures) (c .before .before .put .ensures),
       search needs,
     )
 
-same-length-2 : tie.Need-same-length-2
-same-length-2 c = search needs
-
 returns-2 : tie.Need-returns-2
 returns-2 c =
     let v = seen (c .before) in (
-      λ F f. lift-root (start v .pre .0) (start v .pre .1) (v .get .ensures .0) (c .before .get2 .ensures .0) f
+      λ F f. lift-root (start v .pre .0) (start v .pre .1) (v .get .ensures .0) f (c .before .get2 .ensures .0)
           (c .if1 .left),
       search needs,
     )
@@ -106,25 +62,7 @@ returns-2 c =
 pub lift-spec : {M : Type 1} → statement M
 lift-spec =
     tie.close
-    (tie.spec
-    mul-get
-    add-get
-    get-requires
-    add-get-2
-    get-requires-2
-    mul-get-2
-    add-get-3
-    get-requires-3
-    mul-get-3
-    sub-get
-    add-get-4
-    get-requires-4
-    mul-put
-    sub-put
-    add-put
-    lesser-requires
-    put-requires
-    same-length
-    returns
-    same-length-2
-    returns-2)
+    (tie.spec (λ c. search needs) (λ c. search needs) (λ c κs. search needs) (λ c. search needs) get-requires-2
+    (λ c. search needs) (λ c. search needs) get-requires-3 (λ c. search needs) (λ c. search needs) (λ c. search needs)
+    get-requires-4 (λ c. search needs) (λ c. search needs) (λ c. search needs) (λ c κs. search needs) put-requires
+    (λ c. search needs) returns (λ c. search needs) returns-2)

@@ -1,9 +1,9 @@
 -- `lows::lowpoints` meets its contract: the vertices of visit number k and more are lifted.
-use mathlib.Core.Path.{_∙_}
+use borrow.Author.Needs.{needs}
 use native.Mathlib.Omega.{arith}
-use Rattle.adjacency.specs.Arrays.{cut}
-use Rattle.forest.proofs.Laws.Lowest.{vertices}
-use Rattle.forest.proofs.Laws.Lifted.{Swept, swept-begin, swept-asks, swept-more, swept-end}
+use Rattle.record.specs.Arrays.{cut}
+use Rattle.forest.proofs.Laws.Graphs.{as-many}
+use Rattle.forest.proofs.Laws.Lifted.{Swept, swept-asks, swept-more, swept-end}
 use Rattle.forest.proofs.lows.lowpoints.Statement.{statement}
 use Rattle.forest.proofs.lows.lowpoints.Tie as tie
 
@@ -20,32 +20,17 @@ filled c = c .before .before .before
 abbrev start : tie.At-loop Inv-loop μ-loop → tie.Start Inv-loop μ-loop
 start c = filled c .before .before .before .before .before
 
-own-lows-requires : tie.Need-own-lows-requires Inv-loop μ-loop
-own-lows-requires c κs = let p = c .before .before .before .before .pre in (p .0, p .1 .searched .room)
-
-loop-holds : tie.Need-loop-holds Inv-loop μ-loop
-loop-holds c = let a = c .before .before .before .before .before .before .before .args in swept-begin _ (a .n) (a .s) _
-
-sub-k : tie.Need-sub-k Inv-loop μ-loop
-sub-k c = omega arith
-
 lift-requires : tie.Need-lift-requires Inv-loop μ-loop
 lift-requires c κs =
     let l = c .before .before in
     let s = start l in
-    swept-asks (l .loop .inv) (omega arith) (vertices (s .args .starts .now) (s .args .nbrs .now) (s .pre .0 .2))
+    swept-asks (l .loop .inv) (omega arith) (as-many (s .args .starts .now) (s .args .nbrs .now) (s .pre .0 .2))
     (s .pre .1) (filled l .own-lows .ensures .0)
-
-loop-less : tie.Need-loop-less Inv-loop μ-loop
-loop-less c = omega arith
 
 loop-again : tie.Need-loop-again Inv-loop μ-loop
 loop-again c =
     let l = c .before .before in
     swept-more (l .before .before .before .loop .inv) (omega arith) (l .lift .ensures .0) (l .lift .ensures .1)
-
-same-length : tie.Need-same-length Inv-loop μ-loop
-same-length c = c .before .loop .inv .same-size ∙ filled (c .before) .own-lows .ensures .1
 
 returns : tie.Need-returns Inv-loop μ-loop
 returns c = swept-end (c .before .loop .inv) (omega arith) (filled (c .before) .own-lows .ensures .0)
@@ -53,14 +38,5 @@ returns c = swept-end (c .before .loop .inv) (omega arith) (filled (c .before) .
 pub lowpoints-spec : {M : Type 1} → statement M
 lowpoints-spec =
     tie.close
-    (tie.spec
-    Inv-loop
-    μ-loop
-    own-lows-requires
-    loop-holds
-    sub-k
-    lift-requires
-    loop-less
-    loop-again
-    same-length
-    returns)
+    (tie.spec Inv-loop μ-loop (λ c κs. search needs) (λ c. search needs) (λ c. omega arith) lift-requires
+    (λ c. omega arith) loop-again (λ c. search needs) returns)

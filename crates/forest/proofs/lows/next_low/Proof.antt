@@ -1,86 +1,27 @@
 -- `lows::next_low` meets its contract.
-use mathlib.Core.Path.{_≡_}
-use Prim.Native.Nat.{ℕ, _+_, _*_}
+use mathlib.Core.Path.{refl}
 use native.Mathlib.Omega.{arith}
 use borrow.Author.Needs.{needs}
-use lib.ListN.{getD}
-use Rattle.forest.specs.Lows.{LowStep}
-use Rattle.forest.proofs.Laws.Lowest.{step-back, step-counts}
+use Rattle.forest.specs.Lows.{way-back, counts}
 use Rattle.forest.proofs.lows.next_low.Statement.{statement}
 use Rattle.forest.proofs.lows.next_low.Tie as tie
 
--- the place leads to v, whose visit cell is read
-abbrev start : tie.After-get → tie.Start
-start c = c .before .before .before
-
-abbrev seen : tie.After-lesser → tie.After-get
-seen c = c .before .before
-
-abbrev Steps : (c : tie.After-lesser) → ℕ → ℕ → Type 0
-Steps c low′ back′ =
-    let a = start (seen c) .args in
-    LowStep (a .c) (a .up) (a .p) (getD (a .nbrs .now) (a .p) 0)
-    (getD (a .work .now) (2 * a .s + getD (a .nbrs .now) (a .p) 0) 0) (a .low) (a .back) low′ back′
-
-turns : (c : tie.After-lesser) → seen c .get .result + 1 ≡ start (seen c) .args .up → start (seen c) .args .back ≡ 0
-    → Steps c (start (seen c) .args .low) (start (seen c) .args .p + start (seen c) .args .c + 1)
-turns c =
-    let a = start (seen c) .args in
-    step-back (a .nbrs .now) (a .work .now) (a .s) (a .p) (seen c .get .ensures .0)
-
-takes : (c : tie.After-lesser)
-    → (seen c .get .result + 1 ≡ start (seen c) .args .up → start (seen c) .args .back ≡ 0 → ⊥)
-    → Steps c (c .lesser .result) (start (seen c) .args .back)
-takes c =
-    let a = start (seen c) .args in
-    step-counts (a .nbrs .now) (a .work .now) (a .s) (a .p) (seen c .get .ensures .0) (c .before .get2 .ensures .0)
-    (c .lesser .ensures)
-
-get-requires : tie.Need-get-requires
-get-requires c κs = search needs
-
-mul-get : tie.Need-mul-get
-mul-get c = search needs
-
-add-get : tie.Need-add-get
-add-get c = search needs
-
 get-requires-2 : tie.Need-get-requires-2
-get-requires-2 c κs = omega (arith, start c .pre .0 .1 _ (start c .pre .0 .2), c .get .ensures .0)
-
-lesser-requires : tie.Need-lesser-requires
-lesser-requires c κs = search needs
-
-add-if1 : tie.Need-add-if1
-add-if1 c = search needs
-
-add-t17 : tie.Need-add-t17
-add-t17 c = search needs
-
-add-t18 : tie.Need-add-t18
-add-t18 c = search needs
+get-requires-2 c κs =
+    let p = c .before .before .before .pre .0 in
+    omega (arith, p .1 _ (p .2), c .get .ensures .0)
 
 returns : tie.Need-returns
-returns c = (turns (c .before .before) (c .before .if1 .taken) (c .if2 .taken), omega arith)
+returns c = (way-back (omega arith) (c .if2 .taken) refl refl, omega arith)
 
 returns-2 : tie.Need-returns-2
-returns-2 c = (takes (c .before .before) (λ a b. c .if2 .left b), omega arith)
+returns-2 c = (counts (λ a b. c .if2 .left b) (cc) refl, omega arith)
 
 returns-3 : tie.Need-returns-3
-returns-3 c = (takes (c .before) (λ a b. c .if1 .left a), omega arith)
+returns-3 c = (counts (λ a b. c .if1 .left (omega arith)) (cc) refl, omega arith)
 
 pub next-low-spec : {M : Type 1} → statement M
 next-low-spec =
     tie.close
-    (tie.spec
-    get-requires
-    mul-get
-    add-get
-    get-requires-2
-    lesser-requires
-    add-if1
-    add-t17
-    add-t18
-    returns
-    returns-2
-    returns-3)
+    (tie.spec (λ c κs. search needs) (λ c. search needs) (λ c. search needs) get-requires-2 (λ c κs. search needs)
+    (λ c. search needs) (λ c. search needs) (λ c. search needs) returns returns-2 returns-3)

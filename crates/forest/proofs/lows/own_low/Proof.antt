@@ -1,7 +1,10 @@
 -- `lows::own_low` meets its contract: before p every place is looked at.
-use Prim.Native.Nat.{_-_}
+use Prim.Native.Nat.{_+_, _-_}
 use native.Mathlib.Omega.{arith}
-use Rattle.forest.proofs.Laws.Lowest.{LowTo, looked-begin, looked-asks, looked-more, looked-end}
+use borrow.Author.Needs.{needs}
+use Rattle.record.specs.Laws.Rows.{starts-fit}
+use Rattle.forest.proofs.Laws.Graphs.{known}
+use Rattle.forest.proofs.Laws.Lowest.{LowTo, looked-begin, looked-more, looked-end}
 use Rattle.forest.proofs.lows.own_low.Statement.{statement}
 use Rattle.forest.proofs.lows.own_low.Tie as tie
 
@@ -18,30 +21,6 @@ read c = c .before
 abbrev start : tie.After-get4 Inv-loop μ-loop → tie.Start Inv-loop μ-loop
 start c = c .before .before .before .before .before .before .before
 
-add-get : tie.Need-add-get Inv-loop μ-loop
-add-get c = omega arith
-
-get-requires : tie.Need-get-requires Inv-loop μ-loop
-get-requires c κs = omega arith
-
-add-get-2 : tie.Need-add-get-2 Inv-loop μ-loop
-add-get-2 c = omega arith
-
-get-requires-2 : tie.Need-get-requires-2 Inv-loop μ-loop
-get-requires-2 c κs = omega arith
-
-get-requires-3 : tie.Need-get-requires-3 Inv-loop μ-loop
-get-requires-3 c κs = omega arith
-
-mul-get : tie.Need-mul-get Inv-loop μ-loop
-mul-get c = omega arith
-
-add-get-3 : tie.Need-add-get-3 Inv-loop μ-loop
-add-get-3 c = omega arith
-
-get-requires-4 : tie.Need-get-requires-4 Inv-loop μ-loop
-get-requires-4 c κs = omega arith
-
 loop-holds : tie.Need-loop-holds Inv-loop μ-loop
 loop-holds c =
     looked-begin (start c .pre .0) (start c .args .s) (start c .args .work .now) (c .before .get3 .ensures .0)
@@ -50,42 +29,23 @@ loop-holds c =
 next-low-requires : tie.Need-next-low-requires Inv-loop μ-loop
 next-low-requires c κs =
     let s = start (read (c .before)) in
-    looked-asks (s .pre .0) (s .pre .1) (omega arith) (c .before .loop .inv)
-
-add-p : tie.Need-add-p Inv-loop μ-loop
-add-p c = omega arith
-
-loop-less : tie.Need-loop-less Inv-loop μ-loop
-loop-less c = omega arith
+    let l = starts-fit (s .pre .0 .0 .divided) (s .args .c + 1) (omega arith) in
+    ((s .pre .1, known (s .pre .0 .0) (s .pre .0 .2), omega arith, search needs), search needs)
 
 loop-again : tie.Need-loop-again Inv-loop μ-loop
 loop-again c =
     let r = read (c .before .before) in
-    looked-more (start r .pre .0) (r .before .before .get2 .ensures .0) (omega arith) (c .next-low .ensures .0)
-    (c .next-low .ensures .1) (c .before .before .loop .inv)
+    looked-more (start r .pre .0) (c .before .before .loop .inv) (r .before .before .get2 .ensures .0) (omega arith)
+    (c .next-low .ensures .0) (c .next-low .ensures .1)
 
 returns : tie.Need-returns Inv-loop μ-loop
 returns c =
     let i = c .before .loop .inv in
-    (looked-end (start (read (c .before)) .pre .0) (omega arith) i, (i .low-fits, i .back-fits))
+    (looked-end (start (read (c .before)) .pre .0) i (omega arith), (i .low-fits, i .back-fits))
 
 pub own-low-spec : {M : Type 1} → statement M
 own-low-spec =
     tie.close
-    (tie.spec
-    Inv-loop
-    μ-loop
-    add-get
-    get-requires
-    add-get-2
-    get-requires-2
-    get-requires-3
-    mul-get
-    add-get-3
-    get-requires-4
-    loop-holds
-    next-low-requires
-    add-p
-    loop-less
-    loop-again
-    returns)
+    (tie.spec Inv-loop μ-loop (λ c. omega arith) (λ c κs. omega arith) (λ c. omega arith) (λ c κs. omega arith)
+    (λ c κs. omega arith) (λ c. omega arith) (λ c. omega arith) (λ c κs. omega arith) loop-holds next-low-requires
+    (λ c. omega arith) (λ c. omega arith) loop-again returns)

@@ -1,11 +1,10 @@
 -- `lows::own_lows` meets its contract: the vertices before c have their numbers.
-use Prim.Native.Nat.{_+_, _-_, _*_, _<_}
-use mathlib.Core.Path.{ap}
+use borrow.Author.Needs.{needs}
+use Prim.Native.Nat.{_-_}
 use native.Mathlib.Omega.{arith}
-use lib.ListN.{length, length-set}
-use Rattle.adjacency.specs.Arrays.{cut}
-use Rattle.forest.proofs.Laws.Lowest.{vertices}
-use Rattle.forest.proofs.Laws.Lifted.{Filled, filled-begin, filled-room, filled-cells, filled-more, filled-end}
+use Rattle.record.specs.Arrays.{cut}
+use Rattle.forest.proofs.Laws.Graphs.{as-many}
+use Rattle.forest.proofs.Laws.Lifted.{Filled, filled-begin, filled-more, filled-end}
 use Rattle.forest.proofs.lows.own_lows.Statement.{statement}
 use Rattle.forest.proofs.lows.own_lows.Tie as tie
 
@@ -26,73 +25,25 @@ at c = c .before .before .before .before
 abbrev first : tie.After-put-arg2 Inv-loop μ-loop → tie.After-put Inv-loop μ-loop
 first c = c .before .before .before
 
-cells : (c : tie.After-put-arg Inv-loop μ-loop)
-    → (5 * start (at c) .args .s + at c .loop .c < length (at c .loop .work))
-    × (at c .loop .c < length (at c .loop .work))
-cells c = filled-cells (at c .loop .inv) (start (at c) .pre .1) (omega arith)
-
 loop-holds : tie.Need-loop-holds Inv-loop μ-loop
-loop-holds c =
-    let a = c .before .before .before .args in
-    filled-begin _ (a .n) (a .s) (a .work .now)
-
-own-low-requires : tie.Need-own-low-requires Inv-loop μ-loop
-own-low-requires c κs =
-    let l = c .before .before in
-    let p = start l .pre in
-    ((p .0 .0, p .0 .1, p .0 .2, omega arith), filled-room (l .loop .inv) (p .1))
-
-mul-put : tie.Need-mul-put Inv-loop μ-loop
-mul-put c = omega arith
-
-add-put : tie.Need-add-put Inv-loop μ-loop
-add-put c = omega arith
-
-put-requires : tie.Need-put-requires Inv-loop μ-loop
-put-requires c κs = (cells c .0, c .before .own-low .ensures .1 .0)
-
-put-requires-2 : tie.Need-put-requires-2 Inv-loop μ-loop
-put-requires-2 c κs =
-    let i = cells (first c .before) .1 in
-    let e = simp length-set at (ap length (first c .put .ensures)) in
-    (omega arith, first c .before .before .own-low .ensures .1 .1)
-
-add-c : tie.Need-add-c Inv-loop μ-loop
-add-c c = omega arith
-
-loop-less : tie.Need-loop-less Inv-loop μ-loop
-loop-less c = omega arith
+loop-holds c = filled-begin _ (c .before .before .before .pre .1)
 
 loop-again : tie.Need-loop-again Inv-loop μ-loop
 loop-again c =
     let f = first (c .before .before .before) in
     let l = at (f .before) in
-    filled-more (l .loop .inv) (start l .pre .1) (omega arith) (f .before .before .own-low .ensures .0)
+    filled-more (l .loop .inv) (omega arith) (f .before .before .own-low .ensures .0)
     (f .put .ensures) (c .before .before .put2 .ensures)
-
-same-length : tie.Need-same-length Inv-loop μ-loop
-same-length c = c .before .loop .inv .same-size
 
 returns : tie.Need-returns Inv-loop μ-loop
 returns c =
     let s = start (c .before) in
     let i = c .before .loop .inv in
-    (filled-end i (vertices (s .args .starts .now) (s .args .nbrs .now) (s .pre .0 .2)) (omega arith), i .same-size)
+    (filled-end i (as-many (s .args .starts .now) (s .args .nbrs .now) (s .pre .0 .2)) (omega arith), i .same-size)
 
 pub own-lows-spec : {M : Type 1} → statement M
 own-lows-spec =
     tie.close
-    (tie.spec
-    Inv-loop
-    μ-loop
-    loop-holds
-    own-low-requires
-    mul-put
-    add-put
-    put-requires
-    put-requires-2
-    add-c
-    loop-less
-    loop-again
-    same-length
+    (tie.spec Inv-loop μ-loop loop-holds (λ c κs. search needs) (λ c. omega arith) (λ c. omega arith)
+    (λ c κs. search needs) (λ c κs. search needs) (λ c. omega arith) (λ c. omega arith) loop-again (λ c. search needs)
     returns)

@@ -1,93 +1,23 @@
 -- `marks::mark_bridge` meets its contract.
 use borrow.Author.Needs.{needs}
-use mathlib.Core.Path.{_∙_, refl}
-use Rattle.forest.proofs.Laws.Bridged.{step-root, step-stays, step-parts}
+use mathlib.Core.Path.{refl}
+use native.Mathlib.Omega.{arith}
+use Rattle.forest.specs.Marks.{parts, stays}
 use Rattle.forest.proofs.marks.mark_bridge.Statement.{statement}
 use Rattle.forest.proofs.marks.mark_bridge.Tie as tie
 
--- the three numbers are read
-abbrev down : tie.After-get3 → tie.Then1
-down c = c .before .before
-
-abbrev told : tie.After-set-bit → tie.Then2
-told c = c .before .before
-
-mul-get : tie.Need-mul-get
-mul-get c = search needs
-
-add-get : tie.Need-add-get
-add-get c = search needs
-
-get-requires : tie.Need-get-requires
-get-requires c κs = search needs
-
-mul-get-2 : tie.Need-mul-get-2
-mul-get-2 c = search needs
-
-add-get-2 : tie.Need-add-get-2
-add-get-2 c = search needs
-
-get-requires-2 : tie.Need-get-requires-2
-get-requires-2 c κs = search needs
-
-mul-get-3 : tie.Need-mul-get-3
-mul-get-3 c = search needs
-
-add-get-3 : tie.Need-add-get-3
-add-get-3 c = search needs
-
-get-requires-3 : tie.Need-get-requires-3
-get-requires-3 c κs = search needs
-
-set-bit-requires : tie.Need-set-bit-requires
-set-bit-requires c κs = search needs
-
-get-requires-4 : tie.Need-get-requires-4
-get-requires-4 c κs = search needs
-
-set-bit-requires-2 : tie.Need-set-bit-requires-2
-set-bit-requires-2 c κs = search needs
-
-same-length : tie.Need-same-length
-same-length c = search needs
-
 returns : tie.Need-returns
-returns c =
-    let f = c .before .before .before .before .before .before .before in
-    let r = told f .before in
-    let d = down r in (
-      step-parts (d .before .get .ensures .0) (r .before .get2 .ensures .0) (r .get3 .ensures .0) (d .if1 .taken)
-          (told f .if2 .taken) (c .before .before .before .get4 .ensures .0) (f .set-bit .ensures .0)
-          (c .before .before .set-bit2 .ensures .0),
-      c .before .before .set-bit2 .ensures .1 ∙ f .set-bit .ensures .1,
-    )
+returns c = (parts (omega arith) (omega arith) (cc), (cc))
 
 returns-2 : tie.Need-returns-2
-returns-2 c =
-    let r = c .before in
-    let d = down r .before .get .ensures .0 in
-    (step-stays d (r .before .get2 .ensures .0) (r .get3 .ensures .0) (c .if2 .left), refl)
+returns-2 c = (stays (λ h e. c .if2 .left (cc)) refl, refl)
 
 returns-3 : tie.Need-returns-3
-returns-3 c = (step-root (c .before .get .ensures .0) (c .if1 .left), refl)
+returns-3 c = (stays (λ h e. omega arith) refl, refl)
 
 pub mark-bridge-spec : {M : Type 1} → statement M
 mark-bridge-spec =
     tie.close
-    (tie.spec
-    mul-get
-    add-get
-    get-requires
-    mul-get-2
-    add-get-2
-    get-requires-2
-    mul-get-3
-    add-get-3
-    get-requires-3
-    set-bit-requires
-    get-requires-4
-    set-bit-requires-2
-    same-length
-    returns
-    returns-2
-    returns-3)
+    (tie.spec (λ c. search needs) (λ c. search needs) (λ c κs. search needs) (λ c. search needs) (λ c. search needs)
+    (λ c κs. search needs) (λ c. search needs) (λ c. search needs) (λ c κs. search needs) (λ c κs. search needs)
+    (λ c κs. search needs) (λ c κs. search needs) (λ c. search needs) returns returns-2 returns-3)

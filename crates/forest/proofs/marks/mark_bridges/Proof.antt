@@ -1,11 +1,8 @@
 -- `marks::mark_bridges` meets its contract: the marks of the vertices before c are there.
-use Prim.Native.Nat.{ℕ, _-_}
-use mathlib.Core.Path.{_≡_, ap, _∙_}
+use Prim.Native.Nat.{_-_}
 use native.Mathlib.Omega.{arith}
 use borrow.Author.Needs.{needs}
-use lib.ListN.{length, length-replicate}
-use Rattle.adjacency.specs.Arrays.{cut}
-use Rattle.forest.proofs.Laws.Marked.{Sized, sized-cut}
+use Rattle.record.specs.Arrays.{cut}
 use Rattle.forest.proofs.Laws.Bridged.{Bridging, bridging-begin, bridging-asks, bridging-more, bridging-end}
 use Rattle.forest.proofs.marks.mark_bridges.Statement.{statement}
 use Rattle.forest.proofs.marks.mark_bridges.Tie as tie
@@ -20,65 +17,36 @@ abbrev μ-loop : tie.MeasureT-loop
 abbrev start : tie.After-clear Inv-loop μ-loop → tie.Start Inv-loop μ-loop
 start c = c .before .before .before .before .before .before
 
-cleared : (c : tie.After-clear Inv-loop μ-loop) → length (c .clear .last .0) ≡ length (start c .args .section .now)
-cleared c = ap length (c .clear .ensures) ∙ length-replicate {A = ℕ} (length (start c .args .section .now)) 0
-
-sized : (c : tie.After-clear Inv-loop μ-loop)
-    → Sized (cut (start c .args .starts .now) (start c .args .nbrs .now)) (start c .args .n) (start c .args .m)
-    (length (start c .args .section .now))
-sized c = sized-cut (start c .args .starts .now) (start c .args .nbrs .now) (start c .pre .0) (start c .pre .1 .2)
-
 abbrev begun : tie.At-loop Inv-loop μ-loop → tie.After-clear Inv-loop μ-loop
 begun c = c .before .before .before
-
-clear-requires : tie.Need-clear-requires Inv-loop μ-loop
-clear-requires c κs = search needs
 
 loop-holds : tie.Need-loop-holds Inv-loop μ-loop
 loop-holds c =
     let s = c .before .before in
-    bridging-begin (start s .args .s) (start s .args .work .now) (sized s) (s .clear .ensures)
+    bridging-begin (start s .args .s) (start s .args .work .now) (start s .pre .0) (s .clear .ensures)
     (λ j. c .slice-known2 .given j .fits)
 
 mark-bridge-requires : tie.Need-mark-bridge-requires Inv-loop μ-loop
 mark-bridge-requires c κs =
     let l = c .before .before in
     let s = begun l in
-    bridging-asks (start s .pre .1 .0) (l .loop .inv) (sized s) (cleared s) (start s .pre .1 .1) (omega arith)
-
-add-c : tie.Need-add-c Inv-loop μ-loop
-add-c c = omega arith
-
-loop-less : tie.Need-loop-less Inv-loop μ-loop
-loop-less c = omega arith
+    bridging-asks (start s .pre .1) (l .loop .inv) (start s .pre .0) (omega arith) (start s .pre .2) (omega arith)
 
 loop-again : tie.Need-loop-again Inv-loop μ-loop
 loop-again c =
     let b = c .before .before in
     let l = b .before .before .before in
     let s = begun l in
-    bridging-more (start s .pre .1 .0) (l .loop .inv) (sized s .vertices) (omega arith)
+    bridging-more (start s .pre .1) (l .loop .inv) (start s .pre .0 .vertices) (omega arith)
     (λ j. c .slice-known3 .given j .fits) (b .mark-bridge .ensures .1) (b .mark-bridge .ensures .0)
-
-same-length : tie.Need-same-length Inv-loop μ-loop
-same-length c = c .before .loop .inv .same-size ∙ cleared (begun (c .before))
 
 returns : tie.Need-returns Inv-loop μ-loop
 returns c =
     let s = begun (c .before) in
-    bridging-end (start s .pre .1 .0) (c .before .loop .inv) (sized s .vertices) (start s .pre .1 .1) (omega arith)
+    bridging-end (start s .pre .1) (c .before .loop .inv) (start s .pre .0 .vertices) (start s .pre .2) (omega arith)
 
 pub mark-bridges-spec : {M : Type 1} → statement M
 mark-bridges-spec =
     tie.close
-    (tie.spec
-    Inv-loop
-    μ-loop
-    clear-requires
-    loop-holds
-    mark-bridge-requires
-    add-c
-    loop-less
-    loop-again
-    same-length
-    returns)
+    (tie.spec Inv-loop μ-loop (λ c κs. search needs) loop-holds mark-bridge-requires (λ c. omega arith)
+    (λ c. omega arith) loop-again (λ c. search needs) returns)

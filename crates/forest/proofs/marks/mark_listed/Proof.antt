@@ -1,10 +1,9 @@
 -- `marks::mark_listed` meets its contract: the bits of the list before c are set.
-use Prim.Native.Nat.{ℕ, _-_}
-use mathlib.Core.Path.{_≡_, ap, _∙_}
+use Prim.Native.Nat.{_-_}
 use native.Mathlib.Omega.{arith}
 use borrow.Author.Needs.{needs}
-use lib.ListN.{length, length-replicate}
-use Rattle.forest.proofs.Laws.Listed.{Marking, marking-begin, marking-room, marking-more, marking-end}
+use lib.ListN.{length}
+use Rattle.forest.proofs.Laws.Listed.{Marking, marking-begin, marking-more, marking-end}
 use Rattle.forest.proofs.marks.mark_listed.Statement.{statement}
 use Rattle.forest.proofs.marks.mark_listed.Tie as tie
 
@@ -18,9 +17,6 @@ abbrev μ-loop : tie.MeasureT-loop
 abbrev start : tie.After-clear Inv-loop μ-loop → tie.Start Inv-loop μ-loop
 start c = c .before .before .before .before
 
-cleared : (c : tie.After-clear Inv-loop μ-loop) → length (c .clear .last .0) ≡ length (start c .args .section .now)
-cleared c = ap length (c .clear .ensures) ∙ length-replicate {A = ℕ} (length (start c .args .section .now)) 0
-
 abbrev begun : tie.At-loop Inv-loop μ-loop → tie.After-clear Inv-loop μ-loop
 begun c = c .before .before .before
 
@@ -28,66 +24,32 @@ begun c = c .before .before .before
 abbrev at : tie.After-get Inv-loop μ-loop → tie.At-loop Inv-loop μ-loop
 at c = c .before .before .before
 
-clear-requires : tie.Need-clear-requires Inv-loop μ-loop
-clear-requires c κs = search needs
-
 loop-holds : tie.Need-loop-holds Inv-loop μ-loop
 loop-holds c =
     let s = c .before .before in
     marking-begin _ (length (start s .args .section .now)) (s .clear .ensures)
 
-get-requires : tie.Need-get-requires Inv-loop μ-loop
-get-requires c κs = omega arith
-
 set-bit-requires : tie.Need-set-bit-requires Inv-loop μ-loop
 set-bit-requires c κs =
     let l = at c in
-    let s = begun l in
-    marking-room (l .loop .inv) (cleared s) (start s .pre .1) (omega arith) (c .get .ensures .0)
-
-add-c : tie.Need-add-c Inv-loop μ-loop
-add-c c = omega arith
-
-loop-less : tie.Need-loop-less Inv-loop μ-loop
-loop-less c = omega arith
+    let below = start (begun l) .pre .1 (l .loop .c) (omega arith) in
+    omega arith
 
 loop-again : tie.Need-loop-again Inv-loop μ-loop
 loop-again c =
     let g = c .before .before .before in
     marking-more (at g .loop .inv) (omega arith) (g .get .ensures .0) (c .before .before .set-bit .ensures)
 
-clear-first-requires : tie.Need-clear-first-requires Inv-loop μ-loop
-clear-first-requires c κs =
-    let l = c .before .before in
-    let e = l .loop .inv .same-size in
-    omega (arith, cleared (begun l), start (begun l) .pre .0)
-
-same-length : tie.Need-same-length Inv-loop μ-loop
-same-length c =
-    let f = c .before .before in
-    let l = f .before .before .before in
-    f .clear-first .ensures .1 ∙ l .loop .inv .same-size ∙ cleared (begun l)
-
 returns : tie.Need-returns Inv-loop μ-loop
 returns c =
     let f = c .before .before in
     let l = f .before .before .before in
-    let e = marking-end (l .loop .inv) (cleared (begun l)) (f .clear-first .last .0) (omega arith) (f .clear-first .ensures) in
-    (e .0, (e .1, λ j. c .slice-known4 .given j .fits))
+    let k = length (start (begun l) .args .section .now) in
+    let all = marking-end (l .loop .inv) k (omega arith) (omega arith) (f .clear-first .ensures .0) in
+    (all, (omega arith, λ j. c .slice-known4 .given j .fits))
 
 pub mark-listed-spec : {M : Type 1} → statement M
 mark-listed-spec =
     tie.close
-    (tie.spec
-    Inv-loop
-    μ-loop
-    clear-requires
-    loop-holds
-    get-requires
-    set-bit-requires
-    add-c
-    loop-less
-    loop-again
-    clear-first-requires
-    same-length
-    returns)
+    (tie.spec Inv-loop μ-loop (λ c κs. search needs) loop-holds (λ c κs. omega arith) set-bit-requires
+    (λ c. omega arith) (λ c. omega arith) loop-again (λ c κs. search needs) (λ c. search needs) returns)

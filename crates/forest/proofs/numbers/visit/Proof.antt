@@ -1,19 +1,14 @@
 -- `numbers::visit` meets its contract.
 use borrow.Author.Needs.{needs}
-use native.Mathlib.Omega.{arith}
 use Rattle.forest.proofs.numbers.visit.Statement.{statement}
 use Rattle.forest.proofs.numbers.visit.Tie as tie
 
-get-requires : tie.Need-get-requires
-get-requires c κs = search needs
-
 returns : tie.Need-returns
 returns c =
-    let s = c .before .before in
-    let e = c .get .ensures .0 in
-    let a = s .pre .0 .some (s .args .v) (s .pre .1) in
-    let b = s .pre .0 .most (s .args .v) (s .pre .1) in
-    (e, omega arith, omega arith)
+    let p = c .before .before .pre in
+    let some = p .0 .some _ (p .1) in
+    let most = p .0 .most _ (p .1) in
+    search needs
 
 pub visit-spec : {M : Type 1} → statement M
-visit-spec = tie.close (tie.spec get-requires returns)
+visit-spec = tie.close (tie.spec (λ c κs. search needs) returns)

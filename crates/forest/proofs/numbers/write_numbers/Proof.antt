@@ -1,10 +1,9 @@
 -- `numbers::write_numbers` meets its contract: the numbers before v are written.
 use Prim.Native.Nat.{_-_}
-use mathlib.Core.Path.{sym, _∙_}
 use native.Mathlib.Omega.{arith}
 use borrow.Author.Needs.{needs}
-use Rattle.forest.proofs.Laws.Numbers.{Pairs, pairs-begin, pairs-size, pairs-upto, pairs-room}
-use Rattle.forest.proofs.Laws.Numbers.{pairs-rest, pairs-more, pairs-last, pairs-end}
+use Rattle.forest.proofs.Laws.Numbers.{Pairs, pairs-begin, pairs-room, pairs-rest, pairs-more, pairs-last}
+use Rattle.forest.proofs.Laws.Numbers.{pairs-end}
 use Rattle.forest.proofs.numbers.write_numbers.Statement.{statement}
 use Rattle.forest.proofs.numbers.write_numbers.Tie as tie
 
@@ -25,41 +24,14 @@ pair c = c .before .before .before .before
 abbrev last : tie.After-visit3 Inv-loop μ-loop → tie.At-loop Inv-loop μ-loop
 last c = c .before .before .before .before
 
-clear-requires : tie.Need-clear-requires Inv-loop μ-loop
-clear-requires c κs = search needs
-
 loop-holds : tie.Need-loop-holds Inv-loop μ-loop
 loop-holds c =
     let s = c .before .before .before .before .before .before in
     pairs-begin (s .args .visits .now) (s .pre .1) (c .before .before .clear .ensures)
     (λ j. c .slice-known2 .given j .fits)
 
-add-loop : tie.Need-add-loop Inv-loop μ-loop
-add-loop c = omega (arith, pairs-upto (c .loop .inv), start c .pre .0 .few)
-
-visit-requires : tie.Need-visit-requires Inv-loop μ-loop
-visit-requires c κs = (start (c .before .before) .pre .0, omega arith)
-
-add-visit : tie.Need-add-visit Inv-loop μ-loop
-add-visit c = search needs
-
-visit-requires-2 : tie.Need-visit-requires-2 Inv-loop μ-loop
-visit-requires-2 c κs = (start (c .before .before .before) .pre .0, omega arith)
-
 write-pair-requires : tie.Need-write-pair-requires Inv-loop μ-loop
-write-pair-requires c κs =
-    let a = c .before .visit .ensures in
-    let b = c .visit2 .ensures in
-    (pairs-room (pair c .loop .inv) (omega arith), a .1, a .2, b .1, b .2)
-
-add-v : tie.Need-add-v Inv-loop μ-loop
-add-v c = search needs
-
-add-at : tie.Need-add-at Inv-loop μ-loop
-add-at c = omega (arith, pairs-room (pair (c .before .before .before) .loop .inv) (omega arith))
-
-loop-less : tie.Need-loop-less Inv-loop μ-loop
-loop-less c = omega arith
+write-pair-requires c κs = let r = pairs-room (pair c .loop .inv) (omega arith) in search needs
 
 loop-again : tie.Need-loop-again Inv-loop μ-loop
 loop-again c =
@@ -67,21 +39,11 @@ loop-again c =
     pairs-more (pair (w .before) .loop .inv) (λ j. c .slice-known3 .given j .fits) (w .write-pair .ensures .1)
     (omega arith) (w .before .before .visit .ensures .0) (w .before .visit2 .ensures .0) (w .write-pair .ensures .0)
 
-visit-requires-3 : tie.Need-visit-requires-3 Inv-loop μ-loop
-visit-requires-3 c κs = (start (c .before .before .before) .pre .0, omega arith)
-
 write-last-requires : tie.Need-write-last-requires Inv-loop μ-loop
 write-last-requires c κs =
     let l = last c in
-    let a = c .visit3 .ensures in
-    let f = start l .pre .0 .few in
-    (omega arith, pairs-rest (l .loop .inv) (omega arith), a .1, a .2)
-
-same-length : tie.Need-same-length Inv-loop μ-loop
-same-length c =
-    let w = c .before .before in
-    let l = last (w .before) in
-    w .write-last .ensures .1 ∙ pairs-size (l .loop .inv) ∙ sym (start l .pre .1)
+    let r = pairs-rest (l .loop .inv) (omega arith) in
+    search needs
 
 returns : tie.Need-returns Inv-loop μ-loop
 returns c =
@@ -89,32 +51,13 @@ returns c =
     pairs-last (last (w .before) .loop .inv) (λ j. c .slice-known4 .given j .fits) (w .write-last .ensures .1)
     (omega arith) (omega arith) (w .before .visit3 .ensures .0) (w .write-last .ensures .0)
 
-same-length-2 : tie.Need-same-length-2 Inv-loop μ-loop
-same-length-2 c = let l = c .before .before in pairs-size (l .loop .inv) ∙ sym (start l .pre .1)
-
 returns-2 : tie.Need-returns-2 Inv-loop μ-loop
 returns-2 c = pairs-end (c .before .before .loop .inv) (omega arith)
 
 pub write-numbers-spec : {M : Type 1} → statement M
 write-numbers-spec =
     tie.close
-    (tie.spec
-    Inv-loop
-    μ-loop
-    clear-requires
-    loop-holds
-    add-loop
-    visit-requires
-    add-visit
-    visit-requires-2
-    write-pair-requires
-    add-v
-    add-at
-    loop-less
-    loop-again
-    visit-requires-3
-    write-last-requires
-    same-length
-    returns
-    same-length-2
-    returns-2)
+    (tie.spec Inv-loop μ-loop (λ c κs. search needs) loop-holds (λ c. search needs) (λ c κs. search needs)
+    (λ c. search needs) (λ c κs. search needs) write-pair-requires (λ c. search needs) (λ c. search needs)
+    (λ c. omega arith) loop-again (λ c κs. search needs) write-last-requires (λ c. search needs) returns
+    (λ c. search needs) returns-2)

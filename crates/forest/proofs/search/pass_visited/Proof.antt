@@ -1,11 +1,9 @@
 -- `search::pass_visited` meets its contract: up to p all places lead to visited vertices.
-use Prim.Native.Nat.{ℕ, _+_, _-_, _*_}
-use mathlib.Core.Path.{_≡_, sym, ap, _∙_}
+use Prim.Native.Nat.{_-_}
 use native.Mathlib.Omega.{arith}
 use borrow.Author.Needs.{needs}
-use lib.ListN.{getD}
 use Rattle.forest.specs.Steps.{PassedTo}
-use Rattle.forest.proofs.Laws.Passing.{passed-none, passed-more, passed-stop, passed-end}
+use Rattle.forest.proofs.Laws.Passing.{passed-more, passed-stop}
 use Rattle.forest.proofs.search.pass_visited.Statement.{statement}
 use Rattle.forest.proofs.search.pass_visited.Tie as tie
 
@@ -22,63 +20,20 @@ passing c = c .before .before .before
 abbrev begin : tie.At-loop Inv-loop μ-loop → tie.Start Inv-loop μ-loop
 begin c = c .before .before .before
 
--- the visit cell that is tested
-abbrev visit : tie.At-loop Inv-loop μ-loop → ℕ → ℕ
-visit c x = getD (begin c .args .work .now) (2 * begin c .args .s + x) 0
-
-tested : (c : tie.After-get2 Inv-loop μ-loop)
-    → c .get2 .result ≡ visit (passing c) (getD (begin (passing c) .args .nbrs .now) (passing c .loop .p) 0)
-tested c = c .get2 .ensures .0 ∙ ap (visit (passing c)) (c .before .get .ensures .0)
-
-loop-holds : tie.Need-loop-holds Inv-loop μ-loop
-loop-holds c = let a = c .before .before .args in passed-none (a .nbrs .now) (a .s) (a .work .now) (a .from)
-
-mul-get : tie.Need-mul-get Inv-loop μ-loop
-mul-get c = search needs
-
-get-requires : tie.Need-get-requires Inv-loop μ-loop
-get-requires c κs = search needs
-
-add-get : tie.Need-add-get Inv-loop μ-loop
-add-get c = search needs
-
 get-requires-2 : tie.Need-get-requires-2 Inv-loop μ-loop
 get-requires-2 c κs =
     let l = c .before .before in
     let k = begin l .pre .1 (l .loop .p) (omega arith) in
-    let e = c .get .ensures .0 in
     omega arith
 
 returns : tie.Need-returns Inv-loop μ-loop
-returns c =
-    let l = passing (c .before) in
-    passed-stop (l .loop .inv) (begin l .args .end) (sym (tested (c .before)) ∙ c .if1 .taken)
-
-add-p : tie.Need-add-p Inv-loop μ-loop
-add-p c = search needs
-
-loop-less : tie.Need-loop-less Inv-loop μ-loop
-loop-less c = search needs
+returns c = let l = passing (c .before) in passed-stop (l .loop .inv) (begin l .args .end) (cc)
 
 loop-again : tie.Need-loop-again Inv-loop μ-loop
-loop-again c = passed-more (passing (c .before) .loop .inv) (λ z. c .if1 .left (tested (c .before) ∙ z))
-
-returns-2 : tie.Need-returns-2 Inv-loop μ-loop
-returns-2 c = passed-end (c .before .loop .inv) (begin (c .before) .args .end) (omega arith)
+loop-again c = passed-more (passing (c .before) .loop .inv) (λ z. c .if1 .left (cc))
 
 pub pass-visited-spec : {M : Type 1} → statement M
 pass-visited-spec =
     tie.close
-    (tie.spec
-    Inv-loop
-    μ-loop
-    loop-holds
-    mul-get
-    get-requires
-    add-get
-    get-requires-2
-    returns
-    add-p
-    loop-less
-    loop-again
-    returns-2)
+    (tie.spec Inv-loop μ-loop (λ c. search needs) (λ c. search needs) (λ c κs. search needs) (λ c. search needs)
+    get-requires-2 returns (λ c. search needs) (λ c. search needs) loop-again (λ c. search needs))

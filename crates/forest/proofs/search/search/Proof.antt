@@ -26,23 +26,8 @@ left-more c =
     let l = c .before .before .loop in
     searching-busy (l .i) (l .cur) (l .inv .0) (sym (c .before .busy .ensures) ∙ c .if1 .taken)
 
-begin-requires : tie.Need-begin-requires Inv-loop μ-loop
-begin-requires c κs = search needs
-
-mul-left : tie.Need-mul-left Inv-loop μ-loop
-mul-left c = search needs
-
-mul-left-2 : tie.Need-mul-left-2 Inv-loop μ-loop
-mul-left-2 c = search needs
-
-add-left : tie.Need-add-left Inv-loop μ-loop
-add-left c = search needs
-
 loop-holds : tie.Need-loop-holds Inv-loop μ-loop
 loop-holds c = (search-begun (begin c .pre .0) (begin c .pre .1) (c .before .before .begin .ensures), refl)
-
-busy-requires : tie.Need-busy-requires Inv-loop μ-loop
-busy-requires c κs = search needs
 
 step-requires : tie.Need-step-requires Inv-loop μ-loop
 step-requires c κs =
@@ -64,9 +49,6 @@ loop-again c =
     let b = begin (l .before) in
     (c .before .before .step .ensures (countUp 0 (b .args .n)) (l .loop .inv .0), search needs)
 
-same-length : tie.Need-same-length Inv-loop μ-loop
-same-length c = search needs
-
 returns : tie.Need-returns Inv-loop μ-loop
 returns c =
     let l = c .before .before in
@@ -76,18 +58,5 @@ returns c =
 pub search-spec : {M : Type 1} → statement M
 search-spec =
     tie.close
-    (tie.spec
-    Inv-loop
-    μ-loop
-    begin-requires
-    mul-left
-    mul-left-2
-    add-left
-    loop-holds
-    busy-requires
-    step-requires
-    sub-left
-    loop-less
-    loop-again
-    same-length
-    returns)
+    (tie.spec Inv-loop μ-loop (λ c κs. search needs) (λ c. search needs) (λ c. search needs) (λ c. search needs)
+    loop-holds (λ c κs. search needs) step-requires sub-left loop-less loop-again (λ c. search needs) returns)

@@ -1,8 +1,9 @@
 -- `search::step` meets its contract.
-use Prim.Native.Nat.{_<_}
+use Prim.Native.Nat.{_-_, _<_}
 use native.Mathlib.Omega.{arith}
 use borrow.Author.Needs.{needs}
 use Rattle.forest.proofs.Laws.Begins.{busy-start, underway-start, next-start}
+use Rattle.forest.proofs.Laws.Stepping.{hand-vertex}
 use Rattle.forest.proofs.search.step.Statement.{statement}
 use Rattle.forest.proofs.search.step.Tie as tie
 
@@ -14,24 +15,23 @@ start : (c : tie.Else1) → begin c .args .i < begin c .args .n
 start c = busy-start {cur = begin c .args .cur} (begin c .pre .0 .2) (c .if1 .left)
 
 try-next-requires : tie.Need-try-next-requires
-try-next-requires c κs = search needs
-
-same-length : tie.Need-same-length
-same-length c = search needs
+try-next-requires c κs =
+    let s = c .before .before .before .before .before in
+    let p = s .pre in
+    let v = hand-vertex (p .0 .0) (p .0 .1) (s .args .cur - 1) (p .1 .searching) (omega arith) in
+    ((p .0 .0, p .0 .1, omega arith, omega arith), p .1)
 
 returns : tie.Need-returns
 returns c = λ roots t. c .before .before .try-next .ensures roots _ t
 
 try-start-requires : tie.Need-try-start-requires
 try-start-requires c κs =
-    let b = begin (c .before) .pre in
-    ((b .0 .0, b .0 .1, start (c .before)), underway-start (c .before .if1 .left) (b .1))
+    let h = start (c .before) in
+    let t = underway-start (c .before .if1 .left) (begin (c .before) .pre .1) in
+    search needs
 
 add-t17 : tie.Need-add-t17
 add-t17 c = let h = start (c .before .before .before .before) in omega arith
-
-same-length-2 : tie.Need-same-length-2
-same-length-2 c = search needs
 
 returns-2 : tie.Need-returns-2
 returns-2 c = λ roots t.
@@ -41,11 +41,5 @@ returns-2 c = λ roots t.
 pub step-spec : {M : Type 1} → statement M
 step-spec =
     tie.close
-    (tie.spec
-    try-next-requires
-    same-length
-    returns
-    try-start-requires
-    add-t17
-    same-length-2
+    (tie.spec try-next-requires (λ c. search needs) returns try-start-requires add-t17 (λ c. search needs)
     returns-2)

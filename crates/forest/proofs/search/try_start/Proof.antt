@@ -1,9 +1,7 @@
 -- `search::try_start` meets its contract.
-use Prim.Native.Nat.{_+_, _*_, _<_}
-use mathlib.Core.Path.{_≡_, sym, _∙_}
+use Prim.Native.Nat.{_<_}
 use native.Mathlib.Omega.{arith}
 use borrow.Author.Needs.{needs}
-use lib.ListN.{getD}
 use Rattle.forest.proofs.Laws.Graphs.{as-many}
 use Rattle.forest.proofs.Laws.Stepping.{new-room, start-passed, start-entered}
 use Rattle.forest.proofs.search.try_start.Statement.{statement}
@@ -13,64 +11,30 @@ abbrev begin : tie.After-get → tie.Start
 begin c = c .before .before .before .before .before
 
 -- vertex v is not visited, so there is room for it
-new : (c : tie.Then1)
-    → getD (begin (c .before) .args .work .now) (2 * begin (c .before) .args .s + begin (c .before) .args .v) 0 ≡ 0
-new c = sym (c .before .get .ensures .0) ∙ c .if1 .taken
-
 room-left : (c : tie.Then1) → begin (c .before) .args .k < begin (c .before) .args .n
 room-left c =
     let a = begin (c .before) .args in
     let b = begin (c .before) .pre in
-    new-room (b .1 .searching) (as-many (a .starts .now) (a .nbrs .now) (b .0 .1)) (b .0 .2) (new c)
-
-mul-get : tie.Need-mul-get
-mul-get c = search needs
-
-add-get : tie.Need-add-get
-add-get c = search needs
-
-get-requires : tie.Need-get-requires
-get-requires c κs = search needs
+    new-room (b .1 .searching) (as-many (a .starts .now) (a .nbrs .now) (b .0 .1)) (b .0 .2) (cc)
 
 enter-requires : tie.Need-enter-requires
-enter-requires c κs =
-    let b = begin (c .before .before) .pre in
-    (b .1 .searching .room, b .0 .2, room-left (c .before), omega arith, omega arith)
-
-add-t18 : tie.Need-add-t18
-add-t18 c = search needs
+enter-requires c κs = let r = room-left (c .before) in search needs
 
 add-t19 : tie.Need-add-t19
 add-t19 c = let r = room-left (c .before .before .before .before) in omega arith
 
-same-length : tie.Need-same-length
-same-length c = search needs
-
 returns : tie.Need-returns
 returns c = λ roots todo t.
-    let d = c .before .before .before .before in
-    let b = begin (d .before) .pre .0 in
-    start-entered t (as-many _ _ (b .1)) (b .2) (new d) (c .before .before .enter .ensures)
-
-same-length-2 : tie.Need-same-length-2
-same-length-2 c = search needs
+    let b = begin (c .before .before .before .before .before) .pre .0 in
+    start-entered t (as-many _ _ (b .1)) (b .2) (cc) (c .before .before .enter .ensures)
 
 returns-2 : tie.Need-returns-2
 returns-2 c = λ roots todo t.
     let b = begin (c .before) .pre .0 in
-    start-passed t (as-many _ _ (b .1)) (b .2) (λ z. c .if1 .left (c .before .get .ensures .0 ∙ z))
+    start-passed t (as-many _ _ (b .1)) (b .2) (λ z. c .if1 .left (cc))
 
 pub try-start-spec : {M : Type 1} → statement M
 try-start-spec =
     tie.close
-    (tie.spec
-    mul-get
-    add-get
-    get-requires
-    enter-requires
-    add-t18
-    add-t19
-    same-length
-    returns
-    same-length-2
-    returns-2)
+    (tie.spec (λ c. search needs) (λ c. search needs) (λ c κs. search needs) enter-requires (λ c. search needs) add-t19
+    (λ c. search needs) returns (λ c. search needs) returns-2)
