@@ -4,7 +4,7 @@ ghost use mathlib.Core.List.{[]};
 ghost use Prim.Native.Nat.{_+_, _*_, _≤_, _<_};
 ghost use lib.ListN.{length};
 ghost use Rattle.graph.specs.Graph.{Blocks, WellFormed};
-ghost use Rattle.record.specs.Arrays.{cut, Arrays, Divided};
+ghost use Rattle.adjacency.specs.Arrays.{cut, Arrays, Divided};
 ghost use Rattle.forest.specs.Index.{indexOf, indexBy, indexLength};
 ghost use Rattle.forest.specs.Steps.{stride as strideOf};
 ghost use Rattle.forest.specs.Lows.{Lifting};

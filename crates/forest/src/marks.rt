@@ -7,7 +7,7 @@ ghost use Rattle.bits.specs.Bits.{bits};
 ghost use Rattle.bits.specs.Laws.Bytes.{AreBytes};
 ghost use Rattle.graph.specs.Graph.{Blocks, WellFormed};
 ghost use Rattle.graph.specs.Joined.{bridge};
-ghost use Rattle.record.specs.Arrays.{cut};
+ghost use Rattle.adjacency.specs.Arrays.{cut};
 ghost use Rattle.forest.specs.Steps.{Room};
 ghost use Rattle.forest.specs.Lows.{Lifts};
 ghost use Rattle.forest.specs.Marks.{Sized, markAll, Below, marked, BridgeStep};

@@ -20,7 +20,9 @@ fn build_from(
     nbrs: &[u16],
 ) -> Verdict
     requires { ⌜ (Accepted (now bytes)) × (ArraysOf (now bytes) (now starts) (now nbrs) n m) ⌝ }
-    ensures { λ r. ⌜ BuildDone (now (bytes .entry)) (now (work .entry)) (now (index .entry)) (now (index .exit)) (verdict r) ⌝ }
+    ensures { λ r. ⌜
+        BuildDone (now (bytes .entry)) (now (work .entry)) (now (index .entry)) (now (index .exit)) (verdict r)
+        ⌝ }
 {
     if work.len() < 8 * n {
         return Verdict::Refused(Refusal::ShortWork);
@@ -48,7 +50,9 @@ fn build_by(
     next: &mut [u16],
 ) -> Verdict
     requires { ⌜ (Laid (now bytes) n m) × (Lent n m (now starts) (now nbrs) (now reverse) (now next)) ⌝ }
-    ensures { λ r. ⌜ BuildDone (now (bytes .entry)) (now (work .entry)) (now (index .entry)) (now (index .exit)) (verdict r) ⌝ }
+    ensures { λ r. ⌜
+        BuildDone (now (bytes .entry)) (now (work .entry)) (now (index .entry)) (now (index .exit)) (verdict r)
+        ⌝ }
 {
     match check_arrays(bytes, n, m, starts, nbrs, reverse, next) {
         Verdict::Refused(r) => Verdict::Refused(r),
@@ -69,7 +73,9 @@ fn build_in(
     next: &mut [u16],
 ) -> Verdict
     requires { ⌜ (Laid (now bytes) n m) × (Roomy n m (now starts) (now nbrs) (now reverse) (now next)) ⌝ }
-    ensures { λ r. ⌜ BuildDone (now (bytes .entry)) (now (work .entry)) (now (index .entry)) (now (index .exit)) (verdict r) ⌝ }
+    ensures { λ r. ⌜
+        BuildDone (now (bytes .entry)) (now (work .entry)) (now (index .entry)) (now (index .exit)) (verdict r)
+        ⌝ }
 {
     let blocks = n + 1;
     let fields = 2 * m;
@@ -89,7 +95,9 @@ fn build_in(
 // Room for 128 terminals and 512 places.
 fn in_small(bytes: &[u8], n: usize, m: usize, work: &mut [u16], index: &mut [u8]) -> Verdict
     requires { ⌜ (Laid (now bytes) n m) × (n ≤ 128) × (m ≤ 256) ⌝ }
-    ensures { λ r. ⌜ BuildDone (now (bytes .entry)) (now (work .entry)) (now (index .entry)) (now (index .exit)) (verdict r) ⌝ }
+    ensures { λ r. ⌜
+        BuildDone (now (bytes .entry)) (now (work .entry)) (now (index .entry)) (now (index .exit)) (verdict r)
+        ⌝ }
 {
     let mut starts = [0u16; 129];
     let mut nbrs = [0u16; 512];
@@ -111,7 +119,9 @@ fn in_small(bytes: &[u8], n: usize, m: usize, work: &mut [u16], index: &mut [u8]
 // Room for 512 terminals and 2,048 places. Cells to spare keep the rows out of each other's cache sets.
 fn in_middle(bytes: &[u8], n: usize, m: usize, work: &mut [u16], index: &mut [u8]) -> Verdict
     requires { ⌜ (Laid (now bytes) n m) × (n ≤ 512) × (m ≤ 1024) ⌝ }
-    ensures { λ r. ⌜ BuildDone (now (bytes .entry)) (now (work .entry)) (now (index .entry)) (now (index .exit)) (verdict r) ⌝ }
+    ensures { λ r. ⌜
+        BuildDone (now (bytes .entry)) (now (work .entry)) (now (index .entry)) (now (index .exit)) (verdict r)
+        ⌝ }
 {
     let mut starts = [0u16; 576];
     let mut nbrs = [0u16; 2208];
@@ -133,7 +143,9 @@ fn in_middle(bytes: &[u8], n: usize, m: usize, work: &mut [u16], index: &mut [u8
 // Room for 8,192 places.
 fn in_large(bytes: &[u8], n: usize, m: usize, work: &mut [u16], index: &mut [u8]) -> Verdict
     requires { ⌜ (Laid (now bytes) n m) × (m ≤ 4096) ⌝ }
-    ensures { λ r. ⌜ BuildDone (now (bytes .entry)) (now (work .entry)) (now (index .entry)) (now (index .exit)) (verdict r) ⌝ }
+    ensures { λ r. ⌜
+        BuildDone (now (bytes .entry)) (now (work .entry)) (now (index .entry)) (now (index .exit)) (verdict r)
+        ⌝ }
 {
     let mut starts = [0u16; 4160];
     let mut nbrs = [0u16; 8352];
@@ -155,7 +167,9 @@ fn in_large(bytes: &[u8], n: usize, m: usize, work: &mut [u16], index: &mut [u8]
 // Room for every record.
 fn in_full(bytes: &[u8], n: usize, m: usize, work: &mut [u16], index: &mut [u8]) -> Verdict
     requires { ⌜ (Laid (now bytes) n m) × (m ≤ 16384) ⌝ }
-    ensures { λ r. ⌜ BuildDone (now (bytes .entry)) (now (work .entry)) (now (index .entry)) (now (index .exit)) (verdict r) ⌝ }
+    ensures { λ r. ⌜
+        BuildDone (now (bytes .entry)) (now (work .entry)) (now (index .entry)) (now (index .exit)) (verdict r)
+        ⌝ }
 {
     let mut starts = [0u16; 4160];
     let mut nbrs = [0u16; 32928];
@@ -174,7 +188,8 @@ fn in_full(bytes: &[u8], n: usize, m: usize, work: &mut [u16], index: &mut [u8])
     )
 }
 
-// The room for the record's size, tried from room k on. The function calls itself, so that the rooms are not laid out in its own frame.
+// The room for the record's size, tried from room k on. The function calls itself, so that the rooms are not laid out
+// in its own frame.
 pub fn in_room(
     bytes: &[u8],
     n: usize,
@@ -184,7 +199,9 @@ pub fn in_room(
     k: usize,
 ) -> Verdict
     requires { ⌜ Laid (now bytes) n m ⌝ }
-    ensures { λ r. ⌜ BuildDone (now (bytes .entry)) (now (work .entry)) (now (index .entry)) (now (index .exit)) (verdict r) ⌝ }
+    ensures { λ r. ⌜
+        BuildDone (now (bytes .entry)) (now (work .entry)) (now (index .entry)) (now (index .exit)) (verdict r)
+        ⌝ }
 {
     if k == 0 {
         if n <= 128 {

@@ -19,8 +19,8 @@ use Rattle.graph.specs.Laws.Joined.Spanning.{count-length, count-more, count-no
 use Rattle.graph.specs.Laws.Joined.Spanning.{Spanning, search-spans, forest-length}
 use Rattle.graph.specs.Laws.Loop.Arrays.{Kept, visit-entered}
 use Rattle.graph.specs.Laws.Loop.Invariant.{loop-begin, loop-end, loop-busy-start, loop-busy}
-use Rattle.record.specs.Arrays.{cut, Arrays}
-use Rattle.record.specs.Laws.First.{neither}
+use Rattle.adjacency.specs.Arrays.{cut, Arrays}
+use Rattle.adjacency.specs.Laws.Anywhere.{neither}
 use Rattle.forest.specs.Laws.Starts.{places-cut}
 use Rattle.forest.specs.Steps.{downBit, cellsOf, Searching, Underway, Begun, Searched}
 use Rattle.forest.specs.Fronts.{forestOf}

@@ -20,7 +20,7 @@ use Rattle.graph.specs.Search.{Forest, PlaceTest}
 use Rattle.graph.specs.Joined.{bridge}
 use Rattle.graph.specs.Forest.{childMark, parentMark}
 use Rattle.record.specs.Record.{fieldBits}
-use Rattle.record.specs.Arrays.{cut, Divided}
+use Rattle.adjacency.specs.Arrays.{cut, Divided}
 use Rattle.forest.specs.Index.{sectionE, sectionP, sectionB, indexBy, indexOf, markBytes, numberBytes}
 use Rattle.forest.specs.Index.{indexLength}
 use Rattle.forest.specs.Fronts.{forestOf, Ready, Begins, upToE, upToP, upToB}

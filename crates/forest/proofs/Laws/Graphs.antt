@@ -11,8 +11,7 @@ use lib.ListN.{length, getD}
 use Rattle.graph.specs.Graph.{block, Place}
 use Rattle.graph.specs.Laws.Places.Pairing.{InRange, source}
 use Rattle.adjacency.specs.Arrays.{cut, Arrays}
-use Rattle.adjacency.specs.Laws.Rows.{length-cut}
-use Rattle.adjacency.specs.Laws.Rows.{row-size, row-neighbour, place-known}
+use Rattle.adjacency.specs.Laws.Rows.{length-cut, row-size, row-neighbour, place-known}
 use Rattle.forest.specs.Steps.{Known}
 
 pub as-many : {n : ℕ} (starts nbrs : List ℕ) → n + 1 ≡ length starts → length (cut starts nbrs) ≡ n

@@ -16,7 +16,7 @@ use Rattle.graph.specs.Laws.Places.Pairing.{source, both-ends}
 use Rattle.graph.specs.Laws.Joined.Spanning.{Spanning}
 use Rattle.graph.specs.Laws.Edges.Marks.{Back, back-parent, back-once, first-back}
 use Rattle.graph.specs.Laws.Bridges.Sweep.{least-begin, least-pass, least-take}
-use Rattle.record.specs.Arrays.{cut, Arrays}
+use Rattle.adjacency.specs.Arrays.{cut, Arrays}
 use Rattle.forest.specs.Steps.{Searched}
 use Rattle.forest.specs.Lows.{Passed, unmet, met, LowStep, way-back, counts, LowAt, OwnLow}
 use Rattle.forest.specs.Laws.Sections.{blockStart}

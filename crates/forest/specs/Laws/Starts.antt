@@ -8,8 +8,7 @@ use lib.ListN.{length, getD}
 use lib.Seq.{take-all}
 use Rattle.graph.specs.Graph.{Blocks}
 use Rattle.adjacency.specs.Arrays.{cut, Divided}
-use Rattle.adjacency.specs.Laws.Rows.{length-cut}
-use Rattle.adjacency.specs.Laws.Rows.{row-size}
+use Rattle.adjacency.specs.Laws.Rows.{length-cut, row-size}
 use Rattle.record.specs.Record.{unary, blocks}
 use Rattle.record.specs.Starts.{startsOf}
 use Rattle.record.specs.Steps.{Sound}

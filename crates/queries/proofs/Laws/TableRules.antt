@@ -13,7 +13,8 @@ use Rattle.record.specs.Answers.{refused, answered, tried, sizesOf}
 use Rattle.record.specs.Operations.{otherLength}
 use Rattle.record.specs.Steps.{Sound}
 use Rattle.record.specs.Laws.First.{Numbered, none, rule, first-broken, first-kept, append-kept, append-broken}
-use Rattle.record.specs.Laws.First.{last-kept, numbered-append, check-numbered, neither}
+use Rattle.record.specs.Laws.First.{last-kept, numbered-append, check-numbered}
+use Rattle.adjacency.specs.Laws.Anywhere.{neither}
 use Rattle.record.specs.Laws.Told.{told, untold, told-back, untold-back, buffer-kept, buffer-written}
 use Rattle.forest.specs.Index.{indexLength}
 use Rattle.forest.specs.Operations.{buildRules, build, built}

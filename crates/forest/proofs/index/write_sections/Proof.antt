@@ -1,6 +1,6 @@
 -- `index::write_sections` meets its contract.
 use borrow.Author.Needs.{needs}
-use Rattle.record.specs.Arrays.{cut}
+use Rattle.adjacency.specs.Arrays.{cut}
 use Rattle.forest.specs.Fronts.{forestOf, Ready}
 use Rattle.forest.proofs.Laws.Fronts.{ready, begins-nothing}
 use Rattle.forest.proofs.index.write_sections.Statement.{statement}

@@ -1,7 +1,7 @@
 -- `lows::lowpoints` meets its contract: the vertices of visit number k and more are lifted.
 use borrow.Author.Needs.{needs}
 use native.Mathlib.Omega.{arith}
-use Rattle.record.specs.Arrays.{cut}
+use Rattle.adjacency.specs.Arrays.{cut}
 use Rattle.forest.proofs.Laws.Graphs.{as-many}
 use Rattle.forest.proofs.Laws.Lifted.{Swept, swept-asks, swept-more, swept-end}
 use Rattle.forest.proofs.lows.lowpoints.Statement.{statement}

@@ -2,7 +2,7 @@
 use Prim.Native.Nat.{_+_, _-_}
 use native.Mathlib.Omega.{arith}
 use borrow.Author.Needs.{needs}
-use Rattle.record.specs.Laws.Rows.{starts-fit}
+use Rattle.adjacency.specs.Laws.Rows.{starts-fit}
 use Rattle.forest.proofs.Laws.Graphs.{known}
 use Rattle.forest.proofs.Laws.Lowest.{LowTo, looked-begin, looked-more, looked-end}
 use Rattle.forest.proofs.lows.own_low.Statement.{statement}

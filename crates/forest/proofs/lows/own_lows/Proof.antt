@@ -2,7 +2,7 @@
 use borrow.Author.Needs.{needs}
 use Prim.Native.Nat.{_-_}
 use native.Mathlib.Omega.{arith}
-use Rattle.record.specs.Arrays.{cut}
+use Rattle.adjacency.specs.Arrays.{cut}
 use Rattle.forest.proofs.Laws.Graphs.{as-many}
 use Rattle.forest.proofs.Laws.Lifted.{Filled, filled-begin, filled-more, filled-end}
 use Rattle.forest.proofs.lows.own_lows.Statement.{statement}

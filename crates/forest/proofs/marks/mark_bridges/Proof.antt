@@ -2,7 +2,7 @@
 use Prim.Native.Nat.{_-_}
 use native.Mathlib.Omega.{arith}
 use borrow.Author.Needs.{needs}
-use Rattle.record.specs.Arrays.{cut}
+use Rattle.adjacency.specs.Arrays.{cut}
 use Rattle.forest.proofs.Laws.Bridged.{Bridging, bridging-begin, bridging-asks, bridging-more, bridging-end}
 use Rattle.forest.proofs.marks.mark_bridges.Statement.{statement}
 use Rattle.forest.proofs.marks.mark_bridges.Tie as tie

@@ -6,23 +6,18 @@ use borrow.Author.Needs.{needs}
 use Rattle.forest.proofs.rooms.build_from.Statement.{statement}
 use Rattle.forest.proofs.rooms.build_from.Tie as tie
 
-mul-if1 : tie.Need-mul-if1
-mul-if1 c = search needs
-
 returns : tie.Need-returns
 returns c =
     let start = c .before .before .before .before .before .before in
     done-short (start .pre .0) (start .pre .1) (c .if1 .taken)
-
-index-length-requires : tie.Need-index-length-requires
-index-length-requires c κs = search needs
 
 returns-2 : tie.Need-returns-2
 returns-2 c =
     let at-index-length = c .before in
     let at-if1 = at-index-length .before in
     let start = at-if1 .before .before .before .before .before .before in
-    done-misfit (start .pre .0) (start .pre .1) (at-if1 .if1 .left) (λ e. c .if2 .taken (e ∙ sym (at-index-length .index-length .ensures)))
+    done-misfit (start .pre .0) (start .pre .1) (at-if1 .if1 .left)
+    (λ e. c .if2 .taken (e ∙ sym (at-index-length .index-length .ensures)))
 
 returns-3 : tie.Need-returns-3
 returns-3 c =
@@ -30,7 +25,8 @@ returns-3 c =
     let at-index-length = at-if2 .before in
     let at-if1 = at-index-length .before in
     let start = at-if1 .before .before .before .before .before .before in
-    done-empty (start .pre .0) (start .pre .1) (at-if1 .if1 .left) (at-if2 .if2 .left ∙ at-index-length .index-length .ensures) (c .if3 .taken)
+    done-empty (start .pre .0) (start .pre .1) (at-if1 .if1 .left)
+    (at-if2 .if2 .left ∙ at-index-length .index-length .ensures) (c .if3 .taken)
 
 write-index-requires : tie.Need-write-index-requires
 write-index-requires c κs =
@@ -41,12 +37,6 @@ write-index-requires c κs =
     let (a, w) = write-asked (start .pre .0) (start .pre .1) in
     (a, (w, omega arith, at-if1 .if1 .left, at-if2 .if2 .left ∙ at-index-length .index-length .ensures))
 
-same-length : tie.Need-same-length
-same-length c = search needs
-
-same-length-2 : tie.Need-same-length-2
-same-length-2 c = search needs
-
 returns-4 : tie.Need-returns-4
 returns-4 c =
     let at-write-index = c .before .before .before .before in
@@ -54,18 +44,11 @@ returns-4 c =
     let at-index-length = at-if2 .before in
     let at-if1 = at-index-length .before in
     let start = at-if1 .before .before .before .before .before .before in
-    done-written (start .pre .0) (start .pre .1) (at-if1 .if1 .left) (at-if2 .if2 .left ∙ at-index-length .index-length .ensures) (at-write-index .write-index .ensures)
+    done-written (start .pre .0) (start .pre .1) (at-if1 .if1 .left)
+    (at-if2 .if2 .left ∙ at-index-length .index-length .ensures) (at-write-index .write-index .ensures)
 
 pub build-from-spec : {M : Type 1} → statement M
 build-from-spec =
     tie.close
-    (tie.spec
-    mul-if1
-    returns
-    index-length-requires
-    returns-2
-    returns-3
-    write-index-requires
-    same-length
-    same-length-2
-    returns-4)
+    (tie.spec (λ c. search needs) returns (λ c κs. search needs) returns-2 returns-3 write-index-requires
+    (λ c. search needs) (λ c. search needs) returns-4)

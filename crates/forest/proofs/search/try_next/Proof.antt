@@ -3,7 +3,7 @@ use Prim.Native.Nat.{_-_, _≤_, _<_}
 use native.Mathlib.Omega.{arith}
 use borrow.Author.Needs.{needs}
 use lib.ListN.{length}
-use Rattle.record.specs.Laws.Rows.{starts-fit}
+use Rattle.adjacency.specs.Laws.Rows.{starts-fit}
 use Rattle.forest.proofs.Laws.Graphs.{known}
 use Rattle.forest.proofs.Laws.Stepping.{next-fits, next-left, next-entered}
 use Rattle.forest.proofs.search.try_next.Statement.{statement}
