@@ -15,8 +15,8 @@ use lib.ListN.{getD}
 use lib.Pow.{split, pow-pos, shr-lt}
 use Rattle.bits.specs.Bits.{toBits, count, onesAt, select}
 use Rattle.bits.specs.Spans.{Narrowed}
-use Rattle.bits.specs.Laws.Digits.{length-toBits, value-toBits, toBits-agree, toBits-append}
-use Rattle.bits.specs.Laws.Rank.{ones-value}
+use Rattle.bits.specs.Laws.Digits.{length-toBits, toBits-agree, toBits-append}
+use Rattle.bits.specs.Laws.Rank.{count-toBits}
 use Rattle.bits.specs.Laws.Select.{select-le, select-left, select-right}
 use Rattle.bits.proofs.Entries.{tabulate, tabulate-at}
 
@@ -49,9 +49,6 @@ ones-bit (suc zero) h = refl
 ones-bit (suc (suc x)) h = absurd (omega arith)
 
 -- ---- halves
-
-count-toBits : (n x : ℕ) → x < 2 ^ n → count (toBits n x) ≡ ones x
-count-toBits n x h = sym (ones-value (toBits n x)) ∙ ap ones (value-toBits n x ∙ mod-eq-of-lt h)
 
 module _ (n x k p : ℕ) (h : x < 2 ^ (n + n)) (some : 1 ≤ k) where
   top-lt : x / 2 ^ n < 2 ^ n

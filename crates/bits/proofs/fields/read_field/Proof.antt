@@ -18,26 +18,8 @@ sub-last c = search needs
 add-last-2 : tie.Need-add-last-2
 add-last-2 c = search needs
 
-shared-slice-read-join : tie.Need-shared-slice-read-join
-shared-slice-read-join c = search needs
-
-join-requires : tie.Need-join-requires
-join-requires c κs = search needs
-
-add-join : tie.Need-add-join
-add-join c = search needs
-
-shared-slice-read-join-2 : tie.Need-shared-slice-read-join-2
-shared-slice-read-join-2 c = search needs
-
-join-requires-2 : tie.Need-join-requires-2
-join-requires-2 c κs = search needs
-
-shared-slice-read-join-3 : tie.Need-shared-slice-read-join-3
-shared-slice-read-join-3 c = search needs
-
-join-requires-3 : tie.Need-join-requires-3
-join-requires-3 c κs = search needs
+join3-requires : tie.Need-join3-requires
+join3-requires c κs = search needs
 
 sub-result : tie.Need-sub-result
 sub-result c = search needs
@@ -53,18 +35,19 @@ shl-result c = search needs
 
 sub-result-3 : tie.Need-sub-result-3
 sub-result-3 c =
-    let w = c .before .before .before .before .before .before .before .args .width in
+    let w = c .before .before .args .width in
     rw (shifted-one w (omega arith)) (pow-pos w)
 
 returns : tie.Need-returns
 returns c =
-    let args = c .before .before .before .before .before .before .before .args in
-    let a = args in
+    let a = c .before .before .args in
+    let known = c .before .shared-slice-known in
     let x = c .join3 .result in
     let k = 24 - a .width - a .start % 8 in
+    let cut = field-in-three (a .bytes .now) (a .start) (a .width) (λ i. known .given i .fits) in
+    let same = cut (omega arith) (omega arith) (omega arith) in
     rw (shifted-one (a .width) (omega arith)) (
-      and-mask (x / 2 ^ k) (a .width) ∙ ap (λ (n : ℕ). n / 2 ^ k % 2 ^ a .width) (omega arith)
-          ∙ field-in-three (a .bytes .now) (a .start) (a .width) (λ i. c .before .shared-slice-known4 .given i .fits) (omega arith) (omega arith) (omega arith),
+      and-mask (x / 2 ^ k) (a .width) ∙ ap (λ (n : ℕ). n / 2 ^ k % 2 ^ a .width) (c .join3 .ensures) ∙ same,
       mask-lt (x / 2 ^ k) (a .width),
     )
 
@@ -75,13 +58,7 @@ read-field-spec =
     add-last
     sub-last
     add-last-2
-    shared-slice-read-join
-    join-requires
-    add-join
-    shared-slice-read-join-2
-    join-requires-2
-    shared-slice-read-join-3
-    join-requires-3
+    join3-requires
     sub-result
     sub-result-2
     shr-result
