@@ -1,15 +1,16 @@
 -- The k-th one, by the byte it is in.
-use mathlib.Core.Path.{_≡_, refl, sym, ap, _∙_}
+use mathlib.Core.Path.{_≡_, refl, sym, ap, ap₂, _∙_}
 use mathlib.Core.Bool.{Bool}
 use mathlib.Core.List.{List, _++_}
 use Prim.Native.Nat.{ℕ, suc, _+_, _-_, _*_, _/_, _^_, _≤_, _<_}
-use native.Mathlib.Nat.{zero-add, zero-mod, div-eq-of-lt}
+use native.Mathlib.Nat.{zero-mod, div-eq-of-lt}
 use native.Mathlib.Omega.{arith}
 use lib.Count.{ones}
 use lib.ListN.{length, take, drop, take-append-drop}
 use lib.Seq.{length-take-le, take-all, take-at}
 use Rattle.bits.specs.Bits.{toBits, bits, count, select, value}
 use Rattle.bits.specs.Steps.{IsByte, Passed, within}
+use Rattle.bits.specs.Spans.{onesBetween, Skipped}
 use Rattle.bits.specs.Laws.Digits.{length-toBits, value-toBits, value-lt, toBits-value, toBits-append}
 use Rattle.bits.specs.Laws.Bytes.{length-bits, byte-on}
 use Rattle.bits.specs.Laws.Rank.{count-append, count-take-add, ones-value, count-toBits}
@@ -17,9 +18,15 @@ use Rattle.bits.specs.Laws.Select.{within-in, select-none, select-bounds
 
 -- ---- on the way
 
-pub passed-none : (bytes : List ℕ) (k : ℕ) → 1 ≤ k → Passed bytes k 0 k
-unfolding count
-passed-none bytes k h = record { inside = omega arith; some = h; sum = zero-add k }
+-- after whole words
+pub passed-words : {bytes : List ℕ} {k at left : ℕ} → Skipped (bits bytes) (length bytes) 0 k at left
+    → Passed bytes k at left
+unfolding onesBetween
+passed-words {bytes} {k} {at} r =
+    let t = r .sought in
+    let e : 8 * at - 0 ≡ 8 * at = omega arith in
+    let c = ap (λ (n : ℕ). count (take n (bits bytes))) e in
+    record { inside = omega arith; some = t .some; sum = sym (ap₂ _+_ c refl) ∙ t .sum }
 
 -- past the n bits from byte `at` on, with c ones
 passed-on : {bytes : List ℕ} {k at left : ℕ} (n c : ℕ) → Passed bytes k at left → at + n ≤ length bytes
@@ -29,10 +36,6 @@ passed-on {bytes} {k} {at} n c p h e l =
     let s = ap (λ (x : ℕ). count (take x (bits bytes))) m ∙ count-take-add (bits bytes) (8 * at) (8 * n) in
     let t = p .sum in
     record { inside = h; some = omega arith; sum = omega arith }
-
-pub passed-word : {bytes : List ℕ} {k at left : ℕ} (c : ℕ) → Passed bytes k at left → at + 8 ≤ length bytes
-    → c ≡ count (take 64 (drop (8 * at) (bits bytes))) → c < left → Passed bytes k (at + 8) (left - c)
-passed-word c p h e l = passed-on 8 c p h e l
 
 -- the bytes have fewer ones
 pub missing : {bytes : List ℕ} {k at left : ℕ} (limit : ℕ) → Passed bytes k at left → length bytes ≤ at

@@ -6,6 +6,6 @@ pub mod Stored
 pub mod Entries
 pub mod Found
 pub mod Halves
-pub mod Windows
 pub mod Passes
+pub mod Windows
 pub mod FromBit

@@ -259,15 +259,12 @@ module _ (s : List Bool) (a n : ℕ) (h : a + n ≤ length s) where
   pub lone-none : onesBetween s a (a + n) ≡ 0 → LoneOf (take n (drop a s)) Lone.None
   lone-none e = all-ones ∙ e
 
-  pub lone-one : {q : ℕ} → OneAt s a q 1 → q < a + n → onesBetween s (q + 1) (a + n) ≡ 0
+  pub lone-one : {q : ℕ} → OneAt s a q 1 → q < a + n → onesBetween s a (a + n) ≡ 1
       → LoneOf (take n (drop a s)) (Lone.At (q - a))
-  lone-one {q} o l z =
+  lone-one {q} o l e =
       let f = o .after in
-      let c = all-ones in
-      let p = one-past o (omega arith) in
-      let e = between-add s a (q + 1) (a + n) (omega arith) (omega arith) in
       let r = select-of-one s a n h o l in
-      (omega arith, omega arith)
+      (all-ones ∙ e, omega arith)
 
   pub lone-more : 1 < onesBetween s a (a + n) → LoneOf (take n (drop a s)) Lone.More
   lone-more k = let c = all-ones in omega arith

@@ -4,7 +4,7 @@ use Prim.Native.Nat.{_-_}
 use native.Mathlib.Omega.{arith}
 use lib.ListN.{length}
 use Rattle.bits.specs.Steps.{Passed}
-use Rattle.bits.proofs.Found.{passed-byte, found-bounds, found-within, missing}
+use Rattle.bits.proofs.Found.{passed-words, passed-byte, found-bounds, found-within, missing}
 use Rattle.bits.proofs.search.place_of.Statement.{statement}
 use Rattle.bits.proofs.search.place_of.Tie as tie
 
@@ -14,11 +14,11 @@ Inv-loop bytes limit k at₀ left₀ at left = Passed bytes k at left
 abbrev μ-loop : tie.MeasureT-loop
 μ-loop bytes limit k at₀ left₀ at left = length bytes - at
 
-skip-words-requires : tie.Need-skip-words-requires Inv-loop μ-loop
-skip-words-requires c κs = c .before .pre
+skip-from-requires : tie.Need-skip-from-requires Inv-loop μ-loop
+skip-from-requires c κs = (omega arith, c .before .pre)
 
 loop-holds : tie.Need-loop-holds Inv-loop μ-loop
-loop-holds c = c .skip-words .ensures
+loop-holds c = passed-words (c .skip-from .ensures)
 
 byte-at-requires : tie.Need-byte-at-requires Inv-loop μ-loop
 byte-at-requires c κs = c .loop-test .taken
@@ -31,13 +31,18 @@ in-byte-requires c κs = omega arith
 
 within-requires : tie.Need-within-requires Inv-loop μ-loop
 within-requires c κs =
-    let p = found-bounds (c .before .before .before .byte-at .ensures) (c .before .before .before .before .before .loop .inv) (omega arith) in
+    let byte = c .before .before .before in
+    let p = found-bounds (byte .byte-at .ensures) (byte .before .before .loop .inv) (omega arith) in
     omega arith
 
 returns : tie.Need-returns Inv-loop μ-loop
 returns c =
-    let limit = c .before .before .before .before .before .before .before .before .before .args .limit in
-    c .within .ensures ∙ found-within (c .before .before .before .before .byte-at .ensures) (c .before .before .before .before .before .before .loop .inv) (omega arith) limit (c .before .in-byte .result) (c .before .in-byte .ensures)
+    let byte = c .before .before .before .before in
+    let inv = byte .before .before .loop .inv in
+    let limit = byte .before .before .before .before .before .args .limit in
+    let place = c .before .in-byte in
+    c .within .ensures
+    ∙ found-within (byte .byte-at .ensures) inv (omega arith) limit (place .result) (place .ensures)
 
 sub-left : tie.Need-sub-left Inv-loop μ-loop
 sub-left c = omega arith
@@ -49,7 +54,10 @@ loop-less : tie.Need-loop-less Inv-loop μ-loop
 loop-less c = omega arith
 
 loop-again : tie.Need-loop-again Inv-loop μ-loop
-loop-again c = passed-byte (c .before .before .byte-at .ensures) (c .before .byte-ones .result) (c .before .before .before .before .loop .inv) (c .before .byte-ones .ensures .0) (c .if1 .left)
+loop-again c =
+    let byte = c .before .before in
+    let n = c .before .byte-ones in
+    passed-byte (byte .byte-at .ensures) (n .result) (byte .before .before .loop .inv) (n .ensures .0) (c .if1 .left)
 
 returns-2 : tie.Need-returns-2 Inv-loop μ-loop
 returns-2 c = sym (missing (c .before .before .before .before .args .limit) (c .before .loop .inv) (c .loop-test .left))
@@ -60,7 +68,7 @@ place-of-spec =
     (tie.spec
     Inv-loop
     μ-loop
-    skip-words-requires
+    skip-from-requires
     loop-holds
     byte-at-requires
     byte-ones-requires
