@@ -14,7 +14,7 @@ use lib.Seq.{drop-cons, take-at}
 use Rattle.bits.specs.Bits.{toBits, bits, value, field}
 use Rattle.bits.specs.Laws.Digits.{length-toBits, value-append, value-toBits}
 use Rattle.bits.specs.Laws.Bytes.{AreBytes, take-bytes, drop-bytes, length-bits, bits-append, part-bits, byte-on}
-use Rattle.bits.specs.Steps.{joined, eight, three, IsByte, TwoAt, FourAt}
+use Rattle.bits.specs.Steps.{joined, eight, two, three, IsByte, TwoAt, FourAt}
 use Rattle.bits.specs.Laws.Fields.{field-inside, field-front, field-back, field-append}
 
 joined-value : (a : ℕ) (bytes : List ℕ) → AreBytes bytes
@@ -48,7 +48,7 @@ field-joined bytes f n h =
 -- ---- two, three and eight bytes from byte f on
 
 module _ (bytes : List ℕ) (f : ℕ) where
-  pub two-bytes : f + 2 ≤ length bytes → take 2 (drop f bytes) ≡ getD bytes f 0 ∷ getD bytes (f + 1) 0 ∷ []
+  pub two-bytes : f + 2 ≤ length bytes → take 2 (drop f bytes) ≡ two bytes f (f + 1)
   two-bytes h = rw (drop-cons bytes f 0 (omega arith), drop-cons bytes (suc f) 0 (omega arith), add-one f)
 
   pub three-bytes : f + 3 ≤ length bytes → take 3 (drop f bytes) ≡ three bytes f (f + 2)
@@ -202,9 +202,9 @@ field-in-three bytes start w hb h9 h16 hl = go (decLe (start % 8 + w) 16)
         let last : (start % 8 + w - 1) / 8 ≡ 1 = omega arith in
         let k : ℕ = 16 - w - start % 8 in
         let shift : 24 - w - start % 8 ≡ 8 + k = omega arith in
-        let two : ℕ = joined 0 (getD bytes (start / 8) 0 ∷ getD bytes (start / 8 + 1) 0 ∷ []) in
+        let x : ℕ = joined 0 (two bytes (start / 8) (start / 8 + 1)) in
         let in-two = field-in-bytes bytes start w k 2 hb (omega arith) (omega arith) in
-        rw (last, shift, ← shr-shr (two * 256 + getD bytes (start / 8 + 1) 0) 8 k, high two 8 (hb (start / 8 + 1)))
+        rw (last, shift, ← shr-shr (x * 256 + getD bytes (start / 8 + 1) 0) 8 k, high x 8 (hb (start / 8 + 1)))
         (rw (two-bytes bytes (start / 8) (omega arith)) at in-two)
     go (no h) =
         let last : (start % 8 + w - 1) / 8 ≡ 2 = omega arith in

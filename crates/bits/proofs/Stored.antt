@@ -15,7 +15,7 @@ use Rattle.bits.specs.Bits.{toBits, bits, field, put}
 use Rattle.bits.specs.Laws.Digits.{toBits-agree, toBits-append, toBits-value}
 use Rattle.bits.specs.Laws.Bytes.{AreBytes, length-bits, bits-append, take-bits, drop-bits}
 use Rattle.bits.specs.Laws.Puts.{put-number, put-part, put-one, put-beside}
-use Rattle.bits.specs.Steps.{joined, three, byteOf, IsByte, replace}
+use Rattle.bits.specs.Steps.{joined, two, three, byteOf, IsByte, replace}
 use Rattle.bits.proofs.Joined.{field-joined, byte-field, two-bytes, three-bytes}
 
 put-above : (hi w k v : ℕ) → hi * 2 ^ (w + k) + v * 2 ^ k ≡ (hi * 2 ^ w + v) * 2 ^ k
@@ -112,7 +112,7 @@ write-one {bytes} {x} start w k v y byte e hv ey =
 
 module _ (bytes : List ℕ) (start w k v x y : ℕ) (hb : AreBytes bytes) (hv : v < 2 ^ w) (ey : y ≡ replace x w k v) where
   pub write-two : {p q : ℕ} → start / 8 + 2 ≤ length bytes → start % 8 + (w + k) ≡ 16
-      → x ≡ joined 0 (getD bytes (start / 8) 0 ∷ getD bytes (start / 8 + 1) 0 ∷ [])
+      → x ≡ joined 0 (two bytes (start / 8) (start / 8 + 1))
       → p ≡ byteOf y 8 → q ≡ byteOf y 0
       → bits (set (set bytes (start / 8) p) (start / 8 + 1) q) ≡ put w v (bits bytes) start
   write-two h e ex ep eq =

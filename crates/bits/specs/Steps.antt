@@ -2,6 +2,7 @@
 -- with a field replaced, and what callers are told of two and of four fields.
 --   joined    bytes joined to a number
 --   eight     eight bytes of a list
+--   two       two bytes of a list
 --   three     two bytes of a list in a row, and a third
 --   byteOf    a byte of a number
 --   lowBytes  the lowest bytes of a number, the lowest first
@@ -30,6 +31,10 @@ abbrev pub eight : List ℕ → ℕ → List ℕ
 eight bytes f =
     getD bytes f 0 ∷ getD bytes (f + 1) 0 ∷ getD bytes (f + 2) 0 ∷ getD bytes (f + 3) 0
     ∷ getD bytes (f + 4) 0 ∷ getD bytes (f + 5) 0 ∷ getD bytes (f + 6) 0 ∷ getD bytes (f + 7) 0 ∷ []
+
+-- bytes f and l
+abbrev pub two : List ℕ → ℕ → ℕ → List ℕ
+two bytes f l = getD bytes f 0 ∷ getD bytes l 0 ∷ []
 
 -- byte f, the next, and byte l
 abbrev pub three : List ℕ → ℕ → ℕ → List ℕ

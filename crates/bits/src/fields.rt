@@ -5,7 +5,7 @@ ghost use mathlib.Core.Bool.{true, false};
 ghost use Prim.Native.Nat.{_+_, _*_, _/_, _%_, _^_, _<_, _≤_};
 ghost use lib.ListN.{length, getD, set};
 ghost use Rattle.bits.specs.Bits.{bits, field, put};
-ghost use Rattle.bits.specs.Steps.{joined, three, TwoAt, FourAt, replace};
+ghost use Rattle.bits.specs.Steps.{joined, two, three, TwoAt, FourAt, replace};
 use super::words::byte_at;
 use super::words::byte_of;
 use super::words::join;
@@ -19,12 +19,20 @@ pub fn read_bit(bytes: &[u8], index: usize) -> bool
     (byte_at(bytes, index / 8) >> (7 - index % 8)) & 1 == 1
 }
 
+// Bytes `at` and `next`, joined.
+fn join2(bytes: &[u8], at: usize, next: usize) -> u64
+    requires { ⌜ (at < length (now bytes)) × (next < length (now bytes)) ⌝ }
+    ensures { λ r. ⌜ (r ≡ joined 0 (two (now (bytes .entry)) at next)) × (r < 65536) ⌝ }
+{
+    join(join(0, bytes[at]), bytes[next])
+}
+
 // Byte `at`, the next, and byte `last`, joined.
 fn join3(bytes: &[u8], at: usize, last: usize) -> u64
     requires { ⌜ (at + 2 ≤ length (now bytes)) × (last < length (now bytes)) ⌝ }
-    ensures { λ r. ⌜ r ≡ joined 0 (three (now (bytes .entry)) at last) ⌝ }
+    ensures { λ r. ⌜ (r ≡ joined 0 (three (now (bytes .entry)) at last)) × (r < 16777216) ⌝ }
 {
-    join(join(join(0, bytes[at]), bytes[at + 1]), bytes[last])
+    join(join2(bytes, at, at + 1), bytes[last])
 }
 
 // The field of `width` bits from bit `start` on. Three bytes are joined: the first, the next, and the one in which the
@@ -157,14 +165,15 @@ pub fn write12(bytes: &mut [u8], start: usize, v: usize)
     let first = start / 8;
     let off = start % 8;
     let next = first + 1;
-    let x = join(join(0, bytes[first]), bytes[next]);
     if off <= 4 {
+        let x = join2(bytes, first, next);
         let y = replaced(x, 12, 4 - off, v as u64);
         bytes[first] = byte_of(y, 8);
         bytes[next] = byte_of(y, 0);
     } else {
         let last = first + 2;
-        let y = replaced(join(x, bytes[last]), 12, 12 - off, v as u64);
+        let x = join3(bytes, first, last);
+        let y = replaced(x, 12, 12 - off, v as u64);
         bytes[first] = byte_of(y, 16);
         bytes[next] = byte_of(y, 8);
         bytes[last] = byte_of(y, 0);

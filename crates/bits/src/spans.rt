@@ -189,19 +189,21 @@ pub fn span_from(bytes: &[u8], start: usize, places: usize, k: usize) -> Span
         × (start + places ≤ 8 * length (now bytes)) × (start + places ≤ 1048576) ⌝ }
     ensures { λ r. ⌜ SpanOf (take places (drop start (bits (now (bytes .entry))))) k (r .from) (r .to) ⌝ }
 {
-    let w = window_of(bytes, start, start + places, k);
+    let stop = start + places;
+    let w = window_of(bytes, start, stop, k);
     let left = 64 - in_word(w.bits, w.left);
     let rest = w.bits & ((1 << left) - 1);
     let end = w.from + w.width;
+    let from = end - left - start;
     if rest != 0 {
         return Span {
-            from: end - left - start,
+            from,
             to: end - 1 - top(rest) - start,
         };
     }
     Span {
-        from: end - left - start,
-        to: next_from(bytes, end, start + places) - start,
+        from,
+        to: next_from(bytes, end, stop) - start,
     }
 }
 

@@ -47,7 +47,7 @@ returns c =
     let cut = field-in-three (a .bytes .now) (a .start) (a .width) (λ i. known .given i .fits) in
     let same = cut (omega arith) (omega arith) (omega arith) in
     rw (shifted-one (a .width) (omega arith)) (
-      and-mask (x / 2 ^ k) (a .width) ∙ ap (λ (n : ℕ). n / 2 ^ k % 2 ^ a .width) (c .join3 .ensures) ∙ same,
+      and-mask (x / 2 ^ k) (a .width) ∙ ap (λ (n : ℕ). n / 2 ^ k % 2 ^ a .width) (c .join3 .ensures .0) ∙ same,
       mask-lt (x / 2 ^ k) (a .width),
     )
 

@@ -21,7 +21,7 @@ returns : tie.Need-returns
 returns c =
     let args = c .before .before .before .before .args in
     let known = c .before .before .before .shared-slice-known in
-    let x = c .before .before .join3 .ensures in
+    let x = c .before .before .join3 .ensures .0 in
     let a = c .before .cut12 .ensures in
     let b = c .cut122 .ensures in
     two-in-bytes (args .bytes .now) (args .at) (λ i. known .given i .fits) (omega arith) x (a .0) (b .0) (a .1, b .1)

@@ -11,17 +11,8 @@ use Rattle.bits.proofs.fields.write12.Tie as tie
 add-next : tie.Need-add-next
 add-next c = search needs
 
-slice-read-join : tie.Need-slice-read-join
-slice-read-join c = search needs
-
-join-requires : tie.Need-join-requires
-join-requires c κs = search needs
-
-slice-read-join-2 : tie.Need-slice-read-join-2
-slice-read-join-2 c = search needs
-
-join-requires-2 : tie.Need-join-requires-2
-join-requires-2 c κs = search needs
+join2-requires : tie.Need-join2-requires
+join2-requires c κs = search needs
 
 replaced-requires : tie.Need-replaced-requires
 replaced-requires c κs = search needs
@@ -41,11 +32,8 @@ slice-write-bytes-2 c = simp length-set (omega arith)
 add-last : tie.Need-add-last
 add-last c = search needs
 
-slice-read-join-3 : tie.Need-slice-read-join-3
-slice-read-join-3 c = search needs
-
-join-requires-3 : tie.Need-join-requires-3
-join-requires-3 c κs = search needs
+join3-requires : tie.Need-join3-requires
+join3-requires c κs = search needs
 
 sub-replaced : tie.Need-sub-replaced
 sub-replaced c = search needs
@@ -76,14 +64,14 @@ same-length c = search needs
 
 returns : tie.Need-returns
 returns c =
-    let y = c .before .before .replaced in
-    let read = c .before .before .before .before .before .before .before .before in
+    let y = c .before .before in
+    let x = y .before in
+    let read = x .before .before .before in
     let a = read .before .args in
-    let bytes = a .bytes .now in
-    let known : AreBytes bytes = λ i. read .slice-known .given i .fits in
-    let k = 4 - a .start % 8 in
-    let write = write-two bytes (a .start) 12 k (a .v) _ (y .result) known (omega arith) (y .ensures) in
-    let stored = write (omega arith) (omega arith) (omega arith) (c .before .byte-of .ensures) (c .byte-of2 .ensures) in
+    let known : AreBytes (a .bytes .now) = λ i. read .slice-known .given i .fits in
+    let stored = write-two (a .bytes .now) (a .start) 12 (4 - a .start % 8) (a .v) (x .join2 .result)
+    (y .replaced .result) known (omega arith) (y .replaced .ensures) (omega arith) (omega arith)
+    (x .join2 .ensures .0) (c .before .byte-of .ensures) (c .byte-of2 .ensures) in
     (stored, simp length-set)
 
 same-length-2 : tie.Need-same-length-2
@@ -91,34 +79,30 @@ same-length-2 c = search needs
 
 returns-2 : tie.Need-returns-2
 returns-2 c =
-    let y = c .before .before .before .replaced2 in
-    let read = c .before .before .before .before .before .before .before .before .before .before .before in
+    let p = c .before .before in
+    let y = p .before in
+    let x = y .before in
+    let read = x .before .before .before in
     let a = read .before .args in
-    let bytes = a .bytes .now in
-    let known : AreBytes bytes = λ i. read .slice-known .given i .fits in
-    let k = 12 - a .start % 8 in
-    let p = c .before .before .byte-of3 .ensures in
-    let q = c .before .byte-of4 .ensures in
-    let write = write-three bytes (a .start) 12 k (a .v) _ (y .result) known (omega arith) (y .ensures) in
-    (write (omega arith) (omega arith) (omega arith) p q (c .byte-of5 .ensures), simp length-set)
+    let known : AreBytes (a .bytes .now) = λ i. read .slice-known .given i .fits in
+    let stored = write-three (a .bytes .now) (a .start) 12 (12 - a .start % 8) (a .v) (x .join3 .result)
+    (y .replaced2 .result) known (omega arith) (y .replaced2 .ensures) (omega arith) (omega arith)
+    (x .join3 .ensures .0) (p .byte-of3 .ensures) (c .before .byte-of4 .ensures) (c .byte-of5 .ensures) in
+    (stored, simp length-set)
 
 pub write12-spec : {M : Type 1} → statement M
 write12-spec =
     tie.close
     (tie.spec
     add-next
-    slice-read-join
-    join-requires
-    slice-read-join-2
-    join-requires-2
+    join2-requires
     replaced-requires
     byte-of-requires
     slice-write-bytes
     byte-of-requires-2
     slice-write-bytes-2
     add-last
-    slice-read-join-3
-    join-requires-3
+    join3-requires
     sub-replaced
     replaced-requires-2
     byte-of-requires-3
