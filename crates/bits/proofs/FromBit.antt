@@ -14,7 +14,7 @@ use Rattle.bits.specs.Laws.Fields.{field-front}
 use Rattle.bits.specs.Laws.Rank.{count-take-add, rank-le, ones-field}
 use Rattle.bits.specs.Laws.Select.{select-none, select-bounds, select-le, select-take}
 use Rattle.bits.specs.Laws.Select.{select-left, select-right-found, select-right-none}
-use Rattle.bits.proofs.Found.{found-inside}
+use Rattle.bits.proofs.Passes.{found-inside}
 
 -- the bits from bit `start` on; how many of them are left of its byte; the bits of the bytes after it
 abbrev pub from : List ℕ → ℕ → List Bool

@@ -2,6 +2,7 @@
 --   part-aligned   a part that begins a byte
 --   part-ones      the ones of a part
 --   part-less      less is left after it
+--   found-inside   the k-th one of a string inside more bits
 --   word-one       the place in a part's word is a bit of the string
 --   sought-start   before the first part
 --   sought-more    past bits with fewer ones than are left to go
@@ -18,26 +19,27 @@
 --   lone-second    there is another in its part
 --   lone-further   there is another later
 --   lone-only      there is no other
-use mathlib.Core.Path.{_≡_, sym, ap, _∙_}
+use mathlib.Core.Path.{_≡_, refl, sym, ap, _∙_}
 use mathlib.Core.Bool.{Bool}
-use mathlib.Core.List.{List}
+use mathlib.Core.List.{List, _++_}
 use Prim.Native.Nat.{ℕ, _+_, _-_, _*_, _/_, _%_, _^_, _≤_, _<_}
+use native.Mathlib.Nat.{zero-mod, div-eq-of-lt}
 use native.Mathlib.Omega.{arith}
 use lib.Count.{ones}
 use lib.ListN.{length, take, drop, length-drop}
 use lib.Pow.{pow-add, low}
 use lib.Seq.{length-take-le}
-use Rattle.bits.specs.Bits.{toBits, count, select, field}
+use Rattle.bits.specs.Bits.{toBits, count, select, value, field}
 use Rattle.bits.specs.Spans.{LoneOf, onesBetween, OneAt, NextAt, PartOf, Cleared, Sought}
 use Rattle.bits.specs.declared.spans.Lone.the-variants as Lone
 use Rattle.bits.specs.Laws.Fields.{field-back}
-use Rattle.bits.specs.Laws.Rank.{ones-field}
-use Rattle.bits.specs.Laws.Select.{select-none, select-bounds}
+use Rattle.bits.specs.Laws.Digits.{length-toBits, value-toBits, value-lt, toBits-value, toBits-append}
+use Rattle.bits.specs.Laws.Rank.{ones-value, ones-field}
+use Rattle.bits.specs.Laws.Select.{select-none, select-bounds, select-right}
 use Rattle.bits.specs.Laws.Spans.{between-count, between-none, between-add, between-field}
 use Rattle.bits.specs.Laws.Spans.{between-zero, between-some}
 use Rattle.bits.specs.Laws.Spans.{one-past, one-of-part, one-later, select-of-one, top-first, next-first}
 use Rattle.bits.specs.Laws.Spans.{lone-one, lone-more}
-use Rattle.bits.proofs.Found.{found-inside}
 
 -- ---- a part
 
@@ -55,18 +57,33 @@ module _ {s : List Bool} {at b width w : ℕ} (p : PartOf s at b width w) where
   pub part-less : at < b → b - (at + width) < b - at
   part-less goes = omega arith
 
-pub word-one : (s : List Bool) (from width j p : ℕ) {x : ℕ} → from + width ≤ length s → x ≡ field width s from
-    → width ≤ 64 → 1 ≤ j → j ≤ ones x → p ≡ select (toBits 64 x) j
-    → (64 < width + p) × (p ≤ 64) × OneAt s from (from + width + p - 65) j
+-- the k-th one of a string inside n bits, with zeros before it
+pub found-inside : (n : ℕ) (s : List Bool) (off k : ℕ) → off + length s ≡ n → 1 ≤ k → k ≤ count s
+    → select (toBits n (value s)) k ≡ off + select s k
+unfolding ones
+found-inside n s off k e h l =
+    let z : toBits off (value s / 2 ^ length s) ≡ toBits off 0 = ap (toBits off) (div-eq-of-lt (value-lt s)) in
+    let c : count (toBits off 0) ≡ 0 =
+    sym (ones-value (toBits off 0)) ∙ ap ones (value-toBits off 0 ∙ zero-mod (2 ^ off)) in
+    let d : k - count (toBits off 0) ≡ k = omega arith in
+    let w : toBits n (value s) ≡ toBits off 0 ++ s =
+    rw (← e, toBits-append off (length s) (value s), z, toBits-value (length s) s refl) in
+    let r : select (toBits off 0 ++ s) k ≡ length (toBits off 0) + select s (k - count (toBits off 0)) =
+    select-right (toBits off 0) s k (omega arith) (omega arith) in
+    ap (λ (t : List Bool). select t k) w ∙ r ∙ rw (d, length-toBits off 0)
+
+pub word-one : (m : ℕ) (s : List Bool) (from width j p : ℕ) {x : ℕ} → from + width ≤ length s → x ≡ field width s from
+    → width ≤ m → 1 ≤ j → j ≤ ones x → p ≡ select (toBits m x) j
+    → (m < width + p) × (p ≤ m) × OneAt s from (from + width + p - (m + 1)) j
 unfolding field
-word-one s from width j p inside ex narrow some few ep =
+word-one m s from width j p inside ex narrow some few ep =
     let t : List Bool = take width (drop from s) in
     let n : length t ≡ width = length-take-le width (drop from s) (simp length-drop (omega arith)) in
     let o = ap ones ex ∙ ones-field width s from in
     let b = select-bounds t j some (omega arith) in
-    let f = found-inside 64 t (64 - width) j (omega arith) some (omega arith) in
-    let g : p ≡ 64 - width + select t j = ep ∙ ap (λ (y : ℕ). select (toBits 64 y) j) ex ∙ f in
-    let q : from + width + p - 65 ≡ from + (select t j - 1) = omega arith in
+    let f = found-inside m t (m - width) j (omega arith) some (omega arith) in
+    let g : p ≡ m - width + select t j = ep ∙ ap (λ (y : ℕ). select (toBits m y) j) ex ∙ f in
+    let q : from + width + p - (m + 1) ≡ from + (select t j - 1) = omega arith in
     (omega arith, omega arith, rw q (one-of-part s from width inside j some (omega arith)))
 
 -- ---- the k-th one
@@ -97,7 +114,7 @@ module _ {s : List Bool} {a k at left width w : ℕ} (places : ℕ) (r : Sought 
       → (64 ≤ at + width + q) × (a ≤ at + width + q - 64)
       × (at + width + q - 64 - a ≡ select (take places (drop a s)) k)
   nth-found q held few e =
-      let (f, g, o) = word-one s at width left q (omega arith) (p .same) (omega arith) (r .some) few e in
+      let (f, g, o) = word-one 64 s at width left q (omega arith) (p .same) (omega arith) (r .some) few e in
       let h = r .after in
       let i = select-of-one s a places held (one-later a k o h (r .sum)) (omega arith) in
       (omega arith, omega arith, omega arith)

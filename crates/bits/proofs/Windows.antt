@@ -165,7 +165,7 @@ module _ {s : List Bool} {a places k from width x left p : ℕ} (t : Standing s 
   here =
       let u = w .upto in
       let i = t .held in
-      word-one s from width left p (omega arith) (w .same) (w .narrow) (w .some) (w .few) (t .place)
+      word-one 64 s from width left p (omega arith) (w .same) (w .narrow) (w .some) (w .few) (t .place)
 
   one : OneAt s a (from + width + p - 65) k
   one = one-later a k (here .2) (w .after) (w .sum)

@@ -8,7 +8,6 @@
 --   lowBytes  the lowest bytes of a number, the lowest first
 --   IsByte    a number is a byte of a list
 --   IsRest    a number is what is left of a byte from a bit on
---   Passed    how many ones are left to go from a byte on
 --   within    a place, or 0 past a limit
 --   TwoAt     two numbers are the fields of 12 bits from a bit on
 --   FourAt    four numbers are the fields of 12 bits from a bit on
@@ -16,10 +15,10 @@
 use mathlib.Core.Path.{_≡_}
 use mathlib.Core.Bool.{Bool, true, false}
 use mathlib.Core.List.{List, [], _∷_}
-use Prim.Native.Nat.{ℕ, zero, suc, _+_, _-_, _*_, _/_, _%_, _^_, _≤_, _<_}
+use Prim.Native.Nat.{ℕ, zero, suc, _+_, _-_, _*_, _/_, _%_, _^_, _<_}
 use lib.Dec.{leb}
-use lib.ListN.{length, take, getD}
-use Rattle.bits.specs.Bits.{bits, count, field}
+use lib.ListN.{length, getD}
+use Rattle.bits.specs.Bits.{bits, field}
 
 -- the bytes, one below the other, below the number a
 abbrev pub joined : ℕ → List ℕ → ℕ
@@ -60,12 +59,6 @@ pub record IsRest (bytes : List ℕ) (start b : ℕ) : Type 0 where
   pub inside : start < 8 * length bytes
   pub same : b ≡ field (8 - start % 8) (bits bytes) start
   pub small : b < 256
-
--- k ones are looked for, and `left` of them are to go from byte `at` on
-pub record Passed (bytes : List ℕ) (k at left : ℕ) : Type 0 where
-  pub inside : at ≤ length bytes
-  pub some : 1 ≤ left
-  pub sum : count (take (8 * at) (bits bytes)) + left ≡ k
 
 -- the place p, or 0 where it is past the limit
 unfoldable pub within : ℕ → ℕ → ℕ

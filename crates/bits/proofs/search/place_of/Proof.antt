@@ -1,15 +1,16 @@
 -- `search::place_of` meets its contract: the bytes passed have fewer ones than are looked for.
 use mathlib.Core.Path.{_∙_, sym}
-use Prim.Native.Nat.{_-_}
+use Prim.Native.Nat.{_-_, _*_}
 use native.Mathlib.Omega.{arith}
 use lib.ListN.{length}
-use Rattle.bits.specs.Steps.{Passed}
-use Rattle.bits.proofs.Found.{passed-words, passed-byte, found-bounds, found-within, missing}
+use Rattle.bits.specs.Bits.{bits}
+use Rattle.bits.specs.Spans.{Sought}
+use Rattle.bits.proofs.Found.{passed-byte, found-bounds, found-within, missing}
 use Rattle.bits.proofs.search.place_of.Statement.{statement}
 use Rattle.bits.proofs.search.place_of.Tie as tie
 
 abbrev Inv-loop : tie.InvT-loop
-Inv-loop bytes limit k at₀ left₀ at left = Passed bytes k at left
+Inv-loop bytes limit k at₀ left₀ at left = Sought (bits bytes) 0 (8 * length bytes) k (8 * at) left
 
 abbrev μ-loop : tie.MeasureT-loop
 μ-loop bytes limit k at₀ left₀ at left = length bytes - at
@@ -18,7 +19,7 @@ skip-from-requires : tie.Need-skip-from-requires Inv-loop μ-loop
 skip-from-requires c κs = (omega arith, c .before .pre)
 
 loop-holds : tie.Need-loop-holds Inv-loop μ-loop
-loop-holds c = passed-words (c .skip-from .ensures)
+loop-holds c = c .skip-from .ensures .sought
 
 byte-at-requires : tie.Need-byte-at-requires Inv-loop μ-loop
 byte-at-requires c κs = c .loop-test .taken
@@ -32,17 +33,14 @@ in-byte-requires c κs = omega arith
 within-requires : tie.Need-within-requires Inv-loop μ-loop
 within-requires c κs =
     let byte = c .before .before .before in
-    let p = found-bounds (byte .byte-at .ensures) (byte .before .before .loop .inv) (omega arith) in
-    omega arith
+    found-bounds (byte .byte-at .ensures) (byte .before .before .loop .inv) (omega arith) (c .in-byte .ensures)
 
 returns : tie.Need-returns Inv-loop μ-loop
 returns c =
     let byte = c .before .before .before .before in
     let inv = byte .before .before .loop .inv in
     let limit = byte .before .before .before .before .before .args .limit in
-    let place = c .before .in-byte in
-    c .within .ensures
-    ∙ found-within (byte .byte-at .ensures) inv (omega arith) limit (place .result) (place .ensures)
+    c .within .ensures ∙ found-within (byte .byte-at .ensures) inv (omega arith) (c .before .in-byte .ensures) limit
 
 sub-left : tie.Need-sub-left Inv-loop μ-loop
 sub-left c = omega arith
@@ -57,10 +55,12 @@ loop-again : tie.Need-loop-again Inv-loop μ-loop
 loop-again c =
     let byte = c .before .before in
     let n = c .before .byte-ones in
-    passed-byte (byte .byte-at .ensures) (n .result) (byte .before .before .loop .inv) (n .ensures .0) (c .if1 .left)
+    passed-byte (byte .byte-at .ensures) (byte .before .before .loop .inv) (n .result) (n .ensures .0) (c .if1 .left)
 
 returns-2 : tie.Need-returns-2 Inv-loop μ-loop
-returns-2 c = sym (missing (c .before .before .before .before .args .limit) (c .before .loop .inv) (c .loop-test .left))
+returns-2 c =
+    let a = c .before .before .before .before .args in
+    sym (missing (a .bytes .now) (a .limit) (c .before .loop .inv) (c .loop-test .left))
 
 pub place-of-spec : {M : Type 1} → statement M
 place-of-spec =
