@@ -206,15 +206,13 @@ module _ {s : List Bool} {a at width w h : ℕ} (places : ℕ) (t : Topped s a (
         let x = rw end at (between-some s (at + width - h) h (λ z. n (rest ∙ z))) in
         lone-more s a places (t .held) (omega arith)
 
-    pub lone-only : {q : ℕ} → y ≡ 0 → NextAt s (at + width) (a + places) q → a + places ≤ q
+    pub lone-only : y ≡ 0 → onesBetween s (at + width) (a + places) ≡ 0
         → LoneOf (take places (drop a s)) (Lone.At (at + width - 1 - h - a))
-    lone-only {q} z n done =
+    lone-only z n =
         let p = t .part in
         let (l, o) = topped-one t in
         let e = sum in
         let x = rw end at (between-zero s (at + width - h) h (sym rest ∙ z)) in
-        let d : q ≡ a + places = omega arith in
-        let f = sym (ap (onesBetween s (at + width)) d) ∙ n .none in
         lone-one s a places (t .held) o (omega arith) (omega arith)
 
   pub lone-further : {q : ℕ} → NextAt s (at + width) (a + places) q → q < a + places

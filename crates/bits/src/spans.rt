@@ -249,10 +249,14 @@ pub fn lone_from(bytes: &[u8], start: usize, places: usize) -> Lone
             if without(part.bits, h) != 0 {
                 return Lone::More;
             }
+            let place = next - 1 - h - start;
+            if end <= next {
+                return Lone::At(place);
+            }
             if next_from(bytes, next, end) < end {
                 return Lone::More;
             }
-            return Lone::At(next - 1 - h - start);
+            return Lone::At(place);
         }
         at = next;
     }
