@@ -9,30 +9,6 @@ use Rattle.bits.proofs.Joined.{shifted-one, field-in-three}
 use Rattle.bits.proofs.fields.read_field.Statement.{statement}
 use Rattle.bits.proofs.fields.read_field.Tie as tie
 
-add-last : tie.Need-add-last
-add-last c = search needs
-
-sub-last : tie.Need-sub-last
-sub-last c = search needs
-
-add-last-2 : tie.Need-add-last-2
-add-last-2 c = search needs
-
-join3-requires : tie.Need-join3-requires
-join3-requires c κs = search needs
-
-sub-result : tie.Need-sub-result
-sub-result c = search needs
-
-sub-result-2 : tie.Need-sub-result-2
-sub-result-2 c = search needs
-
-shr-result : tie.Need-shr-result
-shr-result c = search needs
-
-shl-result : tie.Need-shl-result
-shl-result c = search needs
-
 sub-result-3 : tie.Need-sub-result-3
 sub-result-3 c =
     let w = c .before .before .args .width in
@@ -54,14 +30,5 @@ returns c =
 pub read-field-spec : {M : Type 1} → statement M
 read-field-spec =
     tie.close
-    (tie.spec
-    add-last
-    sub-last
-    add-last-2
-    join3-requires
-    sub-result
-    sub-result-2
-    shr-result
-    shl-result
-    sub-result-3
-    returns)
+    (tie.spec (λ c. search needs) (λ c. search needs) (λ c. search needs) (λ c κs. search needs) (λ c. search needs)
+    (λ c. search needs) (λ c. search needs) (λ c. search needs) sub-result-3 returns)

@@ -5,18 +5,6 @@ use borrow.Author.Needs.{needs}
 use Rattle.bits.proofs.fields.read_two.Statement.{statement}
 use Rattle.bits.proofs.fields.read_two.Tie as tie
 
-add-join3 : tie.Need-add-join3
-add-join3 c = search needs
-
-join3-requires : tie.Need-join3-requires
-join3-requires c κs = search needs
-
-cut12-requires : tie.Need-cut12-requires
-cut12-requires c κs = search needs
-
-cut12-requires-2 : tie.Need-cut12-requires-2
-cut12-requires-2 c κs = search needs
-
 returns : tie.Need-returns
 returns c =
     let args = c .before .before .before .before .args in
@@ -27,4 +15,6 @@ returns c =
     two-in-bytes (args .bytes .now) (args .at) (λ i. known .given i .fits) (omega arith) x (a .0) (b .0) (a .1, b .1)
 
 pub read-two-spec : {M : Type 1} → statement M
-read-two-spec = tie.close (tie.spec add-join3 join3-requires cut12-requires cut12-requires-2 returns)
+read-two-spec =
+    tie.close
+    (tie.spec (λ c. search needs) (λ c κs. search needs) (λ c κs. search needs) (λ c κs. search needs) returns)

@@ -6,32 +6,11 @@ use borrow.Author.Needs.{needs}
 use Rattle.bits.proofs.fields.write_two.Statement.{statement}
 use Rattle.bits.proofs.fields.write_two.Tie as tie
 
-byte-of-requires : tie.Need-byte-of-requires
-byte-of-requires c κs = search needs
-
-slice-write-bytes : tie.Need-slice-write-bytes
-slice-write-bytes c = search needs
-
-byte-of-requires-2 : tie.Need-byte-of-requires-2
-byte-of-requires-2 c κs = search needs
-
-add-bytes : tie.Need-add-bytes
-add-bytes c = search needs
-
 slice-write-bytes-2 : tie.Need-slice-write-bytes-2
 slice-write-bytes-2 c = simp length-set (omega arith)
 
-byte-of-requires-3 : tie.Need-byte-of-requires-3
-byte-of-requires-3 c κs = search needs
-
-add-bytes-2 : tie.Need-add-bytes-2
-add-bytes-2 c = search needs
-
 slice-write-bytes-3 : tie.Need-slice-write-bytes-3
 slice-write-bytes-3 c = simp length-set (omega arith)
-
-same-length : tie.Need-same-length
-same-length c = search needs
 
 returns : tie.Need-returns
 returns c =
@@ -48,14 +27,5 @@ returns c =
 pub write-two-spec : {M : Type 1} → statement M
 write-two-spec =
     tie.close
-    (tie.spec
-    byte-of-requires
-    slice-write-bytes
-    byte-of-requires-2
-    add-bytes
-    slice-write-bytes-2
-    byte-of-requires-3
-    add-bytes-2
-    slice-write-bytes-3
-    same-length
-    returns)
+    (tie.spec (λ c κs. search needs) (λ c. search needs) (λ c κs. search needs) (λ c. search needs) slice-write-bytes-2
+    (λ c κs. search needs) (λ c. search needs) slice-write-bytes-3 (λ c. search needs) returns)

@@ -27,9 +27,6 @@ byte-at-requires c κs = c .loop-test .taken
 byte-ones-requires : tie.Need-byte-ones-requires Inv-loop μ-loop
 byte-ones-requires c κs = c .byte-at .ensures .small
 
-in-byte-requires : tie.Need-in-byte-requires Inv-loop μ-loop
-in-byte-requires c κs = omega arith
-
 within-requires : tie.Need-within-requires Inv-loop μ-loop
 within-requires c κs =
     let byte = c .before .before .before in
@@ -41,15 +38,6 @@ returns c =
     let inv = byte .before .before .loop .inv in
     let limit = byte .before .before .before .before .before .args .limit in
     c .within .ensures ∙ found-within (byte .byte-at .ensures) inv (omega arith) (c .before .in-byte .ensures) limit
-
-sub-left : tie.Need-sub-left Inv-loop μ-loop
-sub-left c = omega arith
-
-add-at : tie.Need-add-at Inv-loop μ-loop
-add-at c = omega arith
-
-loop-less : tie.Need-loop-less Inv-loop μ-loop
-loop-less c = omega arith
 
 loop-again : tie.Need-loop-again Inv-loop μ-loop
 loop-again c =
@@ -65,18 +53,5 @@ returns-2 c =
 pub place-of-spec : {M : Type 1} → statement M
 place-of-spec =
     tie.close
-    (tie.spec
-    Inv-loop
-    μ-loop
-    skip-from-requires
-    loop-holds
-    byte-at-requires
-    byte-ones-requires
-    in-byte-requires
-    within-requires
-    returns
-    sub-left
-    add-at
-    loop-less
-    loop-again
-    returns-2)
+    (tie.spec Inv-loop μ-loop skip-from-requires loop-holds byte-at-requires byte-ones-requires (λ c κs. omega arith)
+    within-requires returns (λ c. omega arith) (λ c. omega arith) (λ c. omega arith) loop-again returns-2)

@@ -21,27 +21,12 @@ loop-holds c =
     let bytes = a .bytes .now in
     sought-start (bits bytes) (8 * a .first) (8 * length bytes) (a .k) (omega arith) (c .before .pre .1)
 
-add-loop : tie.Need-add-loop Inv-loop μ-loop
-add-loop c = omega arith
-
-word-ones-requires : tie.Need-word-ones-requires Inv-loop μ-loop
-word-ones-requires c κs = omega arith
-
 returns : tie.Need-returns Inv-loop μ-loop
 returns c =
     let l = c .before .before .before .loop in
     let e = c .before .word-ones .ensures .0 in
     let z = between-count (bits (c .before .before .before .before .before .args .bytes .now)) (8 * l .at) 64 in
     record { sought = l .inv; full = λ h. omega arith }
-
-sub-left : tie.Need-sub-left Inv-loop μ-loop
-sub-left c = omega arith
-
-add-at : tie.Need-add-at Inv-loop μ-loop
-add-at c = omega arith
-
-loop-less : tie.Need-loop-less Inv-loop μ-loop
-loop-less c = omega arith
 
 loop-again : tie.Need-loop-again Inv-loop μ-loop
 loop-again c =
@@ -57,15 +42,5 @@ returns-2 c = record { sought = c .before .loop .inv; full = λ h. absurd (omega
 pub skip-from-spec : {M : Type 1} → statement M
 skip-from-spec =
     tie.close
-    (tie.spec
-    Inv-loop
-    μ-loop
-    loop-holds
-    add-loop
-    word-ones-requires
-    returns
-    sub-left
-    add-at
-    loop-less
-    loop-again
-    returns-2)
+    (tie.spec Inv-loop μ-loop loop-holds (λ c. omega arith) (λ c κs. omega arith) returns (λ c. omega arith)
+    (λ c. omega arith) (λ c. omega arith) loop-again returns-2)

@@ -11,9 +11,6 @@ halve-requires c κs =
     let one = ones-bit (c .args .x / 2) (omega arith) in
     search needs
 
-add-result : tie.Need-add-result
-add-result c = search needs
-
 returns : tie.Need-returns
 returns c =
     let h = c .before .halve .result in
@@ -22,4 +19,4 @@ returns c =
     omega arith
 
 pub in-pair-spec : {M : Type 1} → statement M
-in-pair-spec = tie.close (tie.spec halve-requires add-result returns)
+in-pair-spec = tie.close (tie.spec halve-requires (λ c. search needs) returns)

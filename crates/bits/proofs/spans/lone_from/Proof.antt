@@ -41,19 +41,10 @@ topped c =
       below = c .top .ensures .2;
     }
 
-add-end : tie.Need-add-end Inv-loop μ-loop
-add-end c = omega arith
-
 loop-holds : tie.Need-loop-holds Inv-loop μ-loop
 loop-holds c =
     let a = c .before .args in
     cleared-start (bits (a .bytes .now)) (a .start) (a .start + a .places) (omega arith)
-
-part-from-requires : tie.Need-part-from-requires Inv-loop μ-loop
-part-from-requires c κs = omega arith
-
-add-next : tie.Need-add-next Inv-loop μ-loop
-add-next c = omega arith
 
 top-requires : tie.Need-top-requires Inv-loop μ-loop
 top-requires c κs = let h = c .if1 .taken in omega arith
@@ -98,9 +89,6 @@ returns-4 c =
     let none = next-none (c .before .next-from .ensures) (c .if4 .left) in
     lone-only (begun (read t) .args .places) (topped t) (w .without .ensures) z none
 
-loop-less : tie.Need-loop-less Inv-loop μ-loop
-loop-less c = omega arith
-
 loop-again : tie.Need-loop-again Inv-loop μ-loop
 loop-again c =
     let r = c .before .before .before in
@@ -116,23 +104,6 @@ returns-5 c =
 pub lone-from-spec : {M : Type 1} → statement M
 lone-from-spec =
     tie.close
-    (tie.spec
-    Inv-loop
-    μ-loop
-    add-end
-    loop-holds
-    part-from-requires
-    add-next
-    top-requires
-    without-requires
-    returns
-    sub-place
-    sub-place-2
-    sub-place-3
-    returns-2
-    next-from-requires
-    returns-3
-    returns-4
-    loop-less
-    loop-again
-    returns-5)
+    (tie.spec Inv-loop μ-loop (λ c. omega arith) loop-holds (λ c κs. omega arith) (λ c. omega arith) top-requires
+    without-requires returns sub-place sub-place-2 sub-place-3 returns-2 next-from-requires returns-3 returns-4
+    (λ c. omega arith) loop-again returns-5)

@@ -51,9 +51,6 @@ loop-holds c =
     let a = c .before .args in
     (cleared-start (bits (a .bytes .now)) (a .from) (a .end) (c .before .pre .0), c .before .pre .1)
 
-part-at-requires : tie.Need-part-at-requires Inv-loop μ-loop
-part-at-requires c κs = omega arith
-
 add-result : tie.Need-add-result Inv-loop μ-loop
 add-result c = let p = part (c .before .before .before) in omega arith
 
@@ -94,17 +91,5 @@ returns-2 c =
 pub next-from-spec : {M : Type 1} → statement M
 next-from-spec =
     tie.close
-    (tie.spec
-    Inv-loop
-    μ-loop
-    loop-holds
-    part-at-requires
-    add-result
-    sub-result
-    top-requires
-    sub-result-2
-    returns
-    add-at
-    loop-less
-    loop-again
-    returns-2)
+    (tie.spec Inv-loop μ-loop loop-holds (λ c κs. omega arith) add-result sub-result top-requires sub-result-2 returns
+    add-at loop-less loop-again returns-2)

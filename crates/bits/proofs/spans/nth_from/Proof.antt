@@ -48,28 +48,10 @@ found c =
     nth-found (a .places) inv (omega arith) (read c .part-from .ensures) (p .result) (omega arith) (omega arith)
     (p .ensures .0)
 
-add-end : tie.Need-add-end Inv-loop μ-loop
-add-end c = omega arith
-
 loop-holds : tie.Need-loop-holds Inv-loop μ-loop
 loop-holds c =
     let a = c .before .args in
     sought-start (bits (a .bytes .now)) (a .start) (a .start + a .places) (a .k) (omega arith) (c .before .pre .0)
-
-part-from-requires : tie.Need-part-from-requires Inv-loop μ-loop
-part-from-requires c κs = omega arith
-
-ones-of-requires : tie.Need-ones-of-requires Inv-loop μ-loop
-ones-of-requires c κs = tt
-
-add-result : tie.Need-add-result Inv-loop μ-loop
-add-result c = omega arith
-
-in-word-requires : tie.Need-in-word-requires Inv-loop μ-loop
-in-word-requires c κs = omega arith
-
-add-result-2 : tie.Need-add-result-2 Inv-loop μ-loop
-add-result-2 c = omega arith
 
 sub-result : tie.Need-sub-result Inv-loop μ-loop
 sub-result c = found c .0
@@ -79,15 +61,6 @@ sub-result-2 c = found c .1
 
 returns : tie.Need-returns Inv-loop μ-loop
 returns c = found c .2
-
-sub-left : tie.Need-sub-left Inv-loop μ-loop
-sub-left c = omega arith
-
-add-at : tie.Need-add-at Inv-loop μ-loop
-add-at c = omega arith
-
-loop-less : tie.Need-loop-less Inv-loop μ-loop
-loop-less c = omega arith
 
 loop-again : tie.Need-loop-again Inv-loop μ-loop
 loop-again c =
@@ -103,21 +76,6 @@ returns-2 c = nth-none (c .before .before .before .args .places) (c .before .loo
 pub nth-from-spec : {M : Type 1} → statement M
 nth-from-spec =
     tie.close
-    (tie.spec
-    Inv-loop
-    μ-loop
-    add-end
-    loop-holds
-    part-from-requires
-    ones-of-requires
-    add-result
-    in-word-requires
-    add-result-2
-    sub-result
-    sub-result-2
-    returns
-    sub-left
-    add-at
-    loop-less
-    loop-again
-    returns-2)
+    (tie.spec Inv-loop μ-loop (λ c. omega arith) loop-holds (λ c κs. omega arith) (λ c κs. tt) (λ c. omega arith)
+    (λ c κs. omega arith) (λ c. omega arith) sub-result sub-result-2 returns (λ c. omega arith) (λ c. omega arith)
+    (λ c. omega arith) loop-again returns-2)

@@ -38,20 +38,8 @@ part-from-requires c κs =
     let l = window-some (bits (a .bytes .now)) (a .start) (a .end) (pre .2) (pre .0) (pre .1) in
     omega arith
 
-ones-of-requires : tie.Need-ones-of-requires
-ones-of-requires c κs = search needs
-
 returns : tie.Need-returns
 returns c = window-here (opened (c .before)) (c .if1 .taken)
-
-add-skip-from : tie.Need-add-skip-from
-add-skip-from c = search needs
-
-sub-skip-from : tie.Need-sub-skip-from
-sub-skip-from c = search needs
-
-skip-from-requires : tie.Need-skip-from-requires
-skip-from-requires c κs = search needs
 
 part-at-requires : tie.Need-part-at-requires
 part-at-requires c κs = let l = before c in omega arith
@@ -68,13 +56,5 @@ returns-2 c =
 pub window-of-spec : {M : Type 1} → statement M
 window-of-spec =
     tie.close
-    (tie.spec
-    part-from-requires
-    ones-of-requires
-    returns
-    add-skip-from
-    sub-skip-from
-    skip-from-requires
-    part-at-requires
-    mul-t10
-    returns-2)
+    (tie.spec part-from-requires (λ c κs. search needs) returns (λ c. search needs) (λ c. search needs)
+    (λ c κs. search needs) part-at-requires mul-t10 returns-2)

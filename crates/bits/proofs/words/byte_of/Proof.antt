@@ -7,9 +7,6 @@ use borrow.Author.Needs.{needs}
 use Rattle.bits.proofs.words.byte_of.Statement.{statement}
 use Rattle.bits.proofs.words.byte_of.Tie as tie
 
-shr-result : tie.Need-shr-result
-shr-result c = search needs
-
 cast-result : tie.Need-cast-result
 cast-result c = omega (arith, mask-lt (c .args .x / 2 ^ c .args .k) 8)
 
@@ -18,4 +15,4 @@ unfolding byteOf
 returns c = and-mask (c .args .x / 2 ^ c .args .k) 8
 
 pub byte-of-spec : {M : Type 1} → statement M
-byte-of-spec = tie.close (tie.spec shr-result cast-result returns)
+byte-of-spec = tie.close (tie.spec (λ c. search needs) cast-result returns)

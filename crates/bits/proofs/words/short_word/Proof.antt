@@ -7,15 +7,6 @@ use borrow.Author.Needs.{needs}
 use Rattle.bits.proofs.words.short_word.Statement.{statement}
 use Rattle.bits.proofs.words.short_word.Tie as tie
 
-word-or-padded-requires : tie.Need-word-or-padded-requires
-word-or-padded-requires c κs = search needs
-
-sub-result : tie.Need-sub-result
-sub-result c = search needs
-
-shr-result : tie.Need-shr-result
-shr-result c = search needs
-
 returns : tie.Need-returns
 returns c =
     let a = c .before .before .args in
@@ -25,4 +16,4 @@ returns c =
     ∙ short-field (a .bytes .now) (a .at) (a .n) k (λ i. known .given i .fits) (omega arith) (omega arith)
 
 pub short-word-spec : {M : Type 1} → statement M
-short-word-spec = tie.close (tie.spec word-or-padded-requires sub-result shr-result returns)
+short-word-spec = tie.close (tie.spec (λ c κs. search needs) (λ c. search needs) (λ c. search needs) returns)

@@ -7,12 +7,6 @@ use borrow.Author.Needs.{needs}
 use Rattle.bits.proofs.words.word.Statement.{statement}
 use Rattle.bits.proofs.words.word.Tie as tie
 
-low-word-requires : tie.Need-low-word-requires
-low-word-requires c κs = search needs
-
-turned-requires : tie.Need-turned-requires
-turned-requires c κs = search needs
-
 returns : tie.Need-returns
 returns c =
     let args = c .before .before .before .args in
@@ -21,4 +15,4 @@ returns c =
     ∙ turned-joined (args .bytes .now) (args .at) (λ i. known .given i .fits)
 
 pub word-spec : {M : Type 1} → statement M
-word-spec = tie.close (tie.spec low-word-requires turned-requires returns)
+word-spec = tie.close (tie.spec (λ c κs. search needs) (λ c κs. search needs) returns)
