@@ -1,93 +1,63 @@
 -- The k-th one, by the byte it is in.
-use mathlib.Core.Path.{_≡_, refl, sym, ap, _∙_}
+--   passed-byte   past a byte with fewer ones than are left to go
+--   found-bounds  its place in its byte
+--   found-within  its place in the string, up to a limit
+--   missing       the bytes have fewer ones
+use mathlib.Core.Path.{_≡_, sym, ap, _∙_}
 use mathlib.Core.Bool.{Bool}
-use mathlib.Core.List.{List, _++_}
-use Prim.Native.Nat.{ℕ, suc, _+_, _-_, _*_, _/_, _^_, _≤_, _<_}
-use native.Mathlib.Nat.{mod-eq-of-lt, zero-add, zero-mod, div-eq-of-lt}
+use mathlib.Core.List.{List}
+use Prim.Native.Nat.{ℕ, _+_, _-_, _*_, _≤_, _<_}
 use native.Mathlib.Omega.{arith}
 use lib.Count.{ones}
-use lib.ListN.{length, take, drop, take-append-drop}
-use lib.Seq.{length-take-le, take-all, take-at}
-use Rattle.bits.specs.Bits.{toBits, bits, count, select, value}
-use Rattle.bits.specs.Steps.{IsByte, Passed, within}
-use Rattle.bits.specs.Laws.Digits.{length-toBits, value-toBits, value-lt, toBits-value, toBits-append}
-use Rattle.bits.specs.Laws.Bytes.{length-bits, byte-on}
-use Rattle.bits.specs.Laws.Rank.{count-append, count-take-add, ones-value}
-use Rattle.bits.specs.Laws.Select.{within-in, select-none, select-bounds, select-left, select-right, select-take}
+use lib.ListN.{length, take}
+use lib.Seq.{take-all}
+use Rattle.bits.specs.Bits.{toBits, bits, count, select}
+use Rattle.bits.specs.Steps.{IsByte, within}
+use Rattle.bits.specs.Spans.{onesBetween, OneAt, Sought}
+use Rattle.bits.specs.Laws.Bytes.{length-bits}
+use Rattle.bits.specs.Laws.Select.{within-in, select-none, select-take}
+use Rattle.bits.specs.Laws.Spans.{between-count, between-field, one-later, select-of-one}
+use Rattle.bits.proofs.Joined.{byte-field}
+use Rattle.bits.proofs.Passes.{word-one, sought-more}
 
--- ---- on the way
+module _ {bytes : List ℕ} {at b k left : ℕ} (byte : IsByte bytes at b)
+    (r : Sought (bits bytes) 0 (8 * length bytes) k (8 * at) left) where
+  pub passed-byte : (c : ℕ) → c ≡ ones b → c < left
+      → Sought (bits bytes) 0 (8 * length bytes) k (8 * (at + 1)) (left - c)
+  passed-byte c e more =
+      let i = byte .inside in
+      let d : 8 * (at + 1) ≡ 8 * at + 8 = omega arith in
+      let f = ap (onesBetween (bits bytes) (8 * at)) d ∙ between-field (bits bytes) (8 * at) 8 in
+      sought-more c (8 * (at + 1)) r (omega arith) (omega arith) (f ∙ ap ones (byte-field byte) ∙ sym e) more
 
-pub passed-none : (bytes : List ℕ) (k : ℕ) → 1 ≤ k → Passed bytes k 0 k
-unfolding count
-passed-none bytes k h = record { inside = omega arith; some = h; sum = zero-add k }
+  module _ {t : ℕ} (few : left ≤ ones b) (e : t ≡ select (toBits 8 b) left) where
+    one : (8 < 8 + t) × (t ≤ 8) × OneAt (bits bytes) (8 * at) (8 * at + 8 + t - 9) left
+    one =
+        let i = byte .inside in
+        let l = length-bits bytes in
+        word-one 8 (bits bytes) (8 * at) 8 left t (omega arith) (sym (byte-field byte)) (omega arith) (r .some) few e
 
--- past the n bits from byte `at` on, with c ones
-passed-on : {bytes : List ℕ} {k at left : ℕ} (n c : ℕ) → Passed bytes k at left → at + n ≤ length bytes
-    → c ≡ count (take (8 * n) (drop (8 * at) (bits bytes))) → c < left → Passed bytes k (at + n) (left - c)
-passed-on {bytes} {k} {at} n c p h e l =
-    let m : 8 * (at + n) ≡ 8 * at + 8 * n = omega arith in
-    let s : count (take (8 * (at + n)) (bits bytes)) ≡ count (take (8 * at) (bits bytes)) + count (take (8 * n) (drop (8 * at) (bits bytes))) =
-    ap (λ (x : ℕ). count (take x (bits bytes))) m ∙ count-take-add (bits bytes) (8 * at) (8 * n) in
-    let t = p .sum in
-    record { inside = h; some = omega arith; sum = omega arith }
+    pub found-bounds : (1 ≤ t) × (t ≤ 8)
+    found-bounds =
+        let (f, g, o) = one in
+        (omega arith, g)
 
-pub passed-word : {bytes : List ℕ} {k at left : ℕ} (c : ℕ) → Passed bytes k at left → at + 8 ≤ length bytes
-    → c ≡ count (take 64 (drop (8 * at) (bits bytes))) → c < left → Passed bytes k (at + 8) (left - c)
-passed-word c p h e l = passed-on 8 c p h e l
-
--- the bytes have fewer ones
-pub missing : {bytes : List ℕ} {k at left : ℕ} (limit : ℕ) → Passed bytes k at left → length bytes ≤ at → select (take limit (bits bytes)) k ≡ 0
-missing {bytes} {k} {at} limit p h =
-    let all : take (8 * at) (bits bytes) ≡ bits bytes = take-all (8 * at) (bits bytes) (rw (length-bits bytes) (omega arith)) in
-    let c = ap count all in
-    rw (select-take (bits bytes) limit k, select-none (bits bytes) k (omega arith)) (within-in limit 0 (omega arith))
-
--- ---- at a byte
-
-module _ {bytes : List ℕ} {at b : ℕ} (byte : IsByte bytes at b) where
-  ones-byte : ones b ≡ count (toBits 8 b)
-  ones-byte = ap ones (sym (value-toBits 8 b ∙ mod-eq-of-lt (byte .small))) ∙ ones-value (toBits 8 b)
-
-  from-byte : drop (8 * at) (bits bytes) ≡ toBits 8 b ++ bits (drop (suc at) bytes)
-  from-byte = rw (byte .same) (byte-on at bytes (byte .inside))
-
-  pub passed-byte : {k left : ℕ} (c : ℕ) → Passed bytes k at left → c ≡ ones b → c < left → Passed bytes k (at + 1) (left - c)
-  passed-byte c p e l =
-      passed-on 1 c p (let i = byte .inside in omega arith)
-      (e ∙ ones-byte ∙ sym (rw (from-byte, take-at (toBits 8 b) (bits (drop (suc at) bytes)) 8 (length-toBits 8 b)))) l
-
-  module _ {k left : ℕ} (p : Passed bytes k at left) (l : left ≤ ones b) where
-    pub found-bounds : (1 ≤ select (toBits 8 b) left) × (select (toBits 8 b) left ≤ 8)
-    found-bounds = let s = select-bounds (toBits 8 b) left (p .some) (rw ones-byte at l) in omega (arith, length-toBits 8 b)
-
-    -- the k-th one is in it
-    found : select (bits bytes) k ≡ 8 * at + select (toBits 8 b) left
-    found =
+    pub found-within : (limit : ℕ) → within limit (8 * at + t) ≡ select (take limit (bits bytes)) k
+    found-within limit =
         let s : List Bool = bits bytes in
         let i = byte .inside in
-        let rest : List Bool = bits (drop (suc at) bytes) in
-        let len : length (take (8 * at) s) ≡ 8 * at = length-take-le (8 * at) s (rw (length-bits bytes) (omega arith)) in
-        let whole : s ≡ take (8 * at) s ++ (toBits 8 b ++ rest) = rw (← from-byte, take-append-drop (8 * at) s) in
-        let d : k - count (take (8 * at) s) ≡ left = omega arith in
-        let m : left ≤ count (toBits 8 b) = rw ones-byte at l in
-        let r : select (take (8 * at) s ++ (toBits 8 b ++ rest)) k ≡ length (take (8 * at) s) + select (toBits 8 b ++ rest) (k - count (take (8 * at) s)) =
-        select-right (take (8 * at) s) (toBits 8 b ++ rest) k (omega arith) (omega (arith, count-append (toBits 8 b) rest)) in
-        ap (λ (t : List Bool). select t k) whole ∙ r ∙ rw (len, d, select-left (toBits 8 b) rest left m)
+        let l = length-bits bytes in
+        let (f, g, o) = one in
+        let h = select-of-one s 0 (length s) (omega arith) (one-later 0 k o (omega arith) (r .sum)) (omega arith) in
+        let whole = ap (λ (u : List Bool). select u k) (sym (take-all (length s) s (omega arith))) in
+        let w : select s k ≡ 8 * at + t = whole ∙ h ∙ omega arith in
+        rw (← w) (sym (select-take s limit k))
 
-    pub found-within : (limit t : ℕ) → t ≡ select (toBits 8 b) left → within limit (8 * at + t) ≡ select (take limit (bits bytes)) k
-    found-within limit t e = rw (e, ← found) (sym (select-take (bits bytes) limit k))
-
--- the k-th one of a string inside n bits, with zeros before it
-pub found-inside : (n : ℕ) (s : List Bool) (off k : ℕ) → off + length s ≡ n → 1 ≤ k → k ≤ count s
-    → select (toBits n (value s)) k ≡ off + select s k
-unfolding ones
-found-inside n s off k e h l =
-    let z : toBits off (value s / 2 ^ length s) ≡ toBits off 0 = ap (toBits off) (div-eq-of-lt (value-lt s)) in
-    let c : count (toBits off 0) ≡ 0 =
-    sym (ones-value (toBits off 0)) ∙ ap ones (value-toBits off 0 ∙ zero-mod (2 ^ off)) in
-    let d : k - count (toBits off 0) ≡ k = omega arith in
-    let w : toBits n (value s) ≡ toBits off 0 ++ s =
-    rw (← e, toBits-append off (length s) (value s), z, toBits-value (length s) s refl) in
-    let r : select (toBits off 0 ++ s) k ≡ length (toBits off 0) + select s (k - count (toBits off 0)) =
-    select-right (toBits off 0) s k (omega arith) (omega arith) in
-    ap (λ (t : List Bool). select t k) w ∙ r ∙ rw (d, length-toBits off 0)
+pub missing : (bytes : List ℕ) (limit : ℕ) {k at left : ℕ} → Sought (bits bytes) 0 (8 * length bytes) k (8 * at) left
+    → length bytes ≤ at → select (take limit (bits bytes)) k ≡ 0
+missing bytes limit {k} {at} r h =
+    let s : List Bool = bits bytes in
+    let l = length-bits bytes in
+    let e : 8 * at ≡ 0 + length s = omega arith in
+    let c = ap (onesBetween s 0) e ∙ between-count s 0 (length s) ∙ ap count (take-all (length s) s (omega arith)) in
+    rw (select-take s limit k, select-none s k (omega arith)) (within-in limit 0 (omega arith))

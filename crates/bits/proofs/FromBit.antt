@@ -12,8 +12,9 @@ use Rattle.bits.specs.Steps.{IsRest, within}
 use Rattle.bits.specs.Laws.Bytes.{length-bits, after-byte}
 use Rattle.bits.specs.Laws.Fields.{field-front}
 use Rattle.bits.specs.Laws.Rank.{count-take-add, rank-le, ones-field}
-use Rattle.bits.specs.Laws.Select.{select-none, select-bounds, select-le, select-left, select-right-found, select-right-none, select-take}
-use Rattle.bits.proofs.Found.{found-inside}
+use Rattle.bits.specs.Laws.Select.{select-none, select-bounds, select-le, select-take}
+use Rattle.bits.specs.Laws.Select.{select-left, select-right-found, select-right-none}
+use Rattle.bits.proofs.Passes.{found-inside}
 
 -- the bits from bit `start` on; how many of them are left of its byte; the bits of the bytes after it
 abbrev pub from : List ℕ → ℕ → List Bool
@@ -61,7 +62,8 @@ module _ {bytes : List ℕ} {start b : ℕ} (rest : IsRest bytes start b) where
   ones-beyond n x y l ex ey =
       let s : room start + (n - room start) ≡ n = omega arith in
       rw (ex, ey, ones-own, ← after-own)
-      (sym (count-take-add (from bytes start) (room start) (n - room start)) ∙ ap (λ (m : ℕ). count (take m (from bytes start))) s)
+      (sym (count-take-add (from bytes start) (room start) (n - room start))
+      ∙ ap (λ (m : ℕ). count (take m (from bytes start))) s)
 
   -- ---- the k-th one, in what is left of the byte
 
@@ -80,13 +82,15 @@ module _ {bytes : List ℕ} {start b : ℕ} (rest : IsRest bytes start b) where
         let s = select-bounds own k some (rw ones-own at few) in
         omega arith
 
-    pub place-within : (places : ℕ) → within places (8 * 0 + (t - start % 8)) ≡ select (take places (from bytes start)) k
+    pub place-within : (places : ℕ)
+        → within places (8 * 0 + (t - start % 8)) ≡ select (take places (from bytes start)) k
     unfolding own
     place-within places =
         let p = place in
         let q : 8 * 0 + (t - start % 8) ≡ select own k = omega arith in
-        rw (q, ← select-left own (drop (room start) (from bytes start)) k (rw ones-own at few), take-append-drop (room start) (from bytes start))
-        (sym (select-take (from bytes start) places k))
+        let s : List Bool = from bytes start in
+        rw (q, ← select-left own (drop (room start) s) k (rw ones-own at few), take-append-drop (room start) s)
+        (sym (select-take s places k))
 
   -- ---- after it
 
@@ -110,7 +114,12 @@ module _ {bytes : List ℕ} {start b : ℕ} (rest : IsRest bytes start b) where
         ap (λ (n : ℕ). take n (from bytes start)) s ∙ take-add (room start) (places - room start) (from bytes start)
         ∙ ap (λ (x : List Bool). own ++ take (places - room start) x) after-own
 
-    module _ {p : ℕ} (far : room start ≤ places) (same : p ≡ select (take (places - room start) (after bytes start)) (k - c)) where
+    -- the bits of the string after the byte
+    abbrev others : List Bool
+    others = take (places - room start) (after bytes start)
+
+    module _ {p : ℕ} (far : room start ≤ places)
+        (same : p ≡ select (take (places - room start) (after bytes start)) (k - c)) where
       pub place-le : p ≤ places - room start
       place-le =
           let l = select-le (take (places - room start) (after bytes start)) (k - c) in
@@ -119,11 +128,10 @@ module _ {bytes : List ℕ} {start b : ℕ} (rest : IsRest bytes start b) where
 
       pub place-missing : p ≡ 0 → select (take places (from bytes start)) k ≡ 0
       place-missing z =
-          rw (split far)
-          (select-right-none own (take (places - room start) (after bytes start)) k (rw count-own at more) (rw count-own at (sym same ∙ z)))
+          rw (split far) (select-right-none own others k (rw count-own at more) (rw count-own at (sym same ∙ z)))
 
       pub place-beyond : 1 ≤ p → room start + p ≡ select (take places (from bytes start)) k
       place-beyond z =
-          let q : p ≡ select (take (places - room start) (after bytes start)) (k - count own) = rw count-own at same in
-          ap₂ _+_ (sym length-own) q
-          ∙ sym (rw (split far) (select-right-found own (take (places - room start) (after bytes start)) k (rw count-own at more) (rw q at z)))
+          let q : p ≡ select others (k - count own) = rw count-own at same in
+          let r = select-right-found own others k (rw count-own at more) (rw q at z) in
+          ap₂ _+_ (sym length-own) q ∙ sym (rw (split far) r)

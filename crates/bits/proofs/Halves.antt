@@ -2,9 +2,9 @@
 --   ones-nibble    the table of the ones of 4 bits: its rule, computed at every entry by one test
 --   ones-byte      the ones of 8 bits, by two of its entries
 --   ones-bit       the ones of one bit
+--   select-bit     its place in that bit
 --   halve-high     the one stands in the high half
 --   halve-low      it stands in the low half
---   halved         after six halves its place is told
 use mathlib.Core.Path.{_≡_, refl, sym, ap, ap₂, _∙_}
 use mathlib.Core.List.{List, _++_}
 use Prim.Native.Nat.{ℕ, zero, suc, _+_, _-_, _*_, _/_, _%_, _^_, _≤_, _<_}
@@ -15,9 +15,9 @@ use lib.ListN.{getD}
 use lib.Pow.{split, pow-pos, shr-lt}
 use Rattle.bits.specs.Bits.{toBits, count, onesAt, select}
 use Rattle.bits.specs.Spans.{Narrowed}
-use Rattle.bits.specs.Laws.Digits.{length-toBits, value-toBits, toBits-agree, toBits-append}
-use Rattle.bits.specs.Laws.Rank.{ones-value}
-use Rattle.bits.specs.Laws.Select.{select-le, select-left, select-right}
+use Rattle.bits.specs.Laws.Digits.{length-toBits, toBits-agree, toBits-append}
+use Rattle.bits.specs.Laws.Rank.{count-toBits}
+use Rattle.bits.specs.Laws.Select.{select-left, select-right}
 use Rattle.bits.proofs.Entries.{tabulate, tabulate-at}
 
 -- ---- few bits
@@ -48,10 +48,15 @@ ones-bit zero h = refl
 ones-bit (suc zero) h = refl
 ones-bit (suc (suc x)) h = absurd (omega arith)
 
--- ---- halves
+pub select-bit : (y j : ℕ) → y < 2 → 1 ≤ j → j ≤ ones y → select (toBits 1 y) j ≡ 1
+unfolding toBits onesAt select ones onesIn
+select-bit zero j h some few = absurd (omega arith)
+select-bit (suc zero) zero h some few = absurd (omega arith)
+select-bit (suc zero) (suc zero) h some few = refl
+select-bit (suc zero) (suc (suc j)) h some few = absurd (omega arith)
+select-bit (suc (suc y)) j h some few = absurd (omega arith)
 
-count-toBits : (n x : ℕ) → x < 2 ^ n → count (toBits n x) ≡ ones x
-count-toBits n x h = sym (ones-value (toBits n x)) ∙ ap ones (value-toBits n x ∙ mod-eq-of-lt h)
+-- ---- halves
 
 module _ (n x k p : ℕ) (h : x < 2 ^ (n + n)) (some : 1 ≤ k) where
   top-lt : x / 2 ^ n < 2 ^ n
@@ -82,29 +87,3 @@ module _ (n x k p : ℕ) (h : x < 2 ^ (n + n)) (some : 1 ≤ k) where
       ∙ select-right (toBits n (x / 2 ^ n)) (toBits n y) k (omega arith) (omega arith)
       ∙ ap₂ (λ (l : ℕ) (j : ℕ). l + select (toBits n y) j) (length-toBits n (x / 2 ^ n)) m in
       record { small = lt′; some = omega arith; few = omega arith; near = omega arith; same = omega arith }
-
--- the one of one bit
-last : (y j : ℕ) → y < 2 → 1 ≤ j → j ≤ ones y → select (toBits 1 y) j ≡ 1
-unfolding toBits onesAt select ones onesIn
-last zero j h some few = absurd (omega arith)
-last (suc zero) zero h some few = absurd (omega arith)
-last (suc zero) (suc zero) h some few = refl
-last (suc zero) (suc (suc j)) h some few = absurd (omega arith)
-last (suc (suc y)) j h some few = absurd (omega arith)
-
-pub halved : {x k x1 k1 p1 x2 k2 p2 x3 k3 p3 x4 k4 p4 x5 k5 p5 x6 k6 p6 : ℕ}
-    → Narrowed 32 x k 0 x1 k1 p1 → Narrowed 16 x1 k1 p1 x2 k2 p2 → Narrowed 8 x2 k2 p2 x3 k3 p3
-    → Narrowed 4 x3 k3 p3 x4 k4 p4 → Narrowed 2 x4 k4 p4 x5 k5 p5 → Narrowed 1 x5 k5 p5 x6 k6 p6
-    → (p6 + 1 ≡ select (toBits 64 x) k) × (p6 + 1 ≤ 64)
-halved {x} {k} {x1} {k1} {p1} {x2} {k2} {p2} {x3} {k3} {p3} {x4} {k4} {p4} {x5} {k5} {p5} {x6} {k6} {p6} a b c d e f =
-    let a′ : p1 + select (toBits 32 x1) k1 ≡ 0 + select (toBits 64 x) k = a .same in
-    let b′ : p2 + select (toBits 16 x2) k2 ≡ p1 + select (toBits 32 x1) k1 = b .same in
-    let c′ : p3 + select (toBits 8 x3) k3 ≡ p2 + select (toBits 16 x2) k2 = c .same in
-    let d′ : p4 + select (toBits 4 x4) k4 ≡ p3 + select (toBits 8 x3) k3 = d .same in
-    let e′ : p5 + select (toBits 2 x5) k5 ≡ p4 + select (toBits 4 x4) k4 = e .same in
-    let f′ : p6 + select (toBits 1 x6) k6 ≡ p5 + select (toBits 2 x5) k5 = f .same in
-    let g : select (toBits 1 x6) k6 ≡ 1 = last x6 k6 (f .small) (f .some) (f .few) in
-    let l = select-le (toBits 64 x) k in
-    let n = length-toBits 64 x in
-    let r : p6 + 1 ≡ select (toBits 64 x) k = omega arith in
-    (r, omega arith)

@@ -8,22 +8,17 @@ use native.Mathlib.Nat.{add-mul, add-zero, mul-assoc, mod-eq-of-lt, one-mul}
 use native.Mathlib.Numerals.{add-one, add-two, towards-suc}
 use native.Mathlib.Omega.{arith}
 use lib.Bits.{bitAnd, and-mask}
-use lib.Dec.{lit<}
 use lib.ListN.{length, take, drop, getD, replicate, length-append}
 use lib.Pow.{pow-lt, pow-add, high, shr-shr, ones-split, ones-lt}
 use lib.Seq.{drop-cons, take-at}
 use Rattle.bits.specs.Bits.{toBits, bits, value, field}
 use Rattle.bits.specs.Laws.Digits.{length-toBits, value-append, value-toBits}
 use Rattle.bits.specs.Laws.Bytes.{AreBytes, take-bytes, drop-bytes, length-bits, bits-append, part-bits, byte-on}
-use Rattle.bits.specs.Steps.{IsByte, TwoAt, FourAt}
+use Rattle.bits.specs.Steps.{joined, eight, two, three, IsByte, TwoAt, FourAt}
 use Rattle.bits.specs.Laws.Fields.{field-inside, field-front, field-back, field-append}
 
--- the bytes, one below the other, below the number a
-abbrev pub joined : ℕ → List ℕ → ℕ
-joined a [] = a
-joined a (b ∷ bytes) = joined (a * 256 + b) bytes
-
-joined-value : (a : ℕ) (bytes : List ℕ) → AreBytes bytes → joined a bytes ≡ a * 2 ^ (8 * length bytes) + value (bits bytes)
+joined-value : (a : ℕ) (bytes : List ℕ) → AreBytes bytes
+    → joined a bytes ≡ a * 2 ^ (8 * length bytes) + value (bits bytes)
 unfolding bits value
 joined-value a [] h = omega arith
 joined-value a (b ∷ bytes) h =
@@ -41,42 +36,30 @@ joined-value a (b ∷ bytes) h =
     )
     (omega arith)
 
-pub value-joined : (bytes : List ℕ) → AreBytes bytes → value (bits bytes) ≡ joined 0 bytes
-value-joined bytes h = omega (arith, joined-value 0 bytes h)
-
--- bytes that are given one by one
-pub data EachByte : List ℕ → Type 0 where
-  none : EachByte []
-  more : {b : ℕ} {bytes : List ℕ} → b < 256 → EachByte bytes → EachByte (b ∷ bytes)
-
-pub each-byte : {bytes : List ℕ} → EachByte bytes → AreBytes bytes
-each-byte none i = lit< tt
-each-byte (more h k) zero = h
-each-byte (more h k) (suc i) = each-byte k i
-
 -- n bytes from byte f on are the field of their bits
-pub field-bytes : (bytes : List ℕ) (f n : ℕ) → field (8 * n) (bits bytes) (8 * f) ≡ value (bits (take n (drop f bytes)))
+pub field-joined : (bytes : List ℕ) (f n : ℕ) → AreBytes bytes
+    → field (8 * n) (bits bytes) (8 * f) ≡ joined 0 (take n (drop f bytes))
 unfolding field
-field-bytes bytes f n = ap value (sym (part-bits n f bytes))
-
-pub field-joined : (bytes : List ℕ) (f n : ℕ) → AreBytes bytes → field (8 * n) (bits bytes) (8 * f) ≡ joined 0 (take n (drop f bytes))
-field-joined bytes f n h = field-bytes bytes f n ∙ value-joined (take n (drop f bytes)) (take-bytes n (drop f bytes) (drop-bytes f bytes h))
+field-joined bytes f n h =
+    let part : List ℕ = take n (drop f bytes) in
+    let e = joined-value 0 part (take-bytes n (drop f bytes) (drop-bytes f bytes h)) in
+    ap value (sym (part-bits n f bytes)) ∙ omega arith
 
 -- ---- two, three and eight bytes from byte f on
 
--- the eight bytes from byte f on, with zeros past the end
-abbrev pub eight : List ℕ → ℕ → List ℕ
-eight bytes f =
-    getD bytes f 0 ∷ getD bytes (f + 1) 0 ∷ getD bytes (f + 2) 0 ∷ getD bytes (f + 3) 0
-    ∷ getD bytes (f + 4) 0 ∷ getD bytes (f + 5) 0 ∷ getD bytes (f + 6) 0 ∷ getD bytes (f + 7) 0 ∷ []
-
 module _ (bytes : List ℕ) (f : ℕ) where
-  pub two-bytes : f + 2 ≤ length bytes → take 2 (drop f bytes) ≡ getD bytes f 0 ∷ getD bytes (f + 1) 0 ∷ []
+  pub two-bytes : f + 2 ≤ length bytes → take 2 (drop f bytes) ≡ two bytes f (f + 1)
   two-bytes h = rw (drop-cons bytes f 0 (omega arith), drop-cons bytes (suc f) 0 (omega arith), add-one f)
 
-  pub three-bytes : f + 3 ≤ length bytes → take 3 (drop f bytes) ≡ getD bytes f 0 ∷ getD bytes (f + 1) 0 ∷ getD bytes (f + 2) 0 ∷ []
+  pub three-bytes : f + 3 ≤ length bytes → take 3 (drop f bytes) ≡ three bytes f (f + 2)
   three-bytes h =
-      rw (drop-cons bytes f 0 (omega arith), drop-cons bytes (suc f) 0 (omega arith), drop-cons bytes (suc (suc f)) 0 (omega arith), add-one f, add-two f)
+      rw (
+        drop-cons bytes f 0 (omega arith),
+        drop-cons bytes (suc f) 0 (omega arith),
+        drop-cons bytes (suc (suc f)) 0 (omega arith),
+        add-one f,
+        add-two f,
+      )
 
   pub eight-bytes : f + 8 ≤ length bytes → take 8 (drop f bytes) ≡ eight bytes f
   eight-bytes h =
@@ -92,13 +75,6 @@ module _ (bytes : List ℕ) (f : ℕ) where
       )
       (simp towards-suc)
 
-pub word-field : (bytes : List ℕ) (f : ℕ) → f + 8 ≤ length bytes → value (bits (eight bytes f)) ≡ field 64 (bits bytes) (8 * f)
-word-field bytes f h = sym (field-bytes bytes f 8 ∙ ap (λ (l : List ℕ). value (bits l)) (eight-bytes bytes f h))
-
--- the first n of these bits
-pub word-front : (bytes : List ℕ) (f n k : ℕ) → n + k ≡ 64 → f + 8 ≤ length bytes → field 64 (bits bytes) (8 * f) / 2 ^ k ≡ field n (bits bytes) (8 * f)
-word-front bytes f n k e h = let l = length-bits bytes in rw (← e) (sym (field-front (bits bytes) (8 * f) n k (omega arith)))
-
 zeros-at : (n i : ℕ) → _≡_ {A = ℕ} (getD (replicate n 0) i 0) 0
 zeros-at zero i = refl
 zeros-at (suc n) zero = refl
@@ -109,14 +85,19 @@ padded-at [] n i = zeros-at n i
 padded-at (b ∷ bytes) n zero = refl
 padded-at (b ∷ bytes) n (suc i) = padded-at bytes n i
 
--- the same with zeros past the end, where the bytes hold these n
-pub short-field : (bytes : List ℕ) (f n k : ℕ) → n + k ≡ 64 → 8 * f + n ≤ 8 * length bytes → f ≤ length bytes
-    → value (bits (eight bytes f)) / 2 ^ k ≡ field n (bits bytes) (8 * f)
-short-field bytes f n k e h l =
-    let padded : List ℕ = bytes ++ replicate 8 0 in
-    let lp : length padded ≡ length bytes + 8 = length-append bytes (replicate 8 0) in
-    let w : value (bits (eight bytes f)) ≡ field 64 (bits padded) (8 * f) = simp (padded-at bytes 8) at (word-field padded f (omega arith)) in
-    rw (w, word-front padded f n k e (omega arith), bits-append bytes (replicate 8 0)) (field-append n (bits bytes) (bits (replicate 8 0)) (8 * f) (rw (length-bits bytes) h))
+-- the first n bits of the eight bytes, where the list holds these n: zeros past the end are shifted out
+pub short-field : (bytes : List ℕ) (f n k : ℕ) → AreBytes bytes → n + k ≡ 64 → 8 * f + n ≤ 8 * length bytes
+    → joined 0 (eight bytes f) / 2 ^ k ≡ field n (bits bytes) (8 * f)
+short-field bytes f n k hb e h =
+    let zeros : List ℕ = replicate 8 0 in
+    let padded : List ℕ = bytes ++ zeros in
+    let hp : AreBytes padded = λ i. rw (padded-at bytes 8 i) (hb i) in
+    let lp : length padded ≡ length bytes + 8 = length-append bytes zeros in
+    let lb = length-bits padded in
+    let same = field-joined padded f 8 hp ∙ ap (joined 0) (eight-bytes padded f (omega arith)) in
+    let w : joined 0 (eight bytes f) ≡ field 64 (bits padded) (8 * f) = simp (padded-at bytes 8) at (sym same) in
+    rw (w, ← e, ← field-front (bits padded) (8 * f) n k (omega arith), bits-append bytes zeros)
+    (field-append n (bits bytes) (bits zeros) (8 * f) (rw (length-bits bytes) h))
 
 -- ---- fields by shifts and masks
 
@@ -154,7 +135,7 @@ two-cut s start {x} h e ea eb small = record {
 
 -- and in three bytes
 pub two-in-bytes : (bytes : List ℕ) (at : ℕ) {x a b : ℕ} → AreBytes bytes → at + 3 ≤ length bytes
-    → x ≡ joined 0 (getD bytes at 0 ∷ getD bytes (at + 1) 0 ∷ getD bytes (at + 2) 0 ∷ [])
+    → x ≡ joined 0 (three bytes at (at + 2))
     → a ≡ x / 2 ^ 12 % 2 ^ 12 → b ≡ x / 2 ^ 0 % 2 ^ 12 → (a < 4096) × (b < 4096) → TwoAt (bits bytes) (8 * at) a b
 two-in-bytes bytes at hb h e ea eb small =
     let three = ap (joined 0) (three-bytes bytes at h) in
@@ -177,7 +158,8 @@ four-cut s start {x} h e ea eb ec ed small = record {
     cut r k w = rw (e, ← w) (sym (field-inside s start r 12 k (omega arith)))
 
 -- a field inside n bytes, with k bits below it
-field-in-bytes : (bytes : List ℕ) (start w k n : ℕ) → AreBytes bytes → start / 8 + n ≤ length bytes → start % 8 + w + k ≡ 8 * n
+field-in-bytes : (bytes : List ℕ) (start w k n : ℕ) → AreBytes bytes → start / 8 + n ≤ length bytes
+    → start % 8 + w + k ≡ 8 * n
     → joined 0 (take n (drop (start / 8) bytes)) / 2 ^ k % 2 ^ w ≡ field w (bits bytes) start
 field-in-bytes bytes start w k n hb h e =
     let f : ℕ = start / 8 in
@@ -191,7 +173,12 @@ field-in-bytes bytes start w k n hb h e =
 pub byte-field : {bytes : List ℕ} {at b : ℕ} → IsByte bytes at b → field 8 (bits bytes) (8 * at) ≡ b
 unfolding field
 byte-field {bytes} {at} {b} byte =
-    rw (byte-on at bytes (byte .inside), ← byte .same, take-at (toBits 8 b) (bits (drop (suc at) bytes)) 8 (length-toBits 8 b), value-toBits 8 b)
+    rw (
+      byte-on at bytes (byte .inside),
+      ← byte .same,
+      take-at (toBits 8 b) (bits (drop (suc at) bytes)) 8 (length-toBits 8 b),
+      value-toBits 8 b,
+    )
     (mod-eq-of-lt (byte .small))
 
 pub field-in-byte : {bytes : List ℕ} {b : ℕ} (start w k : ℕ) → IsByte bytes (start / 8) b → start % 8 + w + k ≡ 8
@@ -204,21 +191,22 @@ field-in-byte {bytes} start w k byte e =
 
 -- a field of 9 to 16 bits: its first byte, the next, and the byte in which it ends, which is the next or the one after
 pub field-in-three : (bytes : List ℕ) (start w : ℕ) → AreBytes bytes → 9 ≤ w → w ≤ 16 → start + w ≤ 8 * length bytes
-    → joined 0 (getD bytes (start / 8) 0 ∷ getD bytes (start / 8 + 1) 0 ∷ getD bytes (start / 8 + (start % 8 + w - 1) / 8) 0 ∷ []) / 2 ^ (24 - w - start % 8) % 2 ^ w
+    → joined 0 (three bytes (start / 8) (start / 8 + (start % 8 + w - 1) / 8)) / 2 ^ (24 - w - start % 8) % 2 ^ w
     ≡ field w (bits bytes) start
 field-in-three bytes start w hb h9 h16 hl = go (decLe (start % 8 + w) 16)
   where
     go : Dec (start % 8 + w ≤ 16)
-        → joined 0 (getD bytes (start / 8) 0 ∷ getD bytes (start / 8 + 1) 0 ∷ getD bytes (start / 8 + (start % 8 + w - 1) / 8) 0 ∷ []) / 2 ^ (24 - w - start % 8) % 2 ^ w
+        → joined 0 (three bytes (start / 8) (start / 8 + (start % 8 + w - 1) / 8)) / 2 ^ (24 - w - start % 8) % 2 ^ w
         ≡ field w (bits bytes) start
     go (yes h) =
         let last : (start % 8 + w - 1) / 8 ≡ 1 = omega arith in
         let k : ℕ = 16 - w - start % 8 in
         let shift : 24 - w - start % 8 ≡ 8 + k = omega arith in
-        let two : ℕ = joined 0 (getD bytes (start / 8) 0 ∷ getD bytes (start / 8 + 1) 0 ∷ []) in
-        rw (last, shift, ← shr-shr (two * 256 + getD bytes (start / 8 + 1) 0) 8 k, high two 8 (hb (start / 8 + 1)))
-        (rw (two-bytes bytes (start / 8) (omega arith)) at (field-in-bytes bytes start w k 2 hb (omega arith) (omega arith)))
+        let x : ℕ = joined 0 (two bytes (start / 8) (start / 8 + 1)) in
+        let in-two = field-in-bytes bytes start w k 2 hb (omega arith) (omega arith) in
+        rw (last, shift, ← shr-shr (x * 256 + getD bytes (start / 8 + 1) 0) 8 k, high x 8 (hb (start / 8 + 1)))
+        (rw (two-bytes bytes (start / 8) (omega arith)) at in-two)
     go (no h) =
         let last : (start % 8 + w - 1) / 8 ≡ 2 = omega arith in
-        rw last
-        (rw (three-bytes bytes (start / 8) (omega arith)) at (field-in-bytes bytes start w (24 - w - start % 8) 3 hb (omega arith) (omega arith)))
+        let in-three = field-in-bytes bytes start w (24 - w - start % 8) 3 hb (omega arith) (omega arith) in
+        rw last (rw (three-bytes bytes (start / 8) (omega arith)) at in-three)

@@ -4,8 +4,8 @@ pub mod Turned
 pub mod Tops
 pub mod Stored
 pub mod Entries
-pub mod Found
 pub mod Halves
-pub mod Windows
 pub mod Passes
+pub mod Found
+pub mod Windows
 pub mod FromBit

@@ -1,9 +1,10 @@
 -- Bytes stored into a slice: the bytes of a number into which a field was put are that field put into the slice's bits.
 use mathlib.Core.Path.{_≡_, refl, sym, ap, ap₂, _∙_}
 use mathlib.Core.Bool.{Bool, true, false}
-use mathlib.Core.List.{List, [], _∷_, _++_, append-assoc, append-nil}
+use mathlib.Core.List.{List, [], _∷_, _++_, append-assoc}
 use Prim.Native.Nat.{ℕ, _+_, _-_, _*_, _/_, _%_, _^_, _≤_, _<_}
-use native.Mathlib.Nat.{lt-of-lt-of-le, div-mul-le-self, mul-assoc, add-mul, add-comm, max-eq-right, mod-eq-of-lt, mod-lt}
+use native.Mathlib.Nat.{lt-of-lt-of-le, div-mul-le-self, mul-assoc, add-mul, add-comm}
+use native.Mathlib.Nat.{max-eq-right, mod-eq-of-lt, mod-lt}
 use native.Mathlib.Numerals.{add-one, add-two}
 use native.Mathlib.Omega.{arith}
 use lib.Bits.{bitAnd, bitOr, or-step, or-zero-r, or-block, or-lt, or-shifted, and-mask}
@@ -14,15 +15,16 @@ use Rattle.bits.specs.Bits.{toBits, bits, field, put}
 use Rattle.bits.specs.Laws.Digits.{toBits-agree, toBits-append, toBits-value}
 use Rattle.bits.specs.Laws.Bytes.{AreBytes, length-bits, bits-append, take-bits, drop-bits}
 use Rattle.bits.specs.Laws.Puts.{put-number, put-part, put-one, put-beside}
-use Rattle.bits.specs.Steps.{IsByte, replace}
-use Rattle.bits.proofs.Joined.{joined, field-joined, byte-field, two-bytes, three-bytes}
+use Rattle.bits.specs.Steps.{joined, two, three, byteOf, IsByte, replace}
+use Rattle.bits.proofs.Joined.{field-joined, byte-field, two-bytes, three-bytes}
 
 put-above : (hi w k v : ℕ) → hi * 2 ^ (w + k) + v * 2 ^ k ≡ (hi * 2 ^ w + v) * 2 ^ k
 put-above hi w k v = rw (pow-add 2 w k, ← mul-assoc hi (2 ^ w) (2 ^ k)) (sym (add-mul (hi * 2 ^ w) v (2 ^ k)))
 
 -- a number with a field replaced, by shifts and masks
 pub replace-masked : (x w k v : ℕ) → w + k ≤ 24 → x < 2 ^ 24 → v < 2 ^ w
-    → bitOr (bitOr (x / 2 ^ (w + k) * 2 ^ (w + k) % 2 ^ 64) (v * 2 ^ k % 2 ^ 64)) (bitAnd x (2 ^ k - 1)) ≡ replace x w k v
+    → bitOr (bitOr (x / 2 ^ (w + k) * 2 ^ (w + k) % 2 ^ 64) (v * 2 ^ k % 2 ^ 64)) (bitAnd x (2 ^ k - 1))
+    ≡ replace x w k v
 replace-masked x w k v hw hx hv =
     let top : ℕ = w + k in
     let hi : ℕ = x / 2 ^ top in
@@ -47,19 +49,19 @@ replace-or x k =
 
 -- ---- the bytes of a number
 
-above : (k y : ℕ) (vs : List ℕ) → bits vs ≡ toBits k y → bits (y / 2 ^ k % 256 ∷ vs) ≡ toBits (8 + k) y
-unfolding bits
+above : (k y : ℕ) (vs : List ℕ) → bits vs ≡ toBits k y → bits (byteOf y k ∷ vs) ≡ toBits (8 + k) y
+unfolding bits byteOf
 above k y vs e = rw (e, toBits-append 8 k y, toBits-agree 8 (y / 2 ^ k % 256) (y / 2 ^ k) (omega arith))
 
-bits-one : (y : ℕ) → bits (y % 256 ∷ []) ≡ toBits 8 y
-unfolding bits
-bits-one y = append-nil (toBits 8 (y % 256)) ∙ toBits-agree 8 (y % 256) y (omega arith)
+bits-one : (y : ℕ) → bits (byteOf y 0 ∷ []) ≡ toBits 8 y
+unfolding bits toBits
+bits-one y = above 0 y [] refl
 
-bits-two : (y : ℕ) → bits (y / 2 ^ 8 % 256 ∷ y % 256 ∷ []) ≡ toBits 16 y
-bits-two y = above 8 y (y % 256 ∷ []) (bits-one y)
+bits-two : (y : ℕ) → bits (byteOf y 8 ∷ byteOf y 0 ∷ []) ≡ toBits 16 y
+bits-two y = above 8 y (byteOf y 0 ∷ []) (bits-one y)
 
-bits-three : (y : ℕ) → bits (y / 2 ^ 16 % 256 ∷ y / 2 ^ 8 % 256 ∷ y % 256 ∷ []) ≡ toBits 24 y
-bits-three y = above 16 y (y / 2 ^ 8 % 256 ∷ y % 256 ∷ []) (bits-two y)
+bits-three : (y : ℕ) → bits (byteOf y 16 ∷ byteOf y 8 ∷ byteOf y 0 ∷ []) ≡ toBits 24 y
+bits-three y = above 16 y (byteOf y 8 ∷ byteOf y 0 ∷ []) (bits-two y)
 
 -- ---- stores
 
@@ -79,8 +81,10 @@ stored bytes vs f h =
     )
 
 -- a field inside the bytes vs, which are those of the number y: the former ones' number with v put into it
-write : (bytes vs : List ℕ) (start w k v x y : ℕ) → start / 8 + length vs ≤ length bytes → start % 8 + (w + k) ≡ 8 * length vs → v < 2 ^ w
-    → x ≡ field (8 * length vs) (bits bytes) (8 * (start / 8)) → y ≡ replace x w k v → bits vs ≡ toBits (8 * length vs) y
+write : (bytes vs : List ℕ) (start w k v x y : ℕ) → start / 8 + length vs ≤ length bytes
+    → start % 8 + (w + k) ≡ 8 * length vs → v < 2 ^ w
+    → x ≡ field (8 * length vs) (bits bytes) (8 * (start / 8)) → y ≡ replace x w k v
+    → bits vs ≡ toBits (8 * length vs) y
     → bits (sets bytes (start / 8) vs) ≡ put w v (bits bytes) start
 unfolding field
 write bytes vs start w k v x y h e hv ex ey eb =
@@ -101,29 +105,35 @@ write bytes vs start w k v x y h e hv ex ey eb =
 -- what a write of one, two or three bytes leaves
 write-one : {bytes : List ℕ} {x : ℕ} (start w k v y : ℕ) → IsByte bytes (start / 8) x → start % 8 + (w + k) ≡ 8
     → v < 2 ^ w → y ≡ replace x w k v
-    → bits (set bytes (start / 8) (y % 256)) ≡ put w v (bits bytes) start
+    → bits (set bytes (start / 8) (byteOf y 0)) ≡ put w v (bits bytes) start
 write-one {bytes} {x} start w k v y byte e hv ey =
-    write bytes (y % 256 ∷ []) start w k v x y (let h = byte .inside in omega arith) e hv (sym (byte-field byte)) ey (bits-one y)
+    let h = byte .inside in
+    write bytes (byteOf y 0 ∷ []) start w k v x y (omega arith) e hv (sym (byte-field byte)) ey (bits-one y)
 
 module _ (bytes : List ℕ) (start w k v x y : ℕ) (hb : AreBytes bytes) (hv : v < 2 ^ w) (ey : y ≡ replace x w k v) where
-  pub write-two : start / 8 + 2 ≤ length bytes → start % 8 + (w + k) ≡ 16 → x ≡ joined 0 (getD bytes (start / 8) 0 ∷ getD bytes (start / 8 + 1) 0 ∷ [])
-      → bits (set (set bytes (start / 8) (y / 2 ^ 8 % 256)) (start / 8 + 1) (y % 256)) ≡ put w v (bits bytes) start
-  write-two h e ex =
-      rw (add-one (start / 8))
-      (write bytes (y / 2 ^ 8 % 256 ∷ y % 256 ∷ []) start w k v x y h e hv
-      (ex ∙ sym (field-joined bytes (start / 8) 2 hb ∙ ap (joined 0) (two-bytes bytes (start / 8) h))) ey (bits-two y))
+  pub write-two : {p q : ℕ} → start / 8 + 2 ≤ length bytes → start % 8 + (w + k) ≡ 16
+      → x ≡ joined 0 (two bytes (start / 8) (start / 8 + 1))
+      → p ≡ byteOf y 8 → q ≡ byteOf y 0
+      → bits (set (set bytes (start / 8) p) (start / 8 + 1) q) ≡ put w v (bits bytes) start
+  write-two h e ex ep eq =
+      let old = field-joined bytes (start / 8) 2 hb ∙ ap (joined 0) (two-bytes bytes (start / 8) h) in
+      rw (ep, eq, add-one (start / 8))
+      (write bytes (byteOf y 8 ∷ byteOf y 0 ∷ []) start w k v x y h e hv (ex ∙ sym old) ey (bits-two y))
 
-  pub write-three : start / 8 + 3 ≤ length bytes → start % 8 + (w + k) ≡ 24
-      → x ≡ joined 0 (getD bytes (start / 8) 0 ∷ getD bytes (start / 8 + 1) 0 ∷ getD bytes (start / 8 + 2) 0 ∷ [])
-      → bits (set (set (set bytes (start / 8) (y / 2 ^ 16 % 256)) (start / 8 + 1) (y / 2 ^ 8 % 256)) (start / 8 + 2) (y % 256)) ≡ put w v (bits bytes) start
-  write-three h e ex =
-      rw (add-one (start / 8), add-two (start / 8))
-      (write bytes (y / 2 ^ 16 % 256 ∷ y / 2 ^ 8 % 256 ∷ y % 256 ∷ []) start w k v x y h e hv
-      (ex ∙ sym (field-joined bytes (start / 8) 3 hb ∙ ap (joined 0) (three-bytes bytes (start / 8) h))) ey (bits-three y))
+  pub write-three : {p q r : ℕ} → start / 8 + 3 ≤ length bytes → start % 8 + (w + k) ≡ 24
+      → x ≡ joined 0 (three bytes (start / 8) (start / 8 + 2))
+      → p ≡ byteOf y 16 → q ≡ byteOf y 8 → r ≡ byteOf y 0
+      → bits (set (set (set bytes (start / 8) p) (start / 8 + 1) q) (start / 8 + 2) r) ≡ put w v (bits bytes) start
+  write-three h e ex ep eq er =
+      let vs = byteOf y 16 ∷ byteOf y 8 ∷ byteOf y 0 ∷ [] in
+      let old = field-joined bytes (start / 8) 3 hb ∙ ap (joined 0) (three-bytes bytes (start / 8) h) in
+      rw (ep, eq, er, add-one (start / 8), add-two (start / 8))
+      (write bytes vs start w k v x y h e hv (ex ∙ sym old) ey (bits-three y))
 
 -- what an or of one bit into its byte leaves
 pub write-or : (bytes : List ℕ) (i : ℕ) → AreBytes bytes → i < 8 * length bytes
     → bits (set bytes (i / 8) (bitOr (getD bytes (i / 8) 0) (128 / 2 ^ (i % 8)))) ≡ set (bits bytes) i true
+unfolding byteOf
 write-or bytes i hb h =
     let f : ℕ = i / 8 in
     let r : ℕ = i % 8 in
@@ -132,8 +142,10 @@ write-or bytes i hb h =
     let y : ℕ = bitOr x (2 ^ k) in
     let byte : IsByte bytes f x = record { inside = omega arith; same = refl; small = hb f } in
     let all : k + r ≡ 7 = omega arith in
-    let mask : 128 / 2 ^ r ≡ 2 ^ k = ap (λ (n : ℕ). n / 2 ^ r) (sym (ap (_^_ 2) all) ∙ pow-add 2 k r) ∙ shl-shr (2 ^ k) r in
-    let small : y % 256 ≡ y = mod-eq-of-lt (or-lt 8 x (2 ^ k) (hb f) (pow-lt {j = 8} (omega arith))) in
+    let mask : 128 / 2 ^ r ≡ 2 ^ k =
+    ap (λ (n : ℕ). n / 2 ^ r) (sym (ap (_^_ 2) all) ∙ pow-add 2 k r) ∙ shl-shr (2 ^ k) r in
+    let lt : y < 256 = or-lt 8 x (2 ^ k) (hb f) (pow-lt {j = 8} (omega arith)) in
+    let small : byteOf y 0 ≡ y = omega arith in
     ap (λ (n : ℕ). bits (set bytes f n)) (ap (bitOr x) mask ∙ sym small)
     ∙ write-one i 1 k 1 y byte (omega arith) (omega arith) (replace-or x k)
     ∙ put-one true (bits bytes) i (rw (length-bits bytes) h)
@@ -141,23 +153,24 @@ write-or bytes i hb h =
 -- what a mask of all but the first bit leaves of the first byte
 pub write-clear : (bytes : List ℕ) → AreBytes bytes → 0 < length bytes
     → bits (set bytes 0 (bitAnd (getD bytes 0 0) 127)) ≡ set (bits bytes) 0 false
+unfolding byteOf
 write-clear bytes hb h =
     let x : ℕ = getD bytes 0 0 in
     let byte : IsByte bytes 0 x = record { inside = h; same = refl; small = hb 0 } in
     let small : x < 256 = hb 0 in
     let y : x % 2 ^ 7 ≡ replace x 1 7 0 = omega arith in
-    let e : bitAnd x 127 ≡ x % 2 ^ 7 % 256 = and-mask x 7 ∙ omega arith in
+    let e : bitAnd x 127 ≡ byteOf (x % 2 ^ 7) 0 = and-mask x 7 ∙ omega arith in
     ap (λ (n : ℕ). bits (set bytes 0 n)) e ∙ write-one 0 1 7 0 (x % 2 ^ 7) byte refl (omega arith) y
     ∙ put-one false (bits bytes) 0 (rw (length-bits bytes) (omega arith))
 
 -- what two numbers of 12 bits stored in three bytes leave
 pub write-beside : (bytes : List ℕ) (at a b x : ℕ) {p q r : ℕ} → at + 3 ≤ length bytes → a < 4096 → b < 4096
-    → x ≡ a * 2 ^ 12 + b → p ≡ x / 2 ^ 16 % 256 → q ≡ x / 2 ^ 8 % 256 → r ≡ x % 256
+    → x ≡ a * 2 ^ 12 + b → p ≡ byteOf x 16 → q ≡ byteOf x 8 → r ≡ byteOf x 0
     → bits (set (set (set bytes at p) (at + 1) q) (at + 2) r) ≡ put 12 b (put 12 a (bits bytes) (8 * at)) (8 * at + 12)
 write-beside bytes at a b x h ha hb e ep eq er =
     let s : List Bool = bits bytes in
     let l : length s ≡ 8 * length bytes = length-bits bytes in
-    let vs : List ℕ = x / 2 ^ 16 % 256 ∷ x / 2 ^ 8 % 256 ∷ x % 256 ∷ [] in
+    let vs : List ℕ = byteOf x 16 ∷ byteOf x 8 ∷ byteOf x 0 ∷ [] in
     let top : x / 2 ^ 12 ≡ a = ap (λ (n : ℕ). n / 2 ^ 12) e ∙ high a 12 hb in
     let rest : x % 2 ^ 12 ≡ b % 2 ^ 12 = ap (λ (n : ℕ). n % 2 ^ 12) e ∙ low a 12 hb ∙ sym (mod-eq-of-lt hb) in
     let new : bits vs ≡ toBits 12 a ++ toBits 12 b =

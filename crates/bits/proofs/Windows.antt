@@ -1,14 +1,10 @@
 -- The part of at most 64 bits in which the k-th one stands, the one itself, and the next.
---   skip-more      a word that is passed over
---   skip-end       after the words that were passed over
 --   window-some    a one stands in some bits
 --   Opened         the first part of a string, read
 --   window-here    the one stands in the first part
 --   window-goes    it stands later
 --   window-before  a word begins before the end
 --   window-there   the one stands in that word
---   word-one       the place in a word is a bit of the string
---   word-past      a part that is passed over
 --   Standing       a one of a string, in a word
 --   span-bounds    where it stands
 --   span-top       where the next stands, in the same part
@@ -17,44 +13,17 @@
 use mathlib.Core.Path.{_≡_, sym, ap, _∙_}
 use mathlib.Core.Bool.{Bool}
 use mathlib.Core.List.{List}
-use Prim.Native.Nat.{ℕ, _+_, _-_, _*_, _/_, _%_, _^_, _≤_, _<_, min}
+use Prim.Native.Nat.{ℕ, _+_, _-_, _*_, _/_, _%_, _^_, _≤_, _<_}
 use native.Mathlib.Decide.{decLe}
 use native.Mathlib.Omega.{arith}
 use lib.Count.{ones}
-use lib.ListN.{length, take, drop, length-drop}
-use lib.Seq.{length-take-le}
-use Rattle.bits.specs.Bits.{toBits, count, select, field}
-use Rattle.bits.specs.Spans.{SpanOf, onesBetween, OneAt, NextAt, Skipped, WindowOf}
+use lib.ListN.{length, take, drop}
+use Rattle.bits.specs.Bits.{toBits, select, field}
+use Rattle.bits.specs.Spans.{SpanOf, onesBetween, OneAt, NextAt, PartOf, Skipped, WindowOf}
 use Rattle.bits.specs.Laws.Fields.{field-back}
-use Rattle.bits.specs.Laws.Rank.{ones-field}
-use Rattle.bits.specs.Laws.Select.{select-bounds}
-use Rattle.bits.specs.Laws.Spans.{between-count, between-none, between-add, between-field, between-zero}
-use Rattle.bits.specs.Laws.Spans.{one-of-part, one-later, top-first, next-first, next-later, spanned}
-use Rattle.bits.proofs.Found.{found-inside}
-
--- ---- whole words
-
-module _ (s : List Bool) (first k at left c : ℕ) (after : first ≤ at) where
-  pub skip-more : onesBetween s (8 * first) (8 * at) + left ≡ k → c ≡ count (take 64 (drop (8 * at) s)) → c < left
-      → onesBetween s (8 * first) (8 * (at + 8)) + (left - c) ≡ k
-  skip-more sum e more =
-      let d : 8 * (at + 8) ≡ 8 * at + 64 = omega arith in
-      let x = ap (onesBetween s (8 * first)) d in
-      let y = between-add s (8 * first) (8 * at) (8 * at + 64) (omega arith) (omega arith) in
-      let z = between-count s (8 * at) 64 in
-      omega arith
-
-  pub skip-end : {n : ℕ} → at ≤ n → 1 ≤ left → onesBetween s (8 * first) (8 * at) + left ≡ k
-      → (at + 8 ≤ n → left ≤ count (take 64 (drop (8 * at) s))) → Skipped s n first k at left
-  skip-end inside some sum full =
-      let z = between-count s (8 * at) 64 in
-      record {
-        after = after;
-        inside = inside;
-        some = some;
-        sum = sum;
-        full = λ h. let f = full h in omega arith;
-      }
+use Rattle.bits.specs.Laws.Spans.{between-none, between-add, between-zero}
+use Rattle.bits.specs.Laws.Spans.{one-later, top-first, next-first, next-later, spanned}
+use Rattle.bits.proofs.Passes.{part-ones, word-one}
 
 -- a one stands in some bits
 pub window-some : (s : List Bool) (a b : ℕ) {k : ℕ} → a ≤ b → 1 ≤ k → k ≤ onesBetween s a b → a < b
@@ -68,32 +37,33 @@ window-some s a b h some all = go (decLe b a)
         absurd (omega arith)
     go (no l) = omega arith
 
--- ---- the part from bit a on, up to the end of the 64 bits that begin with its byte, or up to b
+-- ---- the part from bit a on, and later ones
 
--- it ends at bit `to`, and its number w has c ones; n bytes hold the bits up to b, and the k-th one is among them
-pub record Opened (s : List Bool) (a b k n to w c : ℕ) : Type 0 where
+-- its number w has c ones; n bytes hold the bits up to b, and the k-th one is among them
+pub record Opened (s : List Bool) (a b k n width w c : ℕ) : Type 0 where
   pub some : 1 ≤ k
   pub all : k ≤ onesBetween s a b
   pub between : a ≤ b
   pub held : b ≤ 8 * n
-  pub end : to ≡ min (8 * (a / 8) + 64) b
-  pub same : w ≡ field (to - a) s a
+  pub part : PartOf s a b width w
   pub count : c ≡ ones w
 
-module _ {s : List Bool} {a b k n to w c : ℕ} (o : Opened s a b k n to w c) where
-  first-ones : onesBetween s a to ≡ c
-  first-ones =
-      let d : a + (to - a) ≡ to = omega arith in
-      ap (onesBetween s a) (sym d) ∙ between-field s a (to - a) ∙ ap ones (sym (o .same)) ∙ sym (o .count)
+module _ {s : List Bool} {a b k n width w c : ℕ} (o : Opened s a b k n width w c) where
+  p : PartOf s a b width w
+  p = o .part
 
-  pub window-here : k ≤ c → WindowOf s a b k a (to - a) w k
+  first-ones : onesBetween s a (a + width) ≡ c
+  first-ones = part-ones p ∙ sym (o .count)
+
+  pub window-here : k ≤ c → WindowOf s a b k a width w k
   window-here few =
       let z = between-none s a in
+      let e = p .wide in
       record {
         after = omega arith;
         upto = omega arith;
         narrow = omega arith;
-        same = o .same;
+        same = p .same;
         some = o .some;
         few = omega arith;
         sum = omega arith;
@@ -101,27 +71,36 @@ module _ {s : List Bool} {a b k n to w c : ℕ} (o : Opened s a b k n to w c) wh
       }
 
   module _ (more : c < k) where
-    pub window-goes : to < b
-    window-goes = go (decLe b to)
+    pub window-goes : a + width < b
+    window-goes = go (decLe b (a + width))
       where
-        go : Dec (b ≤ to) → to < b
+        go : Dec (b ≤ a + width) → a + width < b
         go (yes h) =
-            let d : to ≡ b = omega arith in
+            let e = p .wide in
+            let d : a + width ≡ b = omega arith in
             let x = ap (onesBetween s a) d in
             let y = first-ones in
             absurd (omega arith)
         go (no h) = omega arith
 
-    module _ {at left : ℕ} (r : Skipped s n (to / 8) (k - c) at left) where
+    module _ {at left : ℕ} (r : Skipped s n ((a + width) / 8) (k - c) at left) where
+      after : a + width ≤ 8 * at
+      after =
+          let g = window-goes in
+          let e = p .wide in
+          let f = r .sought .after in
+          omega arith
+
       window-sum : onesBetween s a (8 * at) + left ≡ k
       window-sum =
           let g = window-goes in
-          let f = r .after in
-          let d : 8 * (to / 8) ≡ to = omega arith in
+          let e = p .wide in
+          let f = after in
+          let d : 8 * ((a + width) / 8) ≡ a + width = omega arith in
           let x = ap (λ (m : ℕ). onesBetween s m (8 * at)) d in
-          let y = between-add s a to (8 * at) (omega arith) (omega arith) in
+          let y = between-add s a (a + width) (8 * at) (omega arith) f in
           let z = first-ones in
-          let t = r .sum in
+          let t = r .sought .sum in
           omega arith
 
       pub window-before : 8 * at < b
@@ -131,70 +110,44 @@ module _ {s : List Bool} {a b k n to w c : ℕ} (o : Opened s a b k n to w c) wh
           go (yes h) =
               let t = window-sum in
               let y = between-add s a b (8 * at) (o .between) h in
-              let z = r .some in
+              let z = r .sought .some in
               absurd (omega arith)
           go (no h) = omega arith
 
-      -- the word has as many ones as are left to go
-      window-few : (width : ℕ) → width ≡ min 64 (b - 8 * at) → left ≤ onesBetween s (8 * at) (8 * at + width)
-      window-few width ed = go (decLe (8 * at + 64) b)
-        where
-          go : Dec (8 * at + 64 ≤ b) → left ≤ onesBetween s (8 * at) (8 * at + width)
-          go (yes h) =
-              let d : 8 * at + width ≡ 8 * at + 64 = omega arith in
-              let x = ap (onesBetween s (8 * at)) d in
-              let f = r .full (omega arith) in
-              omega arith
-          go (no h) =
-              let l = window-before in
-              let g = window-goes in
-              let f = r .after in
-              let d : 8 * at + width ≡ b = omega arith in
-              let x = ap (onesBetween s (8 * at)) d in
-              let t = window-sum in
-              let y = between-add s a (8 * at) b (omega arith) (omega arith) in
-              omega arith
+      module _ {to x : ℕ} (there : PartOf s (8 * at) b to x) where
+        -- the word has as many ones as are left to go
+        window-few : left ≤ ones x
+        window-few = go (decLe (8 * at + 64) b)
+          where
+            go : Dec (8 * at + 64 ≤ b) → left ≤ ones x
+            go (yes h) =
+                let d : 8 * at + to ≡ 8 * at + 64 = omega arith in
+                let y = sym (ap (onesBetween s (8 * at)) d) ∙ part-ones there in
+                let f = r .full (omega arith) in
+                omega arith
+            go (no h) =
+                let l = window-before in
+                let d : 8 * at + to ≡ b = omega arith in
+                let y = sym (ap (onesBetween s (8 * at)) d) ∙ part-ones there in
+                let t = window-sum in
+                let f = after in
+                let z = between-add s a (8 * at) b (omega arith) (omega arith) in
+                omega arith
 
-      pub window-there : (width : ℕ) {x : ℕ} → width ≡ min 64 (b - 8 * at) → x ≡ field width s (8 * at)
-          → WindowOf s a b k (8 * at) width x left
-      window-there width {x} ed ex =
-          let l = window-before in
-          let g = window-goes in
-          let f = r .after in
-          let m = window-few width ed in
-          let v : onesBetween s (8 * at) (8 * at + width) ≡ ones x =
-          between-field s (8 * at) width ∙ ap ones (sym ex) in
-          record {
-            after = omega arith;
-            upto = omega arith;
-            narrow = omega arith;
-            same = ex;
-            some = r .some;
-            few = omega arith;
-            sum = window-sum;
-            whole = λ h. omega arith;
-          }
-
--- ---- a bit of a part
-
-module _ (s : List Bool) (from width j p : ℕ) {x : ℕ} (inside : from + width ≤ length s)
-    (ex : x ≡ field width s from) where
-  -- the ones of a part that is passed over
-  pub word-past : {c : ℕ} → c ≡ ones x → onesBetween s from (from + width) ≡ c
-  word-past ec = between-field s from width ∙ ap ones (sym ex) ∙ sym ec
-
-  pub word-one : width ≤ 64 → 1 ≤ j → j ≤ ones x → p ≡ select (toBits 64 x) j
-      → (64 < width + p) × (p ≤ 64) × OneAt s from (from + width + p - 65) j
-  unfolding field
-  word-one narrow some few ep =
-      let t : List Bool = take width (drop from s) in
-      let n : length t ≡ width = length-take-le width (drop from s) (simp length-drop (omega arith)) in
-      let o : ones x ≡ count t = ap ones ex ∙ ones-field width s from in
-      let b = select-bounds t j some (omega arith) in
-      let f = found-inside 64 t (64 - width) j (omega arith) some (omega arith) in
-      let g : p ≡ 64 - width + select t j = ep ∙ ap (λ (y : ℕ). select (toBits 64 y) j) ex ∙ f in
-      let q : from + width + p - 65 ≡ from + (select t j - 1) = omega arith in
-      (omega arith, omega arith, rw q (one-of-part s from width inside j some (omega arith)))
+        pub window-there : WindowOf s a b k (8 * at) to x left
+        window-there =
+            let l = window-before in
+            let f = after in
+            record {
+              after = omega arith;
+              upto = omega arith;
+              narrow = omega arith;
+              same = there .same;
+              some = r .sought .some;
+              few = window-few;
+              sum = window-sum;
+              whole = λ h. omega arith;
+            }
 
 -- ---- the span from a one of the window on
 
@@ -212,7 +165,7 @@ module _ {s : List Bool} {a places k from width x left p : ℕ} (t : Standing s 
   here =
       let u = w .upto in
       let i = t .held in
-      word-one s from width left p (omega arith) (w .same) (w .narrow) (w .some) (w .few) (t .place)
+      word-one 64 s from width left p (omega arith) (w .same) (w .narrow) (w .some) (w .few) (t .place)
 
   one : OneAt s a (from + width + p - 65) k
   one = one-later a k (here .2) (w .after) (w .sum)

@@ -5,14 +5,16 @@
 --   onesBetween  how many ones stand from a bit on and before another
 --   OneAt        a bit is the k-th one from another bit on
 --   NextAt       a bit is the first one of a part, or the end of the part
---   Cleared      no one stands from a bit on and before another, at which a byte begins or the part ends
---   Skipped      how many ones are left to go after whole words
+--   PartOf       the number of the bits from a bit on, up to the end of the word that its byte begins
+--   Cleared      no one stands from a bit on and before another
+--   Sought       how many ones are left to go from a bit on
+--   Skipped      how many after whole words
 --   WindowOf     at most 64 bits in which the k-th one of a part stands
 --   Narrowed     the half of a number in which its k-th one stands
 use mathlib.Core.Path.{_≡_}
 use mathlib.Core.Bool.{Bool, true, false}
 use mathlib.Core.List.{List}
-use Prim.Native.Nat.{ℕ, suc, _+_, _-_, _*_, _%_, _^_, _≤_, _<_}
+use Prim.Native.Nat.{ℕ, suc, _+_, _-_, _*_, _%_, _^_, _≤_, _<_, min}
 use lib.Count.{ones}
 use lib.Dec.{ltb}
 use lib.ListN.{length, take, drop, getD}
@@ -54,20 +56,28 @@ pub record NextAt (s : List Bool) (a b q : ℕ) : Type 0 where
   pub none : onesBetween s a q ≡ 0
   pub one : q < b → getD s q false ≡ true
 
--- no one stands from bit a on and before bit q, at which a byte begins or which is b
+-- w is the number of so many bits from bit a on: up to the end of the 64 bits that begin with its byte, or up to bit b
+pub record PartOf (s : List Bool) (a b width w : ℕ) : Type 0 where
+  pub wide : width ≡ min (64 - a % 8) (b - a)
+  pub same : w ≡ field width s a
+
+-- no one stands from bit a on and before bit q, which is not past bit b
 pub record Cleared (s : List Bool) (a b q : ℕ) : Type 0 where
   pub after : a ≤ q
   pub upto : q ≤ b
   pub none : onesBetween s a q ≡ 0
-  pub whole : q < b → q % 8 ≡ 0
+
+-- from bit a on and before bit b, k ones are looked for, and `left` of them are to go from bit q on
+pub record Sought (s : List Bool) (a b k q left : ℕ) : Type 0 where
+  pub after : a ≤ q
+  pub upto : q ≤ b
+  pub some : 1 ≤ left
+  pub sum : onesBetween s a q + left ≡ k
 
 -- from byte `first` on, of n bytes, k ones are looked for; `left` of them are to go from byte `at` on, and the next
 -- word, if there is a whole one, has as many
 pub record Skipped (s : List Bool) (n first k at left : ℕ) : Type 0 where
-  pub after : first ≤ at
-  pub inside : at ≤ n
-  pub some : 1 ≤ left
-  pub sum : onesBetween s (8 * first) (8 * at) + left ≡ k
+  pub sought : Sought s (8 * first) (8 * n) k (8 * at) left
   pub full : at + 8 ≤ n → left ≤ onesBetween s (8 * at) (8 * at + 64)
 
 -- of the ones from bit a on and before bit b, the k-th is the left-th of the `width` bits from bit `from` on, whose

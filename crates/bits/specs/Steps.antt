@@ -1,9 +1,13 @@
--- What contracts inside this crate say of a byte, of a search for ones, and of a number with a field replaced, and what
--- callers are told of two and of four fields.
+-- What contracts inside this crate say of bytes joined to a number, of a byte, of a search for ones, and of a number
+-- with a field replaced, and what callers are told of two and of four fields.
+--   joined    bytes joined to a number
+--   eight     eight bytes of a list
+--   two       two bytes of a list
+--   three     two bytes of a list in a row, and a third
+--   byteOf    a byte of a number
 --   lowBytes  the lowest bytes of a number, the lowest first
 --   IsByte    a number is a byte of a list
 --   IsRest    a number is what is left of a byte from a bit on
---   Passed    how many ones are left to go from a byte on
 --   within    a place, or 0 past a limit
 --   TwoAt     two numbers are the fields of 12 bits from a bit on
 --   FourAt    four numbers are the fields of 12 bits from a bit on
@@ -11,15 +15,38 @@
 use mathlib.Core.Path.{_≡_}
 use mathlib.Core.Bool.{Bool, true, false}
 use mathlib.Core.List.{List, [], _∷_}
-use Prim.Native.Nat.{ℕ, zero, suc, _+_, _-_, _*_, _/_, _%_, _^_, _≤_, _<_}
+use Prim.Native.Nat.{ℕ, zero, suc, _+_, _-_, _*_, _/_, _%_, _^_, _<_}
 use lib.Dec.{leb}
-use lib.ListN.{length, take, getD}
-use Rattle.bits.specs.Bits.{bits, count, field}
+use lib.ListN.{length, getD}
+use Rattle.bits.specs.Bits.{bits, field}
 
--- the n lowest bytes of a number, the lowest first
-unfoldable pub lowBytes : ℕ → ℕ → List ℕ
-lowBytes zero x = []
-lowBytes (suc n) x = x % 256 ∷ lowBytes n (x / 256)
+-- the bytes, one below the other, below the number a
+abbrev pub joined : ℕ → List ℕ → ℕ
+joined a [] = a
+joined a (b ∷ bytes) = joined (a * 256 + b) bytes
+
+-- the eight bytes from byte f on, with zeros past the end
+abbrev pub eight : List ℕ → ℕ → List ℕ
+eight bytes f =
+    getD bytes f 0 ∷ getD bytes (f + 1) 0 ∷ getD bytes (f + 2) 0 ∷ getD bytes (f + 3) 0
+    ∷ getD bytes (f + 4) 0 ∷ getD bytes (f + 5) 0 ∷ getD bytes (f + 6) 0 ∷ getD bytes (f + 7) 0 ∷ []
+
+-- bytes f and l
+abbrev pub two : List ℕ → ℕ → ℕ → List ℕ
+two bytes f l = getD bytes f 0 ∷ getD bytes l 0 ∷ []
+
+-- byte f, the next, and byte l
+abbrev pub three : List ℕ → ℕ → ℕ → List ℕ
+three bytes f l = getD bytes f 0 ∷ getD bytes (f + 1) 0 ∷ getD bytes l 0 ∷ []
+
+-- the byte of x above its k lowest bits
+unfoldable pub byteOf : ℕ → ℕ → ℕ
+byteOf x k = x / 2 ^ k % 256
+
+-- n bytes of x above its k lowest bits, the lowest first
+abbrev pub lowBytes : ℕ → ℕ → ℕ → List ℕ
+lowBytes zero k x = []
+lowBytes (suc n) k x = byteOf x k ∷ lowBytes n (k + 8) x
 
 -- b is byte `at`
 pub record IsByte (bytes : List ℕ) (at b : ℕ) : Type 0 where
@@ -32,12 +59,6 @@ pub record IsRest (bytes : List ℕ) (start b : ℕ) : Type 0 where
   pub inside : start < 8 * length bytes
   pub same : b ≡ field (8 - start % 8) (bits bytes) start
   pub small : b < 256
-
--- k ones are looked for, and `left` of them are to go from byte `at` on
-pub record Passed (bytes : List ℕ) (k at left : ℕ) : Type 0 where
-  pub inside : at ≤ length bytes
-  pub some : 1 ≤ left
-  pub sum : count (take (8 * at) (bits bytes)) + left ≡ k
 
 -- the place p, or 0 where it is past the limit
 unfoldable pub within : ℕ → ℕ → ℕ

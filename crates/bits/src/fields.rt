@@ -5,10 +5,10 @@ ghost use mathlib.Core.Bool.{true, false};
 ghost use Prim.Native.Nat.{_+_, _*_, _/_, _%_, _^_, _<_, _≤_};
 ghost use lib.ListN.{length, getD, set};
 ghost use Rattle.bits.specs.Bits.{bits, field, put};
-ghost use Rattle.bits.specs.Steps.{TwoAt, FourAt, replace};
+ghost use Rattle.bits.specs.Steps.{joined, two, three, TwoAt, FourAt, replace};
 use super::words::byte_at;
+use super::words::byte_of;
 use super::words::join;
-use super::words::low_byte;
 use super::words::short_word;
 
 // The bit `index`.
@@ -17,6 +17,22 @@ pub fn read_bit(bytes: &[u8], index: usize) -> bool
     ensures { λ r. ⌜ r ≡ getD (bits (now (bytes .entry))) index false ⌝ }
 {
     (byte_at(bytes, index / 8) >> (7 - index % 8)) & 1 == 1
+}
+
+// Bytes `at` and `next`, joined.
+fn join2(bytes: &[u8], at: usize, next: usize) -> u64
+    requires { ⌜ (at < length (now bytes)) × (next < length (now bytes)) ⌝ }
+    ensures { λ r. ⌜ (r ≡ joined 0 (two (now (bytes .entry)) at next)) × (r < 65536) ⌝ }
+{
+    join(join(0, bytes[at]), bytes[next])
+}
+
+// Byte `at`, the next, and byte `last`, joined.
+fn join3(bytes: &[u8], at: usize, last: usize) -> u64
+    requires { ⌜ (at + 2 ≤ length (now bytes)) × (last < length (now bytes)) ⌝ }
+    ensures { λ r. ⌜ (r ≡ joined 0 (three (now (bytes .entry)) at last)) × (r < 16777216) ⌝ }
+{
+    join(join2(bytes, at, at + 1), bytes[last])
 }
 
 // The field of `width` bits from bit `start` on. Three bytes are joined: the first, the next, and the one in which the
@@ -28,7 +44,7 @@ fn read_field(bytes: &[u8], start: usize, width: usize) -> usize
     let first = start / 8;
     let off = start % 8;
     let last = first + (off + width - 1) / 8;
-    let x = join(join(join(0, bytes[first]), bytes[first + 1]), bytes[last]);
+    let x = join3(bytes, first, last);
     ((x >> (24 - width - off)) & ((1 << width) - 1)) as usize
 }
 
@@ -105,7 +121,7 @@ pub fn read_two(bytes: &[u8], at: usize) -> Two
     requires { ⌜ at + 3 ≤ length (now bytes) ⌝ }
     ensures { λ r. ⌜ TwoAt (bits (now (bytes .entry))) (8 * at) (r .a) (r .b) ⌝ }
 {
-    let x = join(join(join(0, bytes[at]), bytes[at + 1]), bytes[at + 2]);
+    let x = join3(bytes, at, at + 2);
     Two {
         a: cut12(x, 12),
         b: cut12(x, 0),
@@ -149,17 +165,18 @@ pub fn write12(bytes: &mut [u8], start: usize, v: usize)
     let first = start / 8;
     let off = start % 8;
     let next = first + 1;
-    let x = join(join(0, bytes[first]), bytes[next]);
     if off <= 4 {
+        let x = join2(bytes, first, next);
         let y = replaced(x, 12, 4 - off, v as u64);
-        bytes[first] = low_byte(y >> 8);
-        bytes[next] = low_byte(y);
+        bytes[first] = byte_of(y, 8);
+        bytes[next] = byte_of(y, 0);
     } else {
         let last = first + 2;
-        let y = replaced(join(x, bytes[last]), 12, 12 - off, v as u64);
-        bytes[first] = low_byte(y >> 16);
-        bytes[next] = low_byte(y >> 8);
-        bytes[last] = low_byte(y);
+        let x = join3(bytes, first, last);
+        let y = replaced(x, 12, 12 - off, v as u64);
+        bytes[first] = byte_of(y, 16);
+        bytes[next] = byte_of(y, 8);
+        bytes[last] = byte_of(y, 0);
     }
 }
 
@@ -170,7 +187,7 @@ pub fn write_two(bytes: &mut [u8], at: usize, a: usize, b: usize)
         × (length (now (bytes .exit)) ≡ length (now (bytes .entry))) ⌝ }
 {
     let x = (a as u64) << 12 | (b as u64);
-    bytes[at] = low_byte(x >> 16);
-    bytes[at + 1] = low_byte(x >> 8);
-    bytes[at + 2] = low_byte(x);
+    bytes[at] = byte_of(x, 16);
+    bytes[at + 1] = byte_of(x, 8);
+    bytes[at + 2] = byte_of(x, 0);
 }

@@ -3,7 +3,8 @@ ghost use mathlib.Core.Path.{_≡_};
 ghost use Prim.Native.Nat.{_+_, _*_, _/_, _<_, _≤_};
 ghost use lib.ListN.{length, take, drop};
 ghost use Rattle.bits.specs.Bits.{bits, select as selectOf};
-ghost use Rattle.bits.specs.Steps.{Passed, within as withinOf};
+ghost use Rattle.bits.specs.Spans.{Skipped};
+ghost use Rattle.bits.specs.Steps.{within as withinOf};
 use super::table::in_byte;
 use super::words::byte_at;
 use super::words::byte_ones;
@@ -17,12 +18,12 @@ pub struct Reached {
     pub left: usize,
 }
 
-// Passes over whole words that have fewer ones than are left to go.
-fn skip_words(bytes: &[u8], k: usize) -> Reached
-    requires { ⌜ 1 ≤ k ⌝ }
-    ensures { λ r. ⌜ Passed (now (bytes .entry)) k (r .at) (r .left) ⌝ }
+// Passes over whole words from byte `first` on that have fewer ones than are left to go.
+pub fn skip_from(bytes: &[u8], first: usize, k: usize) -> Reached
+    requires { ⌜ (first ≤ length (now bytes)) × (1 ≤ k) ⌝ }
+    ensures { λ r. ⌜ Skipped (bits (now (bytes .entry))) (length (now (bytes .entry))) first k (r .at) (r .left) ⌝ }
 {
-    let mut at = 0;
+    let mut at = first;
     let mut left = k;
     while at + 8 <= bytes.len() {
         let c = word_ones(bytes, at);
@@ -55,7 +56,7 @@ fn place_of(bytes: &[u8], limit: usize, k: usize) -> usize
     requires { ⌜ 1 ≤ k ⌝ }
     ensures { λ r. ⌜ r ≡ selectOf (take limit (bits (now (bytes .entry)))) k ⌝ }
 {
-    let reached = skip_words(bytes, k);
+    let reached = skip_from(bytes, 0, k);
     let mut at = reached.at;
     let mut left = reached.left;
     while at < bytes.len() {
@@ -78,7 +79,8 @@ fn place_after(bytes: &[u8], start: usize, limit: usize, k: usize) -> usize
     place_of(part(bytes, start / 8 + 1, (limit - 1) / 8 + 1), limit, k)
 }
 
-// The place of the k-th one of the `places` bits from bit `start` on, or 0: in what is left of the first byte, or after it.
+// The place of the k-th one of the `places` bits from bit `start` on, or 0: in what is left of the first byte, or after
+// it.
 pub fn place_from(bytes: &[u8], start: usize, places: usize, k: usize) -> usize
     requires { ⌜ (1 ≤ k) × (1 ≤ places) × (start + places ≤ 8 * length (now bytes)) ⌝ }
     ensures { λ r. ⌜ r ≡ selectOf (take places (drop start (bits (now (bytes .entry))))) k ⌝ }

@@ -3,17 +3,15 @@
 ghost use mathlib.Core.Path.{_≡_};
 ghost use Prim.Native.Nat.{_+_, _*_, _/_, _%_, _^_, _<_, _≤_, min};
 ghost use lib.Count.{ones};
-ghost use lib.Dec.{ltb};
 ghost use lib.ListN.{length, take, drop};
 ghost use Rattle.bits.specs.Bits.{toBits, bits, count, select as selectOf};
-ghost use Rattle.bits.specs.Spans.{SpanOf, LoneOf, onesBetween, NextAt, Skipped, WindowOf, Narrowed};
+ghost use Rattle.bits.specs.Spans.{SpanOf, LoneOf, onesBetween, NextAt, PartOf, WindowOf, Narrowed};
 use super::fields::read_long;
 use super::ones::top;
 use super::ones::without;
-use super::search::Reached;
+use super::search::skip_from;
 use super::words::ones_of;
 use super::words::short_word;
-use super::words::word_ones;
 
 // What is left to search: the bits that hold the one, how many ones are left to go in them, and how many bits lie
 // before them.
@@ -62,6 +60,25 @@ fn halve(x: u64, width: usize, c: usize, k: usize, before: usize) -> Half
     }
 }
 
+// The place, from 1, of the k-th one of two bits that have k ones, counted on from `before`.
+fn in_pair(x: u64, k: usize, before: usize) -> usize
+    requires { ⌜ (x < 4) × (1 ≤ k) × (k ≤ ones x) × (before ≤ 62) ⌝ }
+    ensures { λ r. ⌜ (r ≡ before + selectOf (toBits 2 x) k) × (1 ≤ r) × (r ≤ before + 2) ⌝ }
+{
+    let half = halve(x, 1, (x >> 1) as usize, k, before);
+    half.before + 1
+}
+
+// The same of eight bits.
+fn in_eight(x: u64, k: usize, before: usize) -> usize
+    requires { ⌜ (x < 256) × (1 ≤ k) × (k ≤ ones x) × (before ≤ 56) ⌝ }
+    ensures { λ r. ⌜ (r ≡ before + selectOf (toBits 8 x) k) × (1 ≤ r) × (r ≤ before + 8) ⌝ }
+{
+    let a = halve(x, 4, ones4(x >> 4), k, before);
+    let b = halve(a.bits, 2, ones4(a.bits >> 2), a.left, a.before);
+    in_pair(b.bits, b.left, b.before)
+}
+
 // The place, from 1, of the k-th one of a word that has k ones.
 fn in_word(x: u64, k: usize) -> usize
     requires { ⌜ (1 ≤ k) × (k ≤ ones x) ⌝ }
@@ -70,10 +87,7 @@ fn in_word(x: u64, k: usize) -> usize
     let a = halve(x, 32, ones_of(x >> 32), k, 0);
     let b = halve(a.bits, 16, ones_of(a.bits >> 16), a.left, a.before);
     let c = halve(b.bits, 8, ones8(b.bits >> 8), b.left, b.before);
-    let d = halve(c.bits, 4, ones4(c.bits >> 4), c.left, c.before);
-    let e = halve(d.bits, 2, ones4(d.bits >> 2), d.left, d.before);
-    let f = halve(e.bits, 1, (e.bits >> 1) as usize, e.left, e.before);
-    f.before + 1
+    in_eight(c.bits, c.left, c.before)
 }
 
 fn lesser(a: usize, b: usize) -> usize
@@ -82,38 +96,42 @@ fn lesser(a: usize, b: usize) -> usize
     if a < b { a } else { b }
 }
 
-// The end of the part that goes from bit `at` to the end of the 64 bits that begin with its byte, or to bit `end`.
-fn part_end(at: usize, end: usize) -> usize
-    requires { ⌜ at ≤ 1048576 ⌝ }
-    ensures { λ r. ⌜ r ≡ min (8 * (at / 8) + 64) end ⌝ }
-{
-    lesser(8 * (at / 8) + 64, end)
+// A part of a string: so many bits, and their number.
+struct Part {
+    width: usize,
+    bits: u64,
 }
 
-// A part of a string: bits from bit `from` on, `width` of them, as a number, and how many ones are left to go in it.
+// The part from bit `at` on, to the end of the 64 bits that begin with its byte, or to bit `end`.
+fn part_from(bytes: &[u8], at: usize, end: usize) -> Part
+    requires { ⌜ (at < end) × (end ≤ 8 * length (now bytes)) ⌝ }
+    ensures { λ r. ⌜ PartOf (bits (now (bytes .entry))) at end (r .width) (r .bits) ⌝ }
+{
+    let width = lesser(64 - at % 8, end - at);
+    Part {
+        width,
+        bits: read_long(bytes, at, width),
+    }
+}
+
+// The part from byte `at` on, to the end of 64 bits, or to bit `end`.
+fn part_at(bytes: &[u8], at: usize, end: usize) -> Part
+    requires { ⌜ (8 * at < end) × (end ≤ 8 * length (now bytes)) ⌝ }
+    ensures { λ r. ⌜ PartOf (bits (now (bytes .entry))) (8 * at) end (r .width) (r .bits) ⌝ }
+{
+    let width = lesser(64, end - 8 * at);
+    Part {
+        width,
+        bits: short_word(bytes, at, width),
+    }
+}
+
+// The bits from bit `from` on, so many, their number, and how many ones are left to go in them.
 struct Window {
     from: usize,
     width: usize,
     bits: u64,
     left: usize,
-}
-
-// Passes over whole words from byte `first` on that have fewer ones than are left to go.
-fn skip_from(bytes: &[u8], first: usize, k: usize) -> Reached
-    requires { ⌜ (first ≤ length (now bytes)) × (1 ≤ k) ⌝ }
-    ensures { λ r. ⌜ Skipped (bits (now (bytes .entry))) (length (now (bytes .entry))) first k (r .at) (r .left) ⌝ }
-{
-    let mut at = first;
-    let mut left = k;
-    while at + 8 <= bytes.len() {
-        let c = word_ones(bytes, at);
-        if left <= c {
-            return Reached { at, left };
-        }
-        left -= c;
-        at += 8;
-    }
-    Reached { at, left }
 }
 
 // The part in which the k-th one from bit `start` on and before bit `end` stands.
@@ -122,24 +140,22 @@ fn window_of(bytes: &[u8], start: usize, end: usize, k: usize) -> Window
         × (end ≤ 8 * length (now bytes)) × (end ≤ 1048576) ⌝ }
     ensures { λ r. ⌜ WindowOf (bits (now (bytes .entry))) start end k (r .from) (r .width) (r .bits) (r .left) ⌝ }
 {
-    let to = part_end(start, end);
-    let w = read_long(bytes, start, to - start);
-    let c = ones_of(w);
+    let first = part_from(bytes, start, end);
+    let c = ones_of(first.bits);
     if k <= c {
         return Window {
             from: start,
-            width: to - start,
-            bits: w,
+            width: first.width,
+            bits: first.bits,
             left: k,
         };
     }
-    let reached = skip_from(bytes, to / 8, k - c);
-    let at = reached.at;
-    let width = lesser(64, end - 8 * at);
+    let reached = skip_from(bytes, (start + first.width) / 8, k - c);
+    let part = part_at(bytes, reached.at, end);
     Window {
-        from: 8 * at,
-        width,
-        bits: short_word(bytes, at, width),
+        from: 8 * reached.at,
+        width: part.width,
+        bits: part.bits,
         left: reached.left,
     }
 }
@@ -151,12 +167,11 @@ fn next_from(bytes: &[u8], from: usize, end: usize) -> usize
 {
     let mut at = from;
     while at < end {
-        let width = lesser(64, end - at);
-        let w = short_word(bytes, at / 8, width);
-        if w != 0 {
-            return at + width - 1 - top(w);
+        let part = part_at(bytes, at / 8, end);
+        if part.bits != 0 {
+            return at + part.width - 1 - top(part.bits);
         }
-        at += width;
+        at += part.width;
     }
     end
 }
@@ -174,19 +189,21 @@ pub fn span_from(bytes: &[u8], start: usize, places: usize, k: usize) -> Span
         × (start + places ≤ 8 * length (now bytes)) × (start + places ≤ 1048576) ⌝ }
     ensures { λ r. ⌜ SpanOf (take places (drop start (bits (now (bytes .entry))))) k (r .from) (r .to) ⌝ }
 {
-    let w = window_of(bytes, start, start + places, k);
+    let stop = start + places;
+    let w = window_of(bytes, start, stop, k);
     let left = 64 - in_word(w.bits, w.left);
     let rest = w.bits & ((1 << left) - 1);
     let end = w.from + w.width;
+    let from = end - left - start;
     if rest != 0 {
         return Span {
-            from: end - left - start,
+            from,
             to: end - 1 - top(rest) - start,
         };
     }
     Span {
-        from: end - left - start,
-        to: next_from(bytes, end, start + places) - start,
+        from,
+        to: next_from(bytes, end, stop) - start,
     }
 }
 
@@ -199,14 +216,13 @@ pub fn nth_from(bytes: &[u8], start: usize, places: usize, k: usize) -> usize
     let mut at = start;
     let mut left = k;
     while at < end {
-        let to = part_end(at, end);
-        let w = read_long(bytes, at, to - at);
-        let c = ones_of(w);
+        let part = part_from(bytes, at, end);
+        let c = ones_of(part.bits);
         if left <= c {
-            return to + in_word(w, left) - 64 - start;
+            return at + part.width + in_word(part.bits, left) - 64 - start;
         }
         left -= c;
-        at = to;
+        at += part.width;
     }
     0
 }
@@ -218,22 +234,6 @@ pub enum Lone {
     More,
 }
 
-// Whether a one stands from bit `from` on, which begins a byte, and before bit `end`.
-fn some_from(bytes: &[u8], from: usize, end: usize) -> bool
-    requires { ⌜ (from ≤ end) × (from < end → from % 8 ≡ 0) × (end ≤ 8 * length (now bytes)) ⌝ }
-    ensures { λ r. ⌜ r ≡ ltb 0 (onesBetween (bits (now (bytes .entry))) from end) ⌝ }
-{
-    let mut at = from;
-    while at < end {
-        let width = lesser(64, end - at);
-        if short_word(bytes, at / 8, width) != 0 {
-            return true;
-        }
-        at += width;
-    }
-    false
-}
-
 // The only one of the string of `places` bits from bit `start` on, by one pass over the words.
 pub fn lone_from(bytes: &[u8], start: usize, places: usize) -> Lone
     requires { ⌜ (start + places ≤ 8 * length (now bytes)) × (start + places ≤ 1048576) ⌝ }
@@ -242,19 +242,23 @@ pub fn lone_from(bytes: &[u8], start: usize, places: usize) -> Lone
     let end = start + places;
     let mut at = start;
     while at < end {
-        let to = part_end(at, end);
-        let w = read_long(bytes, at, to - at);
-        if w != 0 {
-            let h = top(w);
-            if without(w, h) != 0 {
+        let part = part_from(bytes, at, end);
+        let next = at + part.width;
+        if part.bits != 0 {
+            let h = top(part.bits);
+            if without(part.bits, h) != 0 {
                 return Lone::More;
             }
-            if some_from(bytes, to, end) {
+            let place = next - 1 - h - start;
+            if end <= next {
+                return Lone::At(place);
+            }
+            if next_from(bytes, next, end) < end {
                 return Lone::More;
             }
-            return Lone::At(to - 1 - h - start);
+            return Lone::At(place);
         }
-        at = to;
+        at = next;
     }
     Lone::None
 }

@@ -1,11 +1,11 @@
 // Bytes joined to numbers, most significant byte first, and the count of ones of a number.
 ghost use mathlib.Core.Path.{_≡_};
 ghost use mathlib.Core.List.{[], _∷_, reverse};
-ghost use Prim.Native.Nat.{_+_, _-_, _*_, _%_, _^_, _<_, _≤_};
+ghost use Prim.Native.Nat.{_+_, _*_, _^_, _<_, _≤_};
 ghost use lib.Count.{ones};
 ghost use lib.ListN.{length, take, drop, getD};
-ghost use Rattle.bits.specs.Bits.{bits, count, value, field};
-ghost use Rattle.bits.specs.Steps.{IsByte, IsRest, lowBytes};
+ghost use Rattle.bits.specs.Bits.{bits, count, field};
+ghost use Rattle.bits.specs.Steps.{joined, eight, byteOf, lowBytes, IsByte, IsRest};
 
 pub fn wide(b: u8) -> u64
     ensures { λ r. ⌜ (r ≡ b) × (r < 256) ⌝ }
@@ -23,7 +23,7 @@ pub fn join(acc: u64, b: u8) -> u64
 
 // Eight bytes as one number.
 fn join8(a: u8, b: u8, c: u8, d: u8, e: u8, f: u8, g: u8, h: u8) -> u64
-    ensures { λ r. ⌜ r ≡ value (bits (a ∷ b ∷ c ∷ d ∷ e ∷ f ∷ g ∷ h ∷ [])) ⌝ }
+    ensures { λ r. ⌜ r ≡ joined 0 (a ∷ b ∷ c ∷ d ∷ e ∷ f ∷ g ∷ h ∷ []) ⌝ }
 {
     let high = join(join(join(join(0, a), b), c), d);
     join(join(join(join(high, e), f), g), h)
@@ -33,7 +33,7 @@ fn join8(a: u8, b: u8, c: u8, d: u8, e: u8, f: u8, g: u8, h: u8) -> u64
 // load.
 fn low_word(bytes: &[u8], at: usize) -> u64
     requires { ⌜ at + 8 ≤ length (now bytes) ⌝ }
-    ensures { λ r. ⌜ r ≡ value (bits (reverse (take 8 (drop at (now (bytes .entry)))))) ⌝ }
+    ensures { λ r. ⌜ r ≡ joined 0 (reverse (eight (now (bytes .entry)) at)) ⌝ }
 {
     join8(
         bytes[at + 7],
@@ -47,33 +47,34 @@ fn low_word(bytes: &[u8], at: usize) -> u64
     )
 }
 
-// The lowest byte of x.
-pub fn low_byte(x: u64) -> u8
-    ensures { λ r. ⌜ r ≡ x % 256 ⌝ }
+// The byte of x above its k lowest bits.
+pub fn byte_of(x: u64, k: usize) -> u8
+    requires { ⌜ k < 64 ⌝ }
+    ensures { λ r. ⌜ r ≡ byteOf x k ⌝ }
 {
-    (x & 0xFF) as u8
+    ((x >> k) & 0xFF) as u8
 }
 
 // The bytes of x in the other order.
 fn turned(x: u64) -> u64
-    ensures { λ r. ⌜ r ≡ value (bits (lowBytes 8 x)) ⌝ }
+    ensures { λ r. ⌜ r ≡ joined 0 (lowBytes 8 0 x) ⌝ }
 {
     join8(
-        low_byte(x),
-        low_byte(x >> 8),
-        low_byte(x >> 16),
-        low_byte(x >> 24),
-        low_byte(x >> 32),
-        low_byte(x >> 40),
-        low_byte(x >> 48),
-        low_byte(x >> 56),
+        byte_of(x, 0),
+        byte_of(x, 8),
+        byte_of(x, 16),
+        byte_of(x, 24),
+        byte_of(x, 32),
+        byte_of(x, 40),
+        byte_of(x, 48),
+        byte_of(x, 56),
     )
 }
 
-// The 64 bits from byte `at` on.
+// The eight bytes from byte `at` on as one number.
 fn word(bytes: &[u8], at: usize) -> u64
     requires { ⌜ at + 8 ≤ length (now bytes) ⌝ }
-    ensures { λ r. ⌜ r ≡ field 64 (bits (now (bytes .entry))) (8 * at) ⌝ }
+    ensures { λ r. ⌜ r ≡ joined 0 (eight (now (bytes .entry)) at) ⌝ }
 {
     turned(low_word(bytes, at))
 }
@@ -85,16 +86,12 @@ fn byte_or_zero(bytes: &[u8], at: usize) -> u8
     if at < bytes.len() { bytes[at] } else { 0 }
 }
 
-// The n bits from byte `at` on, at most 64: of a whole word, or of zeros after the bytes where the slice ends before a
-// whole word does.
-pub fn short_word(bytes: &[u8], at: usize, n: usize) -> u64
-    requires { ⌜ (1 ≤ n) × (n ≤ 64) × (8 * at + n ≤ 8 * length (now bytes)) ⌝ }
-    ensures { λ r. ⌜ r ≡ field n (bits (now (bytes .entry))) (8 * at) ⌝ }
+// The same with zeros after the bytes.
+fn padded_word(bytes: &[u8], at: usize) -> u64
+    requires { ⌜ at ≤ length (now bytes) ⌝ }
+    ensures { λ r. ⌜ r ≡ joined 0 (eight (now (bytes .entry)) at) ⌝ }
 {
-    if at + 8 <= bytes.len() {
-        return word(bytes, at) >> (64 - n);
-    }
-    let w = join8(
+    join8(
         byte_or_zero(bytes, at),
         byte_or_zero(bytes, at + 1),
         byte_or_zero(bytes, at + 2),
@@ -103,8 +100,27 @@ pub fn short_word(bytes: &[u8], at: usize, n: usize) -> u64
         byte_or_zero(bytes, at + 5),
         byte_or_zero(bytes, at + 6),
         byte_or_zero(bytes, at + 7),
-    );
-    w >> (64 - n)
+    )
+}
+
+// The same: of a whole word, or of zeros after the bytes where the slice ends before a whole word does.
+fn word_or_padded(bytes: &[u8], at: usize) -> u64
+    requires { ⌜ at ≤ length (now bytes) ⌝ }
+    ensures { λ r. ⌜ r ≡ joined 0 (eight (now (bytes .entry)) at) ⌝ }
+{
+    if at + 8 <= bytes.len() {
+        word(bytes, at)
+    } else {
+        padded_word(bytes, at)
+    }
+}
+
+// The n bits from byte `at` on, at most 64.
+pub fn short_word(bytes: &[u8], at: usize, n: usize) -> u64
+    requires { ⌜ (1 ≤ n) × (n ≤ 64) × (8 * at + n ≤ 8 * length (now bytes)) ⌝ }
+    ensures { λ r. ⌜ r ≡ field n (bits (now (bytes .entry))) (8 * at) ⌝ }
+{
+    word_or_padded(bytes, at) >> (64 - n)
 }
 
 // Byte `at`.

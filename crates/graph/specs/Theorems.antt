@@ -1,4 +1,5 @@
--- The theorems, for the forest of any list of starts that covers the vertices, and for doubled neighbours too. Each is a citation of a law.
+-- The theorems, for the forest of any list of starts that covers the vertices, and for doubled neighbours too. Each is
+-- a citation of a law.
 use Prim.Native.Nat.{ℕ, suc, _-_, _*_, _+_, _≤_, _<_, min}
 use mathlib.Core.Path.{_≡_}
 use mathlib.Core.Logic.{_⊎_, inr, _↔_}
@@ -18,13 +19,17 @@ use Rattle.graph.specs.Laws.Tree.Climbs.{slot, child-entry}
 use Rattle.graph.specs.Laws.Tree.Ancestors.{ancestor, ancestor-test}
 use Rattle.graph.specs.Laws.Run.Segments.{search-segment}
 use Rattle.graph.specs.Laws.Joined.Reach.{searched-down, joined-chain}
-use Rattle.graph.specs.Laws.Joined.Spanning.{Covers, covers-vertices, Spanning, search-spans, forest-length, number-range, tree-place, ends-related}
+use Rattle.graph.specs.Laws.Joined.Spanning.{Covers, covers-vertices, Spanning, search-spans}
+use Rattle.graph.specs.Laws.Joined.Spanning.{forest-length, number-range, tree-place, ends-related}
 use Rattle.graph.specs.Laws.Joined.Roots.{same-root-joined}
-use Rattle.graph.specs.Laws.Edges.Marks.{child-mark, child-mark-entry, child-mark-first, mark-paired, marked-back, back-once, root-unmarked, parent-mark-first}
+use Rattle.graph.specs.Laws.Edges.Marks.{child-mark, child-mark-entry, child-mark-first, mark-paired}
+use Rattle.graph.specs.Laws.Edges.Marks.{marked-back, back-once, root-unmarked, parent-mark-first}
 use Rattle.graph.specs.Laws.Edges.Children.{marked, marks, marked-length, children-marked}
-use Rattle.graph.specs.Laws.Bridges.Crossings.{bridge-joined, bridge-twin, outside-no-bridge, Crossing, bridge-crossing}
+use Rattle.graph.specs.Laws.Bridges.Crossings.{bridge-joined, bridge-twin, outside-no-bridge}
+use Rattle.graph.specs.Laws.Bridges.Crossings.{Crossing, bridge-crossing}
 use Rattle.graph.specs.Laws.Bridges.Stores.{Stored}
-use Rattle.graph.specs.Laws.Bridges.Lowpoints.{Lows, Lowpoints, bridge-lowpoint, bridge-at-child, bridge-at-parent}
+use Rattle.graph.specs.Laws.Bridges.Lowpoints.{Lows, Lowpoints, bridge-lowpoint}
+use Rattle.graph.specs.Laws.Bridges.Lowpoints.{bridge-at-child, bridge-at-parent}
 use Rattle.graph.specs.Laws.Bridges.Sweep.{Least, sweep-begin, sweep-root, sweep-child}
 use Rattle.graph.specs.Laws.Heads.Sections.{same-head}
 use Rattle.graph.specs.Laws.Loop.Arrays.{Cells, Kept, Enters}
@@ -56,7 +61,9 @@ module _ {g : Blocks} (r : InRange g) {starts : List ℕ} (cov : Covers g starts
   number-in-range = number-range spans
 
   pub vertex-in-range : (k : ℕ) → k < length g → vertexAt (search g all starts) k < length g
-  vertex-in-range k h = spans .within (vertexAt (search g all starts) k) (vertex-entered (search g all starts) k (rw as-many-entries h))
+  vertex-in-range k h =
+      let F = search g all starts in
+      spans .within (vertexAt F k) (vertex-entered F k (rw as-many-entries h))
 
   pub vertex-of-number : (v : ℕ) → v < length g → vertexAt (search g all starts) (number (search g all starts) v) ≡ v
   vertex-of-number v h = vertex-number (spans .whole v h)
@@ -72,56 +79,70 @@ module _ {g : Blocks} (r : InRange g) {starts : List ℕ} (cov : Covers g starts
 
   -- a child mark stands where a child is mentioned first, and each tree edge has one
   pub child-marks : {u j v : ℕ} → Place g u j v
-      → (childMark (search g all starts) u j ≡ true) ↔ ((parent (search g all starts) v ≡ suc u) × (j ≡ position v (block g u) 0))
+      → (childMark (search g all starts) u j ≡ true)
+      ↔ ((parent (search g all starts) v ≡ suc u) × (j ≡ position v (block g u) 0))
   child-marks = child-mark-first spans
 
   pub edge-has-mark : (u v : ℕ) → v < length g → parent (search g all starts) v ≡ suc u
       → (j : ℕ) × Place g u j v × (childMark (search g all starts) u j ≡ true)
-  edge-has-mark u v h e = let m = child-entry (spans .built) (spans .whole v h) e in (slot (search g all starts) v, tree-place spans m, child-mark m)
+  edge-has-mark u v h e =
+      let m = child-entry (spans .built) (spans .whole v h) e in
+      (slot (search g all starts) v, tree-place spans m, child-mark m)
 
   -- in the order of their visits, the children are the child-marked neighbours in listed order, as many as the marks
-  pub children-as-listed : (u : ℕ) → children (search g all starts) u ≡ marked (childMark (search g all starts) u) 0 (block g u)
+  pub children-as-listed : (u : ℕ)
+      → children (search g all starts) u ≡ marked (childMark (search g all starts) u) 0 (block g u)
   children-as-listed = children-marked (spans .built) (spans .order)
 
-  pub children-counted : (u : ℕ) → length (children (search g all starts) u) ≡ marks (childMark (search g all starts) u) 0 (length (block g u))
+  pub children-counted : (u : ℕ)
+      → length (children (search g all starts) u) ≡ marks (childMark (search g all starts) u) 0 (length (block g u))
   children-counted u = rw (children-as-listed u) (marked-length (childMark (search g all starts) u) 0 (block g u))
 
   module _ {h : Blocks} (bal : Balanced g h) where
     -- paired places have the marks together
-    pub marks-at-pairs : {u j v : ℕ} → Place g u j v → parentMark h g (search g all starts) v (pair g h u j) ≡ childMark (search g all starts) u j
+    pub marks-at-pairs : {u j v : ℕ} → Place g u j v
+        → parentMark h g (search g all starts) v (pair g h u j) ≡ childMark (search g all starts) u j
     marks-at-pairs = mark-paired bal (spans .built)
 
     -- a parent mark stands where the parent is mentioned first
     pub parent-marks : {v i u : ℕ} → v < length g → Place h v i u
-        → (parentMark h g (search g all starts) v i ≡ true) ↔ ((parent (search g all starts) v ≡ suc u) × (i ≡ position u (block h v) 0))
+        → (parentMark h g (search g all starts) v i ≡ true)
+        ↔ ((parent (search g all starts) v ≡ suc u) × (i ≡ position u (block h v) 0))
     parent-marks = parent-mark-first spans bal
 
     -- one parent mark at most in a block, and none exactly at a root
-    pub parent-mark-once : {v i k u w : ℕ} → Place h v i u → Place h v k w → parentMark h g (search g all starts) v i ≡ true
-        → parentMark h g (search g all starts) v k ≡ true → i ≡ k
-    parent-mark-once p q e f = back-once bal (spans .built) (marked-back bal (spans .built) p e) (marked-back bal (spans .built) q f)
+    pub parent-mark-once : {v i k u w : ℕ} → Place h v i u → Place h v k w
+        → parentMark h g (search g all starts) v i ≡ true → parentMark h g (search g all starts) v k ≡ true → i ≡ k
+    parent-mark-once p q e f =
+        let b = spans .built in
+        back-once bal b (marked-back bal b p e) (marked-back bal b q f)
 
     pub parent-mark-none : (v : ℕ) → v < length g
-        → (parent (search g all starts) v ≡ 0) ↔ ((i : ℕ) → i < length (block h v) → parentMark h g (search g all starts) v i ≡ false)
+        → (parent (search g all starts) v ≡ 0)
+        ↔ ((i : ℕ) → i < length (block h v) → parentMark h g (search g all starts) v i ≡ false)
     parent-mark-none v l = root-unmarked bal (spans .built) (spans .whole v l)
 
     -- at most n - 1 steps up tell the ancestors
-    pub ancestor-by-steps : {A : Type 0} {x : ℕ} {answer : Bool → A} {next : ℕ → A ⊎ ℕ} → AncestorSteps g h (search g all starts) x answer next
-        → (late : A) (v : ℕ) → v < length g → walk next late (length g - 1) v ≡ answer (ancestor (search g all starts) x v)
+    pub ancestor-by-steps : {A : Type 0} {x : ℕ} {answer : Bool → A} {next : ℕ → A ⊎ ℕ}
+        → AncestorSteps g h (search g all starts) x answer next → (late : A) (v : ℕ) → v < length g
+        → walk next late (length g - 1) v ≡ answer (ancestor (search g all starts) x v)
     ancestor-by-steps = walk-ancestor bal spans
 
   -- the test is the relation
-  pub ancestor-told : (x v : ℕ) → v < length g → (ancestor (search g all starts) x v ≡ true) ↔ Ancestor (search g all starts) x v
+  pub ancestor-told : (x v : ℕ) → v < length g
+      → (ancestor (search g all starts) x v ≡ true) ↔ Ancestor (search g all starts) x v
   ancestor-told x v h = ancestor-test (spans .built) x v (spans .whole v h)
 
--- ---- 3. An arc from an earlier visited vertex to a later one leads to a descendant: for any arcs, also one-way ones, and any starts.
--- So of the two ends of a wire one is an ancestor of the other
+-- ---- 3. An arc from an earlier visited vertex to a later one leads to a descendant: for any arcs, also one-way ones,
+-- and any starts. So of the two ends of a wire one is an ancestor of the other
 
-pub arc-goes-down : {g : Blocks} → InRange g → (ok : PlaceTest) (starts : List ℕ) → ((v : ℕ) → List·Memᴰ v starts → v < length g) → {u j v : ℕ}
-    → Place g u j v → ok u j ≡ true → entered u (search g ok starts) ≡ true → number (search g ok starts) u < number (search g ok starts) v
-    → Ancestor (search g ok starts) u v
+pub arc-goes-down : {g : Blocks} → InRange g → (ok : PlaceTest) (starts : List ℕ)
+    → ((v : ℕ) → List·Memᴰ v starts → v < length g)
+    → {u j v : ℕ} → Place g u j v → ok u j ≡ true → entered u (search g ok starts) ≡ true
+    → number (search g ok starts) u < number (search g ok starts) v → Ancestor (search g ok starts) u v
 arc-goes-down {g} r ok starts h {u} p o i l =
-    searched-down starts (search-segment g ok r starts h) (entered-test u (search g ok starts) i) (record { place = p; allowed = o }) l
+    let seen = entered-test u (search g ok starts) i in
+    searched-down starts (search-segment g ok r starts h) seen (record { place = p; allowed = o }) l
 
 module _ {g : Blocks} (wf : WellFormed g) {starts : List ℕ} (cov : Covers g starts) where
   pub wire-ends : {u j v : ℕ} → Place g u j v → Ancestor (search g all starts) u v ⊎ Ancestor (search g all starts) v u
@@ -129,23 +150,28 @@ module _ {g : Blocks} (wf : WellFormed g) {starts : List ℕ} (cov : Covers g st
 
   -- ---- 4. Two vertices have the same root exactly when they are joined
 
-  pub same-root : (u v : ℕ) → u < length g → v < length g → (rootOf (search g all starts) u ≡ rootOf (search g all starts) v) ↔ Chain g all u v
+  pub same-root : (u v : ℕ) → u < length g → v < length g
+      → (rootOf (search g all starts) u ≡ rootOf (search g all starts) v) ↔ Chain g all u v
   same-root = same-root-joined (spans (wf .in-range) cov) wf
 
-  -- ---- 5. A wire outside the tree is no bridge. The tree wire into c is one exactly when no other wire leaves the descendants of c,
-  -- and exactly when c's lowpoint is its visit number
+  -- ---- 5. A wire outside the tree is no bridge. The tree wire into c is one exactly when no other wire leaves the
+  -- descendants of c, and exactly when c's lowpoint is its visit number
 
-  pub no-bridge-outside : {u j v : ℕ} → Place g u j v → childMark (search g all starts) u j ≡ false → parentMark g g (search g all starts) u j ≡ false
-      → bridge g u j ≡ false
+  pub no-bridge-outside : {u j v : ℕ} → Place g u j v → childMark (search g all starts) u j ≡ false
+      → parentMark g g (search g all starts) u j ≡ false → bridge g u j ≡ false
   no-bridge-outside = outside-no-bridge wf (spans (wf .in-range) cov)
 
   pub bridge-no-crossing : {p j c : ℕ} → Place g p j c → childMark (search g all starts) p j ≡ true
       → (bridge g p j ≡ true) ↔ (Crossing g (search g all starts) p j c → ⊥)
-  bridge-no-crossing p e = bridge-crossing wf (spans (wf .in-range) cov) (child-mark-entry (spans (wf .in-range) cov .built) p .0 e)
+  bridge-no-crossing p e =
+      let t = spans (wf .in-range) cov in
+      bridge-crossing wf t (child-mark-entry (t .built) p .0 e)
 
   pub bridge-by-lowpoint : {t : ℕ → ℕ} → Lowpoints g (search g all starts) t → {p j c : ℕ} → Place g p j c
       → childMark (search g all starts) p j ≡ true → (bridge g p j ≡ true) ↔ (t c ≡ number (search g all starts) c)
-  bridge-by-lowpoint lo p e = bridge-lowpoint wf (spans (wf .in-range) cov) lo (child-mark-entry (spans (wf .in-range) cov .built) p .0 e)
+  bridge-by-lowpoint lo p e =
+      let t = spans (wf .in-range) cov in
+      bridge-lowpoint wf t lo (child-mark-entry (t .built) p .0 e)
 
   -- so the lowpoints tell every mark: the child's own at a child mark, the vertex's at a parent mark
   pub bridge-at-child-mark : {t : ℕ → ℕ} → Lowpoints g (search g all starts) t → {u j v : ℕ} → Place g u j v
@@ -156,28 +182,33 @@ module _ {g : Blocks} (wf : WellFormed g) {starts : List ℕ} (cov : Covers g st
       → parentMark g g (search g all starts) u j ≡ true → eqb (t u) (number (search g all starts) u) ≡ bridge g u j
   bridge-at-parent-mark = bridge-at-parent wf (spans (wf .in-range) cov)
 
-  -- the lowpoints, from the last visited vertex back: at first no child counts, in the end all do, and `Lows g F 0` is `Lowpoints g F`
+  -- the lowpoints, from the last visited vertex back: at first no child counts, in the end all do, and `Lows g F 0` is
+  -- `Lowpoints g F`
   pub sweep-begins : {t : ℕ → ℕ} → ((c : ℕ) → c < length g → Least g (search g all starts) c (length (block g c)) (t c))
       → Lows g (search g all starts) (length g) t
   sweep-begins = sweep-begin (spans (wf .in-range) cov)
 
-  pub sweep-passes-root : {m : ℕ} {t : ℕ → ℕ} → m < length g → parent (search g all starts) (vertexAt (search g all starts) m) ≡ 0
+  pub sweep-passes-root : {m : ℕ} {t : ℕ → ℕ} → m < length g
+      → parent (search g all starts) (vertexAt (search g all starts) m) ≡ 0
       → Lows g (search g all starts) (suc m) t → Lows g (search g all starts) m t
   sweep-passes-root h e lo = sweep-root (spans (wf .in-range) cov) h e lo
 
-  pub sweep-lifts-child : {m u : ℕ} {t t′ : ℕ → ℕ} → m < length g → parent (search g all starts) (vertexAt (search g all starts) m) ≡ suc u
-      → Stored (length g) t t′ u (min (t u) (t (vertexAt (search g all starts) m))) → Lows g (search g all starts) (suc m) t
-      → Lows g (search g all starts) m t′
+  pub sweep-lifts-child : {m u : ℕ} {t t′ : ℕ → ℕ} → m < length g
+      → parent (search g all starts) (vertexAt (search g all starts) m) ≡ suc u
+      → Stored (length g) t t′ u (min (t u) (t (vertexAt (search g all starts) m)))
+      → Lows g (search g all starts) (suc m) t → Lows g (search g all starts) m t′
   sweep-lifts-child h e s lo = sweep-child (spans (wf .in-range) cov) h e s lo
 
   -- ---- 6. Heads are equal exactly when two vertices are joined, and still joined whichever one wire is taken out
 
-  pub same-heads : (u v : ℕ) → u < length g → v < length g → (head g (search g all starts) u ≡ head g (search g all starts) v) ↔ DoublyJoined g u v
+  pub same-heads : (u v : ℕ) → u < length g → v < length g
+      → (head g (search g all starts) u ≡ head g (search g all starts) v) ↔ DoublyJoined g u v
   same-heads = same-head wf (spans (wf .in-range) cov)
 
   -- so other starts give the same groups
   pub same-groups : {others : List ℕ} → Covers g others → (u v : ℕ) → u < length g → v < length g
-      → (head g (search g all starts) u ≡ head g (search g all starts) v) ↔ (head g (search g all others) u ≡ head g (search g all others) v)
+      → (head g (search g all starts) u ≡ head g (search g all starts) v)
+      ↔ (head g (search g all others) u ≡ head g (search g all others) v)
   same-groups o u v hu hv =
       let s = same-heads u v hu hv in
       let t = same-head wf (spans (wf .in-range) o) u v hu hv in
@@ -190,14 +221,17 @@ module _ {g : Blocks} (wf : WellFormed g) {starts : List ℕ} (cov : Covers g st
 
   -- where such a step goes up, both vertices have one head
   pub head-of-step : {A : Type 0} {answer : ℕ → A} {next : ℕ → A ⊎ ℕ} → HeadSteps g (search g all starts) answer next
-      → {v u : ℕ} → v < length g → u < length g → next v ≡ inr u → answer (head g (search g all starts) v) ≡ answer (head g (search g all starts) u)
+      → {v u : ℕ} → v < length g → u < length g → next v ≡ inr u
+      → answer (head g (search g all starts) v) ≡ answer (head g (search g all starts) u)
   head-of-step = rise-head wf (spans (wf .in-range) cov)
 
 -- the test of joined is the relation, and bridge marks stand at both places of a wire or at neither
-pub joined-told : {g : Blocks} → InRange g → (ok : PlaceTest) (u v : ℕ) → u < length g → (joined g ok u v ≡ true) ↔ Chain g ok u v
+pub joined-told : {g : Blocks} → InRange g → (ok : PlaceTest) (u v : ℕ) → u < length g
+    → (joined g ok u v ≡ true) ↔ Chain g ok u v
 joined-told = joined-chain
 
-pub bridge-told : {g : Blocks} → InRange g → {u j v : ℕ} → Place g u j v → (bridge g u j ≡ false) ↔ Chain g (without g u j) u v
+pub bridge-told : {g : Blocks} → InRange g → {u j v : ℕ} → Place g u j v
+    → (bridge g u j ≡ false) ↔ Chain g (without g u j) u v
 bridge-told = bridge-joined
 
 pub bridge-both : {g : Blocks} → WellFormed g → {u j v : ℕ} → Place g u j v → bridge g v (twin g u j) ≡ bridge g u j

@@ -10,13 +10,14 @@ use Rattle.graph.specs.Search.{entered, arcs, run, search, countUp}
 use Rattle.graph.specs.Joined.{without, joined, bridge}
 use Rattle.graph.specs.Forest.{number, childMark, parentMark}
 use Rattle.graph.specs.Walk.{walk}
-use Rattle.record.specs.Record.{terminals, wires, usedBits, recordLength, unary, fieldsFrom, fields, zeros, parts, blocks, layOut, unaryOf, fieldBits, recordBits, recordOf}
-use Rattle.record.specs.Rules.{firstBroken, beginsWithZero, orderR, spareSet}
-use Rattle.adjacency.specs.Places.{anyIn, anyFrom, stray, doubled, oneSided}
+use Rattle.record.specs.Record.{terminals, wires, usedBits, recordLength, unary, fieldsFrom, fields, zeros, parts}
+use Rattle.record.specs.Record.{blocks, layOut, unaryOf, fieldBits, recordBits, recordOf}
+use Rattle.record.specs.Rules.{firstBroken, beginsWithZero, orderR, anyIn, anyFrom, spareSet, stray, doubled, oneSided}
 use Rattle.record.specs.Rules.{placeRules, layoutRules, checkRules}
 use Rattle.record.specs.Answers.{Answer, refused, answered, outcome, otherwise, said}
 use Rattle.record.specs.Operations.{check, otherLength, outOfRange}
-use Rattle.forest.specs.Index.{marksFrom, section, sectionE, sectionP, sectionB, numbers, indexBy, indexOf, markBytes, numberBytes, indexLength}
+use Rattle.forest.specs.Index.{marksFrom, section, sectionE, sectionP, sectionB, numbers, indexBy, indexOf}
+use Rattle.forest.specs.Index.{markBytes, numberBytes, indexLength}
 use Rattle.queries.specs.View.{blockMarks, sectionOf, numberOf}
 use Rattle.queries.specs.Queries.{stepBy, stepUp, headOf, parentOf, childCount, visitOf}
 use Rattle.queries.specs.Operations.{orderQ, head, parent, children, visit}
@@ -46,7 +47,8 @@ loom = (2 ∷ 1 ∷ []) ∷ (0 ∷ 2 ∷ []) ∷ (1 ∷ 3 ∷ 0 ∷ []) ∷ (2 �
 
 abbrev pub sample : List ℕ
 sample =
-    0x00 ∷ 0x30 ∷ 0x00 ∷ 0x59 ∷ 0x22 ∷ 0xA0 ∷ 0x02 ∷ 0x00 ∷ 0x10 ∷ 0x00 ∷ 0x00 ∷ 0x20 ∷ 0x01 ∷ 0x00 ∷ 0x30 ∷ 0x00 ∷ 0x00 ∷ 0x20 ∷ 0x05 ∷ 0x00 ∷ 0x40 ∷ []
+    0x00 ∷ 0x30 ∷ 0x00 ∷ 0x59 ∷ 0x22 ∷ 0xA0 ∷ 0x02 ∷ 0x00 ∷ 0x10 ∷ 0x00
+    ∷ 0x00 ∷ 0x20 ∷ 0x01 ∷ 0x00 ∷ 0x30 ∷ 0x00 ∷ 0x00 ∷ 0x20 ∷ 0x05 ∷ 0x00 ∷ 0x40 ∷ []
 
 abbrev pub empty : List ℕ
 empty = 0x00 ∷ 0x00 ∷ 0x00 ∷ 0x00 ∷ []
@@ -58,7 +60,8 @@ abbrev pub wire : List ℕ
 wire = 0x00 ∷ 0x10 ∷ 0x00 ∷ 0x1A ∷ 0x00 ∷ 0x10 ∷ 0x00 ∷ []
 
 abbrev pub sampleIndex : List ℕ
-sampleIndex = 0x41 ∷ 0x84 ∷ 0x04 ∷ 0x51 ∷ 0x00 ∷ 0x95 ∷ 0x00 ∷ 0x00 ∷ 0x02 ∷ 0x00 ∷ 0x10 ∷ 0x03 ∷ 0x00 ∷ 0x40 ∷ 0x05 ∷ []
+sampleIndex =
+    0x41 ∷ 0x84 ∷ 0x04 ∷ 0x51 ∷ 0x00 ∷ 0x95 ∷ 0x00 ∷ 0x00 ∷ 0x02 ∷ 0x00 ∷ 0x10 ∷ 0x03 ∷ 0x00 ∷ 0x40 ∷ 0x05 ∷ []
 
 -- the columns of the sample's listing
 abbrev pub sampleTable : Columns
@@ -98,5 +101,11 @@ lines a b c =
     ∷ []
 
 pub as-stated : (a b c : ℕ) → map computed (lines a b c) ≡ lines a b c
-unfolding toBits bits string count onesAt select value field packed pack mentions position pair entered arcs run search countUp without joined bridge number childMark parentMark walk terminals wires usedBits recordLength unary fieldsFrom fields zeros parts blocks layOut unaryOf fieldBits recordBits recordOf firstBroken beginsWithZero orderR anyIn anyFrom spareSet stray doubled oneSided placeRules layoutRules checkRules outcome otherwise check otherLength outOfRange marksFrom section sectionE sectionP sectionB numbers indexBy markBytes numberBytes indexLength blockMarks sectionOf numberOf stepBy stepUp headOf orderQ head flatten visit visitOf parent parentOf children childCount said answersOf tableOf
+unfolding toBits bits string count onesAt select value field packed pack mentions position pair entered arcs run
+    search countUp without joined bridge number childMark parentMark walk terminals wires usedBits recordLength
+    unary fieldsFrom fields zeros parts blocks layOut unaryOf fieldBits recordBits recordOf firstBroken
+    beginsWithZero orderR anyIn anyFrom spareSet stray doubled oneSided placeRules layoutRules checkRules
+    outcome otherwise check otherLength outOfRange marksFrom section sectionE sectionP sectionB numbers indexBy
+    markBytes numberBytes indexLength blockMarks sectionOf numberOf stepBy stepUp headOf orderQ head flatten
+    visit visitOf parent parentOf children childCount said answersOf tableOf
 as-stated a b c = refl

@@ -3,8 +3,10 @@ use mathlib.Core.Path.{_≡_}
 use mathlib.Core.Bool.{Bool, true, false}
 use mathlib.Core.List.{List}
 use mathlib.Core.Logic.{_⊎_, inl, inr}
-use Prim.Native.Nat.{ℕ, suc, _≤_, _<_}
-use lib.ListN.{length}
+use Prim.Native.Nat.{ℕ, suc, _+_, _≤_, _<_}
+use lib.ListN.{length, getD}
+use Rattle.record.specs.Record.{unary}
+use Rattle.record.specs.Starts.{startsOf}
 use Rattle.record.specs.Answers.{Answer, refused, answered}
 use Rattle.record.specs.Steps.{Sound}
 use Rattle.forest.specs.Index.{indexLength}
@@ -31,6 +33,11 @@ pub record Beside (bytes index : List ℕ) (n m : ℕ) : Type 0 where
 pub record Ranged (n k : ℕ) : Type 0 where
   pub some : 0 < k
   pub upto : k ≤ n
+
+-- the fields of the block of vertex u are those from a on and before b
+pub record FieldsOf (bytes : List ℕ) (u a b : ℕ) : Type 0 where
+  pub from : a ≡ getD (startsOf (unary bytes)) u 0
+  pub to : b ≡ getD (startsOf (unary bytes)) (u + 1) 0
 
 -- a step, as the definitions name it
 abbrev pub stepOf : Step → Queries.Step

@@ -97,7 +97,7 @@ pub fn climb_head(bytes: &[u8], index: &[u8], n: usize, m: usize, starts: &[u16]
     ensures { λ r. ⌜ terminal r ≡ headOf (viewBy n m (now (bytes .entry)) (now (index .entry))) v ⌝ }
 {
     let mut u = v;
-    let mut left = n - 1;
+    let mut left = n;
     while 0 < left {
         match head_move(bytes, index, n, m, starts, u) {
             Move::Refuse => {
@@ -112,11 +112,7 @@ pub fn climb_head(bytes: &[u8], index: &[u8], n: usize, m: usize, starts: &[u16]
         }
         left -= 1;
     }
-    match head_move(bytes, index, n, m, starts, u) {
-        Move::Refuse => Found::Refused(Refusal::BadIndex),
-        Move::Here => Found::Terminal(Vertex(u + 1)),
-        Move::Up(_) => Found::Refused(Refusal::BadIndex),
-    }
+    Found::Refused(Refusal::BadIndex)
 }
 
 // The step of Ancestor from vertex u: x is compared first.
@@ -158,7 +154,7 @@ pub fn climb_ancestor(
     ensures { λ r. ⌜ related r ≡ ancestorOf (viewBy n m (now (bytes .entry)) (now (index .entry))) x v ⌝ }
 {
     let mut u = v;
-    let mut left = n - 1;
+    let mut left = n;
     while 0 < left {
         match ancestor_turn(bytes, index, n, m, starts, x, u) {
             Turn::Refuse => {
@@ -176,10 +172,5 @@ pub fn climb_ancestor(
         }
         left -= 1;
     }
-    match ancestor_turn(bytes, index, n, m, starts, x, u) {
-        Turn::Refuse => Related::Refused(Refusal::BadIndex),
-        Turn::Yes => Related::Yes,
-        Turn::No => Related::No,
-        Turn::Up(_) => Related::Refused(Refusal::BadIndex),
-    }
+    Related::Refused(Refusal::BadIndex)
 }

@@ -1,12 +1,13 @@
 // Questions about the block of one terminal.
 ghost use mathlib.Core.Path.{_≡_};
 ghost use mathlib.Core.List.{[], _∷_};
-ghost use Prim.Native.Nat.{_-_};
+ghost use Prim.Native.Nat.{_-_, _<_};
 ghost use Rattle.record.specs.Answers.{triedThen};
+ghost use Rattle.record.specs.Steps.{Sound};
 ghost use Rattle.queries.specs.View.{viewBy};
 ghost use Rattle.queries.specs.Queries.{parentOf, childCount, childOf, pastCount};
 ghost use Rattle.queries.specs.Answers.{above, terminal};
-ghost use Rattle.queries.specs.Steps.{Beside, Ranged};
+ghost use Rattle.queries.specs.Steps.{Beside, Ranged, FieldsOf};
 use super::Above;
 use super::Found;
 use super::climbs::Step;
@@ -14,16 +15,32 @@ use record::Refusal;
 use record::Vertex;
 use record::starts::span_of;
 
+// The fields of a block: those from `from` on and before `to`.
+struct Fields {
+    from: usize,
+    to: usize,
+}
+
+// The fields of the block of vertex u.
+fn fields_of(bytes: &[u8], n: usize, m: usize, u: usize) -> Fields
+    requires { ⌜ (Sound (now bytes) n m) × (u < n) ⌝ }
+    ensures { λ r. ⌜ FieldsOf (now (bytes .entry)) u (r .from) (r .to) ⌝ }
+{
+    let s = span_of(bytes, n, m, u);
+    Fields {
+        from: s.from - (u + 1),
+        to: s.to - (u + 1),
+    }
+}
+
 // Its parent.
 pub fn parent_in(bytes: &[u8], index: &[u8], n: usize, m: usize, v: Vertex) -> Above
     requires { ⌜ (Beside (now bytes) (now index) n m) × (Ranged n (v .0)) ⌝ }
     ensures { λ r. ⌜ above r ≡ parentOf (viewBy n m (now (bytes .entry)) (now (index .entry))) (v .0 - 1) ⌝ }
 {
     let u = v.0 - 1;
-    let s = span_of(bytes, n, m, u);
-    let a = s.from - (u + 1);
-    let b = s.to - (u + 1);
-    match super::climbs::step_up(bytes, index, n, m, u, a, b) {
+    let s = fields_of(bytes, n, m, u);
+    match super::climbs::step_up(bytes, index, n, m, u, s.from, s.to) {
         Step::Stuck => Above::Refused(Refusal::BadIndex),
         Step::Top => Above::Root,
         Step::Rise(r) => {
@@ -39,10 +56,8 @@ pub fn children_in(bytes: &[u8], index: &[u8], n: usize, m: usize, v: Vertex) ->
     ensures { λ r. ⌜ r ≡ childCount (viewBy n m (now (bytes .entry)) (now (index .entry))) (v .0 - 1) ⌝ }
 {
     let u = v.0 - 1;
-    let s = span_of(bytes, n, m, u);
-    let a = s.from - (u + 1);
-    let b = s.to - (u + 1);
-    super::blocks::count_children(index, n, m, a + u + 1, b - a)
+    let s = fields_of(bytes, n, m, u);
+    super::blocks::count_children(index, n, m, s.from + u + 1, s.to - s.from)
 }
 
 // Its j-th child: 13, and then 12.
@@ -59,10 +74,9 @@ pub fn child_in(bytes: &[u8], index: &[u8], n: usize, m: usize, v: Vertex, j: us
         return Found::Refused(Refusal::NoChild);
     }
     let u = v.0 - 1;
-    let s = span_of(bytes, n, m, u);
-    let a = s.from - (u + 1);
-    let b = s.to - (u + 1);
-    let p = super::blocks::nth_child(index, n, m, a + u + 1, b - a, j);
+    let s = fields_of(bytes, n, m, u);
+    let a = s.from;
+    let p = super::blocks::nth_child(index, n, m, a + u + 1, s.to - a, j);
     if p == 0 {
         return Found::Refused(Refusal::NoChild);
     }

@@ -21,19 +21,11 @@ same-test a b x y f g = go (decLe a b) (decLe x y)
 returns : tie.Need-returns
 returns c = sym (lt-leb (c .before .args .start + c .before .args .places) (8 * c .before .args .len) (omega arith))
 
-add-need : tie.Need-add-need
-add-need c = search needs
-
-add-need-2 : tie.Need-add-need-2
-add-need-2 c = search needs
-
-add-need-3 : tie.Need-add-need-3
-add-need-3 c = search needs
-
 returns-2 : tie.Need-returns-2
 returns-2 c =
     let a = c .before .args in
-    same-test (a .places / 8 + (a .places % 8 + a .start % 8 + 7) / 8) (a .len - a .start / 8) (a .start + a .places) (8 * a .len) (λ h. omega arith) (λ h. omega arith)
+    let need = a .places / 8 + (a .places % 8 + a .start % 8 + 7) / 8 in
+    same-test need (a .len - a .start / 8) (a .start + a .places) (8 * a .len) (λ h. omega arith) (λ h. omega arith)
 
 pub holds-spec : {M : Type 1} → statement M
-holds-spec = tie.close (tie.spec returns add-need add-need-2 add-need-3 returns-2)
+holds-spec = tie.close (tie.spec returns (λ c. search needs) (λ c. search needs) (λ c. search needs) returns-2)

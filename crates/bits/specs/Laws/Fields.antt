@@ -39,7 +39,8 @@ cut s r w k e =
     let whole : take r s ++ (f ++ l) ≡ s = rw (take-append-drop w (drop r s)) (take-append-drop r s) in
     sym (rw (whole, lf, ll) at (between (take r s) f l))
 
-inner : (w r n : ℕ) (s : List Bool) → r + w ≤ n → take w (drop r (take n s)) ≡ take w (drop r s)
+-- w bits of the first n
+pub inner : (w r n : ℕ) (s : List Bool) → r + w ≤ n → take w (drop r (take n s)) ≡ take w (drop r s)
 inner w zero n s h = take-take w n s (omega arith)
 inner w (suc r) zero s h = absurd (omega arith)
 inner w (suc r) (suc n) [] h = refl
@@ -74,13 +75,16 @@ field-back s g r w h =
     rw (e, div-one (field (r + w) s g)) at (field-inside s g r w 0 (omega arith))
 
 -- bits after a field's end do not matter
-pub field-append : (w : ℕ) (s t : List Bool) (start : ℕ) → start + w ≤ length s → field w (s ++ t) start ≡ field w s start
+pub field-append : (w : ℕ) (s t : List Bool) (start : ℕ) → start + w ≤ length s
+    → field w (s ++ t) start ≡ field w s start
 unfolding field
 field-append w s t start h =
-    ap value (ap (take w) (drop-append-le start s t (omega arith)) ∙ take-append-le w (drop start s) t (simp length-drop (omega arith)))
+    ap value (ap (take w) (drop-append-le start s t (omega arith))
+    ∙ take-append-le w (drop start s) t (simp length-drop (omega arith)))
 
 -- a field that was laid between other bits reads back
-pub field-laid : (w v : ℕ) (s t : List Bool) (start : ℕ) → length s ≡ start → field w (s ++ (toBits w v ++ t)) start ≡ v % 2 ^ w
+pub field-laid : (w v : ℕ) (s t : List Bool) (start : ℕ) → length s ≡ start
+    → field w (s ++ (toBits w v ++ t)) start ≡ v % 2 ^ w
 unfolding field
 field-laid w v s t start e =
     ap (λ (x : List Bool). value (take w x)) (drop-at s (toBits w v ++ t) start e)

@@ -22,7 +22,13 @@ module _ (w v : ℕ) (s : List Bool) (start : ℕ) (h : start + w ≤ length s) 
   pub length-put : length (put w v s start) ≡ length s
   unfolding put
   length-put =
-      rw (length-append (take start s) (toBits w v ++ drop (start + w) s), length-append (toBits w v) (drop (start + w) s), front, length-toBits w v, length-drop (start + w) s)
+      rw (
+        length-append (take start s) (toBits w v ++ drop (start + w) s),
+        length-append (toBits w v) (drop (start + w) s),
+        front,
+        length-toBits w v,
+        length-drop (start + w) s,
+      )
       (omega arith)
 
   -- the field reads back
@@ -89,9 +95,11 @@ put-number r w k x v hv =
     let y : ℕ = hi * 2 ^ k + x % 2 ^ k in
     let above : y / 2 ^ k ≡ hi = high hi k (mod-lt x (pow-pos k)) in
     let top : y / 2 ^ (w + k) ≡ x / 2 ^ (w + k) =
-    ap (λ (n : ℕ). y / 2 ^ n) (add-comm w k) ∙ sym (shr-shr y k w) ∙ ap (λ (n : ℕ). n / 2 ^ w) above ∙ high (x / 2 ^ (w + k)) w hv in
+    ap (λ (n : ℕ). y / 2 ^ n) (add-comm w k) ∙ sym (shr-shr y k w) ∙ ap (λ (n : ℕ). n / 2 ^ w) above
+    ∙ high (x / 2 ^ (w + k)) w hv in
     let front : take r (toBits (r + (w + k)) x) ≡ toBits r (x / 2 ^ (w + k)) =
-    ap (take r) (toBits-append r (w + k) x) ∙ take-at (toBits r (x / 2 ^ (w + k))) (toBits (w + k) x) r (length-toBits r (x / 2 ^ (w + k))) in
+    ap (take r) (toBits-append r (w + k) x)
+    ∙ take-at (toBits r (x / 2 ^ (w + k))) (toBits (w + k) x) r (length-toBits r (x / 2 ^ (w + k))) in
     let back : drop (r + w) (toBits (r + (w + k)) x) ≡ toBits k x =
     ap (λ (n : ℕ). drop (r + w) (toBits n x)) (sym (add-assoc r w k)) ∙ ap (drop (r + w)) (toBits-append (r + w) k x)
     ∙ drop-at (toBits (r + w) (x / 2 ^ k)) (toBits k x) (r + w) (length-toBits (r + w) (x / 2 ^ k)) in
@@ -108,7 +116,8 @@ unfolding put
 put-part w v s g n r h k =
     let u : List Bool = take n (drop g s) in
     let lu : length u ≡ n = length-take-le n (drop g s) (simp length-drop (omega arith)) in
-    let front : take g s ++ take r u ≡ take (g + r) s = rw (take-take r n (drop g s) (omega arith)) (sym (take-add g r s)) in
+    let front : take g s ++ take r u ≡ take (g + r) s =
+    rw (take-take r n (drop g s) (omega arith)) (sym (take-add g r s)) in
     let back : drop (r + w) u ++ drop (g + n) s ≡ drop (g + r + w) s =
     rw (
       ← drop-drop n g s,

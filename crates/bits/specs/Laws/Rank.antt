@@ -1,9 +1,9 @@
 -- Counting ones: in a number, in a field, in bytes, and up to a place of a bit string.
 use mathlib.Core.Path.{_≡_, refl, sym, ap, ap₂, _∙_}
 use mathlib.Core.Bool.{Bool, true, false}
-use mathlib.Core.List.{List, [], _∷_, _++_, reverse, reverseAux}
-use Prim.Native.Nat.{ℕ, _+_, _*_, _≤_, _<_}
-use native.Mathlib.Nat.{le-trans, min-le-left}
+use mathlib.Core.List.{List, [], _∷_, _++_}
+use Prim.Native.Nat.{ℕ, _+_, _*_, _^_, _≤_, _<_}
+use native.Mathlib.Nat.{le-trans, min-le-left, mod-eq-of-lt}
 use native.Mathlib.Omega.{arith}
 use borrow.Author.Tests.{le-leb}
 use lib.Dec.{leb}
@@ -11,7 +11,7 @@ use lib.Count.{ones, ones-cat}
 use lib.ListN.{length, take, drop, getD, length-take, length-drop, take-append-drop}
 use lib.Seq.{take-add, take-all, take-nil, take-take, length-take-le, getD-take, getD-drop}
 use Rattle.bits.specs.Bits.{toBits, bits, string, count, rank, bit, value, field}
-use Rattle.bits.specs.Laws.Digits.{value-lt}
+use Rattle.bits.specs.Laws.Digits.{value-lt, value-toBits}
 use Rattle.bits.specs.Laws.Bytes.{length-bits}
 
 -- ---- the ones of a list of bits
@@ -56,25 +56,14 @@ pub ones-field : (w : ℕ) (s : List Bool) (start : ℕ) → ones (field w s sta
 unfolding field
 ones-field w s start = ones-value (take w (drop start s))
 
--- ---- the ones of bytes, whose order is no matter
-
-count-byte : (b : ℕ) (bytes : List ℕ) → count (bits (b ∷ bytes)) ≡ count (toBits 8 b) + count (bits bytes)
-unfolding bits
-count-byte b bytes = count-append (toBits 8 b) (bits bytes)
-
-count-onto : (xs ys : List ℕ) → count (bits (reverseAux xs ys)) ≡ count (bits xs) + count (bits ys)
-unfolding bits count
-count-onto [] ys = omega arith
-count-onto (b ∷ xs) ys = count-onto xs (b ∷ ys) ∙ omega (arith, count-byte b xs, count-byte b ys)
-
-pub count-reverse : (bytes : List ℕ) → count (bits (reverse bytes)) ≡ count (bits bytes)
-unfolding bits count
-count-reverse bytes = omega (arith, count-onto bytes [])
+pub count-toBits : (n x : ℕ) → x < 2 ^ n → count (toBits n x) ≡ ones x
+count-toBits n x h = sym (ones-value (toBits n x)) ∙ ap ones (value-toBits n x ∙ mod-eq-of-lt h)
 
 -- ---- a string that its bytes hold, and one that they don't
 
 module _ (bytes : List ℕ) (start places : ℕ) where
-  pub held : leb (start + places) (8 * length bytes) ≡ true → string bytes start places ≡ take places (drop start (bits bytes))
+  pub held : leb (start + places) (8 * length bytes) ≡ true
+      → string bytes start places ≡ take places (drop start (bits bytes))
   unfolding string
   held h = rw (h, string)
 
@@ -129,7 +118,8 @@ module _ (bytes : List ℕ) (start places p : ℕ) where
   pub rank-beyond : leb (start + places) (8 * length bytes) ≡ true → places ≤ p
       → rank (string bytes start places) p ≡ count (take places (drop start (bits bytes)))
   rank-beyond h l =
-      rank-past (string bytes start places) p (le-trans (length-string bytes start places) l) ∙ ap count (held bytes start places h)
+      rank-past (string bytes start places) p (le-trans (length-string bytes start places) l)
+      ∙ ap count (held bytes start places h)
 
   pub rank-not-held : leb (start + places) (8 * length bytes) ≡ false → rank (string bytes start places) p ≡ 0
   unfolding rank count

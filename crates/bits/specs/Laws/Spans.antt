@@ -1,6 +1,7 @@
 -- The ones between two bits, the k-th one from a bit on, and the spans that these give.
 --   between-count   the ones between two bits are those of the bits from the one to the other
---   between-none    no ones stand in no bits
+--   between-past    no ones stand in no bits
+--   between-none    nor from a bit on and before it
 --   between-add     the ones up to a bit, and those from it on
 --   between-field   the ones of a field
 --   between-zero    a field 0 has none
@@ -12,6 +13,7 @@
 --   top-first       the highest one of a field's number is the field's first
 --   next-first      the first one of a part is the next
 --   next-later      as is the first one after zeros
+--   next-none       where the next is the end, there is none
 --   next-end        where there is none, the end is
 --   spanned         what lies between a one and the next
 --   lone-none       a string without a one
@@ -45,11 +47,14 @@ module _ (s : List Bool) where
       let e : a + n - a ≡ n = omega arith in
       ap (λ (m : ℕ). count (take m (drop a s))) e
 
-  pub between-none : (a : ℕ) → onesBetween s a a ≡ 0
+  pub between-past : (a b : ℕ) → b ≤ a → onesBetween s a b ≡ 0
   unfolding onesBetween count
-  between-none a =
-      let e : a - a ≡ 0 = omega arith in
+  between-past a b h =
+      let e : b - a ≡ 0 = omega arith in
       ap (λ (m : ℕ). count (take m (drop a s))) e
+
+  pub between-none : (a : ℕ) → onesBetween s a a ≡ 0
+  between-none a = between-past a a (omega arith)
 
   pub between-add : (a b c : ℕ) → a ≤ b → b ≤ c → onesBetween s a c ≡ onesBetween s a b + onesBetween s b c
   unfolding onesBetween
@@ -206,16 +211,23 @@ next-later {s} {c} {b} {q} a h z n =
     let e = between-add s a c q h f in
     record { after = omega arith; upto = n .upto; none = omega arith; one = n .one }
 
+-- where it is the end, there are no ones
+pub next-none : {s : List Bool} {a b q : ℕ} → NextAt s a b q → b ≤ q → onesBetween s a b ≡ 0
+next-none {s} {a} {b} {q} n h =
+    let u = n .upto in
+    let d : b ≡ q = omega arith in
+    ap (onesBetween s a) d ∙ n .none
+
 pub next-end : {s : List Bool} (a b : ℕ) → a ≤ b → onesBetween s a b ≡ 0 → NextAt s a b b
 next-end a b h z = record { after = h; upto = omega arith; none = z; one = λ k. absurd (omega arith) }
 
-next-some : (s : List Bool) (k : ℕ) → k < count s → nextOne s k ≡ select s (k + 1) - 1
+nextOne-some : (s : List Bool) (k : ℕ) → k < count s → nextOne s k ≡ select s (k + 1) - 1
 unfolding nextOne
-next-some s k h = rw (lt-ltb k (count s) h, nextOne, add-one k)
+nextOne-some s k h = rw (lt-ltb k (count s) h, nextOne, add-one k)
 
-next-none : (s : List Bool) (k : ℕ) → count s ≤ k → nextOne s k ≡ length s
+nextOne-none : (s : List Bool) (k : ℕ) → count s ≤ k → nextOne s k ≡ length s
 unfolding nextOne
-next-none s k h = rw (le-ltb k (count s) h, nextOne)
+nextOne-none s k h = rw (le-ltb k (count s) h, nextOne)
 
 module _ (s : List Bool) (a n : ℕ) (h : a + n ≤ length s) where
   all-ones : count (take n (drop a s)) ≡ onesBetween s a (a + n)
@@ -233,13 +245,13 @@ module _ (s : List Bool) (a n : ℕ) (h : a + n ≤ length s) where
           let p = one-past o (omega arith) in
           let d = between-add s a (q + 1) (a + n) (omega arith) l in
           let r = select-of-one s a n h o (omega arith) in
-          next-some (take n (drop a s)) k (omega arith) ∙ omega arith
+          nextOne-some (take n (drop a s)) k (omega arith) ∙ omega arith
       go (no l) =
           let c = all-ones in
           let d : a + n ≡ q = omega arith in
           let x = ap (onesBetween s a) d in
           let y = length-part s a n h in
-          next-none (take n (drop a s)) k (omega arith) ∙ omega arith
+          nextOne-none (take n (drop a s)) k (omega arith) ∙ omega arith
 
   pub spanned : {k q m : ℕ} → OneAt s a q k → q < a + n → NextAt s (q + 1) (a + n) m
       → SpanOf (take n (drop a s)) k (q + 1 - a) (m - a)
@@ -259,15 +271,12 @@ module _ (s : List Bool) (a n : ℕ) (h : a + n ≤ length s) where
   pub lone-none : onesBetween s a (a + n) ≡ 0 → LoneOf (take n (drop a s)) Lone.None
   lone-none e = all-ones ∙ e
 
-  pub lone-one : {q : ℕ} → OneAt s a q 1 → q < a + n → onesBetween s (q + 1) (a + n) ≡ 0
+  pub lone-one : {q : ℕ} → OneAt s a q 1 → q < a + n → onesBetween s a (a + n) ≡ 1
       → LoneOf (take n (drop a s)) (Lone.At (q - a))
-  lone-one {q} o l z =
+  lone-one {q} o l e =
       let f = o .after in
-      let c = all-ones in
-      let p = one-past o (omega arith) in
-      let e = between-add s a (q + 1) (a + n) (omega arith) (omega arith) in
       let r = select-of-one s a n h o l in
-      (omega arith, omega arith)
+      (all-ones ∙ e, omega arith)
 
   pub lone-more : 1 < onesBetween s a (a + n) → LoneOf (take n (drop a s)) Lone.More
   lone-more k = let c = all-ones in omega arith

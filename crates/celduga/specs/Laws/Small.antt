@@ -30,7 +30,8 @@ use Rattle.record.specs.Laws.Told.{untold}
 use Rattle.record.specs.Laws.Spans.{span-ends, span-size}
 use Rattle.forest.specs.Laws.Sections.{length-each}
 use Rattle.queries.specs.View.{View, viewOf, blockMarks, sectionOf}
-use Rattle.queries.specs.Queries.{Step, stuck, top, rise, stepUp, parentBy, parentOf, headBy, headNext, headOf, childCount, vertexOr, childOf, visitOf, found, visitedOf}
+use Rattle.queries.specs.Queries.{Step, stuck, top, rise, stepUp, parentBy, parentOf, headBy, headNext, headOf}
+use Rattle.queries.specs.Queries.{childCount, vertexOr, childOf, visitOf, found, visitedOf}
 use Rattle.queries.specs.Operations.{orderQ, parent, head, children, childRules, child, visit, visited}
 use Rattle.queries.specs.Laws.Asked.{Asked, asked, order-numbered-q}
 use Rattle.queries.specs.Laws.Inside.{Inside, step-inside}
@@ -106,7 +107,8 @@ data Climbs (b : ℕ) : Answer ℕ ⊎ ℕ → Type 0 where
   stop : {a : Answer ℕ} → Small a → Climbs b (inl a)
   up : {p : ℕ} → p < b → Climbs b (inr p)
 
-walk-small : (next : ℕ → Answer ℕ ⊎ ℕ) (b : ℕ) → ((u : ℕ) → u < b → Climbs b (next u)) → (k u : ℕ) → u < b → Small (walk next (refused 12) k u)
+walk-small : (next : ℕ → Answer ℕ ⊎ ℕ) (b : ℕ) → ((u : ℕ) → u < b → Climbs b (next u))
+    → (k u : ℕ) → u < b → Small (walk next (refused 12) k u)
 unfolding walk
 walk-small next b each zero u h = last (next u) (each u h)
   where
@@ -120,7 +122,8 @@ walk-small next b each (suc k) u h = on (λ p l. walk-small next b each k p l) (
     on more (inl a) (stop s) = s
     on more (inr p) (up l) = more p l
 
-head-by : (w : View) → length (w .graph) ≤ 4096 → (u : ℕ) → u < length (w .graph) → (s : Step) → Inside (w .graph) s → Climbs (length (w .graph)) (headBy w u s)
+head-by : (w : View) → length (w .graph) ≤ 4096 → (u : ℕ) → u < length (w .graph) → (s : Step) → Inside (w .graph) s
+    → Climbs (length (w .graph)) (headBy w u s)
 head-by w l u h stuck i = stop none
 head-by w l u h top i = stop (value (suc u) (omega arith))
 head-by w l u h (rise j p) i = go (told (getD (w .marksB u) j false))
@@ -141,7 +144,8 @@ module _ (bytes index : List ℕ) where
   here : (v : ℕ) → firstBroken (orderQ bytes index v) ≡ 0 → Asked bytes index v (terminals bytes) (wires bytes)
   here v k = asked bytes index v {s = sizesOf bytes} (untold (sizesOf bytes) k)
 
-  vertices : (v : ℕ) → firstBroken (orderQ bytes index v) ≡ 0 → (length (blocks bytes) ≤ 4096) × (v - 1 < length (blocks bytes))
+  vertices : (v : ℕ) → firstBroken (orderQ bytes index v) ≡ 0
+      → (length (blocks bytes) ≤ 4096) × (v - 1 < length (blocks bytes))
   vertices v k =
       let q = here v k in
       let s = q .beside .sound in
@@ -153,15 +157,22 @@ module _ (bytes index : List ℕ) where
 
   pub parent-small : (v : ℕ) → SmallParent (parent bytes index v)
   unfolding parent parentOf stepUp
-  parent-small v = then-small (orderQ bytes index v) (parentOf w (v - 1)) (λ k.
-      parent-by (blocks bytes) (vertices v k .0) (stepUp (blocks bytes) (w .marksP) (v - 1)) (step-inside (blocks bytes) (v - 1) (count (w .marksP (v - 1))) (select (w .marksP (v - 1)) 1 - 1)))
+  parent-small v = then-small (orderQ bytes index v) (parentOf w (v - 1)) (λ k. (
+      let marks = w .marksP (v - 1) in
+      let i = step-inside (blocks bytes) (v - 1) (count marks) (select marks 1 - 1) in
+      parent-by (blocks bytes) (vertices v k .0) (stepUp (blocks bytes) (w .marksP) (v - 1)) i
+      ))
 
   pub head-small : (v : ℕ) → Small (head bytes index v)
   unfolding head headOf stepUp
   head-small v = then-small (orderQ bytes index v) (headOf w (v - 1)) (λ k. (
       let (l, h) = vertices v k in
-      walk-small (headNext w) (length (blocks bytes)) (λ u i. head-by w l u i (stepUp (blocks bytes) (w .marksP) u) (step-inside (blocks bytes) u (count (w .marksP u)) (select (w .marksP u) 1 - 1)))
-      (length (blocks bytes) - 1) (v - 1) h
+      let g = blocks bytes in
+      walk-small (headNext w) (length g) (λ u i. (
+      let marks = w .marksP u in
+      let inside = step-inside g u (count marks) (select marks 1 - 1) in
+      head-by w l u i (stepUp g (w .marksP) u) inside
+      )) (length g - 1) (v - 1) h
       ))
 
   pub children-small : (v : ℕ) → Small (children bytes index v)
@@ -171,19 +182,25 @@ module _ (bytes index : List ℕ) where
       let a = q .ranged .some in
       let b = q .ranged .upto in
       let c = count-le (w .marksE (v - 1)) in
-      let d = length-take (length (block (blocks bytes) (v - 1))) (drop (select (unary bytes) (suc (v - 1))) (sectionOf (terminals bytes) (wires bytes) index 0)) in
+      let start = select (unary bytes) (suc (v - 1)) in
+      let marks = drop start (sectionOf (terminals bytes) (wires bytes) index 0) in
+      let d = length-take (length (block (blocks bytes) (v - 1))) marks in
       let e = block-small (q .beside .sound) {u = v - 1} (omega arith) in
       value (childCount w (v - 1)) (omega arith)
       ))
 
   pub child-small : (v j : ℕ) → Small (child bytes index v j)
   unfolding child childRules childOf
-  child-small v j = then-small (childRules bytes index v j) (childOf w (v - 1) j) (λ k.
-      vertex-small w (vertices v (both-kept (order-numbered-q bytes index v) _ k .0) .0) (target (blocks bytes) (v - 1) (select (w .marksE (v - 1)) j - 1)))
+  child-small v j = then-small (childRules bytes index v j) (childOf w (v - 1) j) (λ k. (
+      let (l, h) = vertices v (both-kept (order-numbered-q bytes index v) _ k .0) in
+      vertex-small w l (target (blocks bytes) (v - 1) (select (w .marksE (v - 1)) j - 1))
+      ))
 
   pub visit-small : (v : ℕ) → Small (visit bytes index v)
   unfolding visit visitOf
-  visit-small v = then-small (orderQ bytes index v) (visitOf w (v - 1)) (λ k. vertex-small w (vertices v k .0) (w .stored (v - 1)))
+  visit-small v =
+      then-small (orderQ bytes index v) (visitOf w (v - 1))
+      (λ k. vertex-small w (vertices v k .0) (w .stored (v - 1)))
 
   pub visited-small : (i : ℕ) → Small (visited bytes index i)
   unfolding visited visitedOf

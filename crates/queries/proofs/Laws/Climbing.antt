@@ -22,7 +22,8 @@ use Rattle.record.specs.Steps.{Sound}
 use Rattle.record.specs.Laws.Layout.{starts-count}
 use Rattle.record.specs.Laws.Sounded.{sound-shaped, sound-vertices}
 use Rattle.queries.specs.View.{View, viewBy, blockMarks, sectionOf}
-use Rattle.queries.specs.Queries.{Step, stuck, top, rise, stepBy, stepUp, headBy, headNext, headOf, ancestorBy, ancestorNext, ancestorOf}
+use Rattle.queries.specs.Queries.{Step, stuck, top, rise, stepBy, stepUp}
+use Rattle.queries.specs.Queries.{headBy, headNext, headOf, ancestorBy, ancestorNext, ancestorOf}
 use Rattle.queries.specs.Steps.{Beside}
 use Rattle.queries.specs.Laws.Inside.{Inside, step-inside}
 use Rattle.queries.proofs.Laws.Ones.{part-length, part-bit}
@@ -38,19 +39,33 @@ same-side e = cc
 
 -- ---- a climb
 
+-- what so many steps that are left say
+abbrev pub climb : {A : Type 0} → (ℕ → A ⊎ ℕ) → A → ℕ → ℕ → A
+climb next late zero u = late
+climb next late (suc k) u = walk next late k u
+
 module _ {A : Type 0} (next : ℕ → A ⊎ ℕ) (late : A) {final : A} where
-  pub climb-stop : (left u : ℕ) {a : A} → inl a ≡ next u → walk next late left u ≡ final → a ≡ final
-  climb-stop left u e w = sym (walk-stop next late left (sym e)) ∙ w
+  climb-begin : (n u : ℕ) → 0 < n → walk next late (n - 1) u ≡ final → climb next late n u ≡ final
+  climb-begin zero u h w = absurd (omega arith)
+  climb-begin (suc k) u h w =
+      let z : k ≡ suc k - 1 = omega arith in
+      ap (λ (x : ℕ). walk next late x u) z ∙ w
 
-  pub climb-on : (left u : ℕ) {p : ℕ} → 0 < left → inr p ≡ next u → walk next late left u ≡ final → walk next late (left - 1) p ≡ final
+  pub climb-stop : (left u : ℕ) {a : A} → 0 < left → inl a ≡ next u → climb next late left u ≡ final → a ≡ final
+  climb-stop zero u h e w = absurd (omega arith)
+  climb-stop (suc k) u h e w = sym (walk-stop next late k (sym e)) ∙ w
+
+  pub climb-on : (left u : ℕ) {p : ℕ} → 0 < left → inr p ≡ next u → climb next late left u ≡ final
+      → climb next late (left - 1) p ≡ final
   climb-on zero u h e w = absurd (omega arith)
-  climb-on (suc k) u {p} h e w =
-      let z : suc k - 1 ≡ k = omega arith in
-      ap (λ (x : ℕ). walk next late x p) z ∙ sym (walk-up next late k (sym e)) ∙ w
+  climb-on (suc zero) u h e w = sym (walk-late next late (sym e)) ∙ w
+  climb-on (suc (suc k)) u {p} h e w =
+      let z : suc (suc k) - 1 ≡ suc k = omega arith in
+      ap (λ (x : ℕ). climb next late x p) z ∙ sym (walk-up next late k (sym e)) ∙ w
 
-  pub climb-late : (left u : ℕ) {p : ℕ} → left ≤ 0 → inr p ≡ next u → walk next late left u ≡ final → late ≡ final
-  climb-late zero u h e w = sym (walk-late next late (sym e)) ∙ w
-  climb-late (suc k) u h e w = absurd (omega arith)
+  pub climb-late : (left u : ℕ) → left ≤ 0 → climb next late left u ≡ final → late ≡ final
+  climb-late zero u h w = w
+  climb-late (suc k) u h w = absurd (omega arith)
 
 -- ---- where a step leads
 
@@ -63,7 +78,10 @@ tag (rise j p) = 2
 one-risen : (g : Blocks) (u i : ℕ) {j p : ℕ} → Told (ltb (target g u i) (length g)) → rise j p ≡ stepBy g u 1 i → j ≡ i
 unfolding stepBy tag
 one-risen g u i {j} {p} (pass e) h = let f : rise j p ≡ rise i (target g u i) = h ∙ rw (stepBy, e) in cc
-one-risen g u i {j} {p} (fail e) h = let f : rise j p ≡ stuck = h ∙ rw (stepBy, e) in let z = ap tag f in absurd (omega arith)
+one-risen g u i {j} {p} (fail e) h =
+    let f : rise j p ≡ stuck = h ∙ rw (stepBy, e) in
+    let z = ap tag f in
+    absurd (omega arith)
 
 risen : (g : Blocks) (u c i : ℕ) {j p : ℕ} → rise j p ≡ stepBy g u c i → (c ≡ 1) × (j ≡ i)
 unfolding stepBy tag
@@ -71,30 +89,37 @@ risen g u zero i h = let z = ap tag h in absurd (omega arith)
 risen g u (suc zero) i h = (refl, one-risen g u i (told (ltb (target g u i) (length g))) h)
 risen g u (suc (suc c)) i h = let z = ap tag h in absurd (omega arith)
 
-module _ {bytes : List ℕ} {n m u a b : ℕ} (o : Sound bytes n m) (h : u < n) (ea : a ≡ getD (startsOf (unary bytes)) u 0) (eb : b ≡ getD (startsOf (unary bytes)) (u + 1) 0)
-    (s : List Bool) (l : length s ≡ n + 2 * m) {j p : ℕ} (e : rise j p ≡ stepUp (blocks bytes) (blockMarks bytes s) u) where
+module _ {bytes : List ℕ} {n m u a b : ℕ} (o : Sound bytes n m) (h : u < n)
+    (ea : a ≡ getD (startsOf (unary bytes)) u 0) (eb : b ≡ getD (startsOf (unary bytes)) (u + 1) 0)
+    (s : List Bool) (l : length s ≡ n + 2 * m)
+    {j p : ℕ} (e : rise j p ≡ stepUp (blocks bytes) (blockMarks bytes s) u) where
   rise-at : j < b - a
   unfolding stepUp
   rise-at =
       let x : List Bool = blockMarks bytes s u in
       let (c, i) = risen (blocks bytes) u (count x) (select x 1 - 1) e in
       let (q, r) = block-bounds o h ea eb in
-      let d : length x ≡ b - a = ap length (block-marks o h ea eb s) ∙ part-length s (a + u + 1) (b - a) (omega arith) in
+      let d : length x ≡ b - a =
+      ap length (block-marks o h ea eb s) ∙ part-length s (a + u + 1) (b - a) (omega arith) in
       let (y, z) = select-bounds x 1 (omega arith) (omega arith) in
       omega arith
 
   pub rise-to : p < n
   unfolding stepUp
   rise-to =
-      let i : Inside (blocks bytes) (rise j p) = subst (Inside (blocks bytes)) (sym e) (step-inside (blocks bytes) u (count (blockMarks bytes s u)) (select (blockMarks bytes s u) 1 - 1)) in
+      let x = blockMarks bytes s u in
+      let i : Inside (blocks bytes) (rise j p) =
+      subst (Inside (blocks bytes)) (sym e) (step-inside (blocks bytes) u (count x) (select x 1 - 1)) in
       let k = sound-vertices o in
       omega arith
 
   -- the bit of another section at that position
-  rise-bit : (t : List Bool) → length t ≡ n + 2 * m → getD t (a + u + 1 + j) false ≡ getD (blockMarks bytes t u) j false
+  rise-bit : (t : List Bool) → length t ≡ n + 2 * m
+      → getD t (a + u + 1 + j) false ≡ getD (blockMarks bytes t u) j false
   rise-bit t k =
       let (q, r) = block-bounds o h ea eb in
-      sym (ap (λ (x : List Bool). getD x j false) (block-marks o h ea eb t) ∙ part-bit t (a + u + 1) (b - a) (omega arith) j rise-at)
+      sym (ap (λ (x : List Bool). getD x j false) (block-marks o h ea eb t)
+      ∙ part-bit t (a + u + 1) (b - a) (omega arith) j rise-at)
 
 -- ---- Head
 
@@ -116,11 +141,13 @@ module _ (w : View) (u : ℕ) where
 
   pub head-inside : {p : ℕ} → inr p ≡ headNext w u → p < length (w .graph)
   unfolding stepUp
-  head-inside e = by-head (stepUp (w .graph) (w .marksP) u) (step-inside (w .graph) u (count (w .marksP u)) (select (w .marksP u) 1 - 1)) e
+  head-inside e =
+      let i = step-inside (w .graph) u (count (w .marksP u)) (select (w .marksP u) 1 - 1) in
+      by-head (stepUp (w .graph) (w .marksP) u) i e
 
 -- from the numbers that the code reads
-module _ {bytes index starts : List ℕ} {n m u a b : ℕ} (o : Beside bytes index n m) (es : starts ≡ startsOf (unary bytes)) (h : u < n)
-    (ga : a ≡ getD starts u 0) (gb : b ≡ getD starts (u + 1) 0) where
+module _ {bytes index starts : List ℕ} {n m u a b : ℕ} (o : Beside bytes index n m)
+    (es : starts ≡ startsOf (unary bytes)) (h : u < n) (ga : a ≡ getD starts u 0) (gb : b ≡ getD starts (u + 1) 0) where
   pub block-from : a ≡ getD (startsOf (unary bytes)) u 0
   block-from = ga ∙ ap (λ (l : List ℕ). getD l u 0) es
 
@@ -136,13 +163,19 @@ module _ {bytes index starts : List ℕ} {n m u a b : ℕ} (o : Beside bytes ind
 
     module _ {on : Bool} (is : on ≡ getD (sectionOf n m index 2) (a + u + 1 + j) false) where
       the-bit : on ≡ getD (blockMarks bytes (sectionOf n m index 2) u) j false
-      the-bit = is ∙ rise-bit (o .sound) h block-from block-to (sectionOf n m index 1) (length-P (o .framed)) e (sectionOf n m index 2) (length-B (o .framed))
+      the-bit =
+          is ∙ rise-bit (o .sound) h block-from block-to (sectionOf n m index 1) (length-P (o .framed)) e
+          (sectionOf n m index 2) (length-B (o .framed))
 
       pub head-stops : on ≡ true → inl (answered (suc u)) ≡ headNext (viewBy n m bytes index) u
-      head-stops t = head-here (viewBy n m bytes index) u j p (sym the-bit ∙ t) ∙ ap (headBy (viewBy n m bytes index) u) e
+      head-stops t =
+          let w = viewBy n m bytes index in
+          head-here w u j p (sym the-bit ∙ t) ∙ ap (headBy w u) e
 
       pub head-rises : on ≡ false → inr p ≡ headNext (viewBy n m bytes index) u
-      head-rises t = head-up (viewBy n m bytes index) u j p (sym the-bit ∙ t) ∙ ap (headBy (viewBy n m bytes index) u) e
+      head-rises t =
+          let w = viewBy n m bytes index in
+          head-up w u j p (sym the-bit ∙ t) ∙ ap (headBy w u) e
 
 -- ---- Ancestor
 
@@ -165,7 +198,8 @@ module _ (w : View) (x u : ℕ) where
       go : Dec (x ≡ u) → p < length (w .graph)
       go (yes q) = absurd (sides-apart (e ∙ sym (ancestor-yes q)))
       go (no d) =
-          by-ancestor (stepUp (w .graph) (w .marksP) u) (step-inside (w .graph) u (count (w .marksP u)) (select (w .marksP u) 1 - 1)) (e ∙ sym (ancestor-step d))
+          let i = step-inside (w .graph) u (count (w .marksP u)) (select (w .marksP u) 1 - 1) in
+          by-ancestor (stepUp (w .graph) (w .marksP) u) i (e ∙ sym (ancestor-step d))
 
 -- ---- the begin of a climb, for a record that passed order R
 
@@ -174,11 +208,18 @@ module _ {bytes : List ℕ} {n m : ℕ} (o : Sound bytes n m) where
   pub starts-long : {starts : List ℕ} → starts ≡ startsOf (unary bytes) → length starts ≡ n + 1
   starts-long e = ap length e ∙ starts-count (sound-shaped o) ∙ ap (λ (x : ℕ). x + 1) (sym (o .is-n))
 
-  module _ (index : List ℕ) (v : ℕ) where
-    pub head-begin : walk (headNext (viewBy n m bytes index)) (refused 12) (n - 1) v ≡ headOf (viewBy n m bytes index) v
+  module _ (index : List ℕ) (v : ℕ) (h : v < n) where
+    pub head-begin : climb (headNext (viewBy n m bytes index)) (refused 12) n v ≡ headOf (viewBy n m bytes index) v
     unfolding headOf
-    head-begin = ap (λ (x : ℕ). walk (headNext (viewBy n m bytes index)) (refused 12) (x - 1) v) (sym (sound-vertices o))
+    head-begin =
+        let next = headNext (viewBy n m bytes index) in
+        climb-begin next (refused 12) n v (omega arith)
+        (ap (λ (k : ℕ). walk next (refused 12) (k - 1) v) (sym (sound-vertices o)))
 
-    pub ancestor-begin : (x : ℕ) → walk (ancestorNext (viewBy n m bytes index) x) (refused 12) (n - 1) v ≡ ancestorOf (viewBy n m bytes index) x v
+    pub ancestor-begin : (x : ℕ)
+        → climb (ancestorNext (viewBy n m bytes index) x) (refused 12) n v ≡ ancestorOf (viewBy n m bytes index) x v
     unfolding ancestorOf
-    ancestor-begin x = ap (λ (k : ℕ). walk (ancestorNext (viewBy n m bytes index) x) (refused 12) (k - 1) v) (sym (sound-vertices o))
+    ancestor-begin x =
+        let next = ancestorNext (viewBy n m bytes index) x in
+        climb-begin next (refused 12) n v (omega arith)
+        (ap (λ (k : ℕ). walk next (refused 12) (k - 1) v) (sym (sound-vertices o)))

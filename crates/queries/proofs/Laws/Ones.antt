@@ -5,7 +5,7 @@
 --   count-next   the ones up to the next bit
 --   found-here   the one that makes j of them is the j-th
 --   found-none   fewer than j are there
-use mathlib.Core.Path.{_≡_, refl, sym, ap, ap₂, _∙_}
+use mathlib.Core.Path.{_≡_, sym, ap, _∙_}
 use mathlib.Core.Bool.{Bool, true, false}
 use mathlib.Core.List.{List, [], _∷_}
 use Prim.Native.Nat.{ℕ, _+_, _≤_, _<_}

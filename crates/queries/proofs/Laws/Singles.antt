@@ -7,8 +7,8 @@
 --   unmet-more        so has u
 --   met               u has it
 --   unmet-end         no vertex has it
---   start-less        a start, by the place of its one in D
---   block-room        the numbers of a block are small
+--   Room              the numbers of a block are small
+--   block-room        so they are
 --   children-counted  Children
 --   Chosen            what Child reads
 --   few-told          a child past the count is refused
@@ -41,7 +41,7 @@ use Rattle.forest.specs.Laws.Sections.{length-each, each-at}
 use Rattle.queries.specs.View.{View, viewBy, blockMarks, sectionOf}
 use Rattle.queries.specs.Queries.{childCount, vertexOr, childOf, pastCount, visitOf, found, visitedOf}
 use Rattle.queries.proofs.Laws.Ones.{positive, part-length, count-next, found-here, found-none}
-use Rattle.queries.specs.Steps.{Beside, Ranged}
+use Rattle.queries.specs.Steps.{Beside, Ranged, FieldsOf}
 use Rattle.queries.specs.Laws.Asked.{vertex-in}
 use Rattle.queries.specs.Laws.Framed.{length-E}
 use Rattle.queries.proofs.Laws.Stepping.{block-bounds, block-marks, block-neighbour, below-end}
@@ -155,17 +155,15 @@ module _ (w : View) where
 
 -- ---- the block of u, whose fields are those from a up to b
 
--- a start, by the place of its one in D
-pub start-less : (k : ℕ) {x s : ℕ} → x ≡ s + k → x - k ≡ s
-start-less k e = omega arith
-
 -- its numbers are small
+abbrev pub Room : ℕ → ℕ → ℕ → ℕ → ℕ → Type 0
+Room n m u a b = (a ≤ b) × (b ≤ 2 * m) × (u < n) × (n ≤ 4096) × (m ≤ 16384)
+
 pub block-room : {bytes index : List ℕ} {n m v a b : ℕ} → Beside bytes index n m → Ranged n v
-    → a ≡ getD (startsOf (unary bytes)) (v - 1) 0 → b ≡ getD (startsOf (unary bytes)) (v - 1 + 1) 0
-    → (a ≤ b) × (b ≤ 2 * m) × (v - 1 < n) × (n ≤ 4096) × (m ≤ 16384)
-block-room o r ea eb =
+    → FieldsOf bytes (v - 1) a b → Room n m (v - 1) a b
+block-room o r f =
     let h = vertex-in r in
-    let (x, y) = block-bounds (o .sound) h ea eb in
+    let (x, y) = block-bounds (o .sound) h (f .from) (f .to) in
     (x, y, h, o .framed .n-fits, o .framed .m-fits)
 
 module _ {bytes : List ℕ} {n m u a b : ℕ} (index : List ℕ) (o : Sound bytes n m) (h : u < n)
@@ -179,8 +177,7 @@ module _ {bytes : List ℕ} {n m u a b : ℕ} (index : List ℕ) (o : Sound byte
 pub record Chosen (bytes index : List ℕ) (n m v a b j p : ℕ) : Type 0 where
   pub beside : Beside bytes index n m
   pub ranged : Ranged n v
-  pub from : a ≡ getD (startsOf (unary bytes)) (v - 1) 0
-  pub to : b ≡ getD (startsOf (unary bytes)) (v - 1 + 1) 0
+  pub fields : FieldsOf bytes (v - 1) a b
   pub asked : j ≡ 0 → ⊥
   pub chosen : p ≡ select (take (b - a) (drop (a + (v - 1) + 1) (sectionOf n m index 0))) j
 
@@ -196,13 +193,14 @@ module _ {bytes index : List ℕ} {n m v a b j p : ℕ} (c : Chosen bytes index 
 
   place : p ≡ select (blockMarks bytes (sectionOf n m index 0) u) j
   place =
-      let marks = block-marks (c .beside .sound) inside (c .from) (c .to) (sectionOf n m index 0) in
+      let f = c .fields in
+      let marks = block-marks (c .beside .sound) inside (f .from) (f .to) (sectionOf n m index 0) in
       c .chosen ∙ ap (λ (t : List Bool). select t j) (sym marks)
 
   fits : p ≤ b - a
   fits =
       let k = length-E (c .beside .framed) in
-      let (r, l, h, y, z) = block-room (c .beside) (c .ranged) (c .from) (c .to) in
+      let (r, l, h, y, z) = block-room (c .beside) (c .ranged) (c .fields) in
       let x = part-length (sectionOf n m index 0) (a + u + 1) (b - a) (omega arith) in
       let q = select-le (take (b - a) (drop (a + u + 1) (sectionOf n m index 0))) j in
       let o = c .chosen in
@@ -214,15 +212,16 @@ module _ {bytes index : List ℕ} {n m v a b j p : ℕ} (c : Chosen bytes index 
   module _ (some : p ≡ 0 → ⊥) where
     pub child-room : (a + (p - 1) < 2 * m) × (m ≤ 16384)
     child-room =
-        let (r, l, h, y, z) = block-room (c .beside) (c .ranged) (c .from) (c .to) in
+        let (r, l, h, y, z) = block-room (c .beside) (c .ranged) (c .fields) in
         (below-end r l fits some, c .beside .framed .m-fits)
 
     module _ {t : ℕ} (et : t ≡ getD (fields bytes) (a + (p - 1)) 0) where
       leads : target (blocks bytes) u (p - 1) ≡ t
       leads =
-          let f = fits in
+          let i = fits in
           let q = positive some in
-          block-neighbour (c .beside .sound) inside (c .from) (c .to) (p - 1) (omega arith) ∙ sym et
+          let f = c .fields in
+          block-neighbour (c .beside .sound) inside (f .from) (f .to) (p - 1) (omega arith) ∙ sym et
 
       vertices : length (blocks bytes) ≡ n
       vertices = sound-vertices (c .beside .sound)

@@ -9,15 +9,16 @@
 --   length-E        E has n + 2·m bits
 --   length-P        so has P
 --   length-B        so has B
-use mathlib.Core.Path.{_≡_, refl, sym, ap, _∙_}
-use mathlib.Core.Bool.{Bool, false}
-use mathlib.Core.List.{List, [], _∷_}
+use mathlib.Core.Path.{_≡_, sym, ap, _∙_}
+use mathlib.Core.Bool.{false}
+use mathlib.Core.List.{List}
 use Prim.Native.Nat.{ℕ, zero, suc, _+_, _*_, _≤_, _<_}
 use native.Mathlib.Omega.{arith}
 use borrow.Author.Tests.{le-leb}
 use lib.ListN.{length, getD, take, drop}
-use lib.Seq.{take-take, drop-drop, getD-take, getD-drop}
+use lib.Seq.{drop-drop, getD-take, getD-drop}
 use Rattle.bits.specs.Bits.{bits, string, field}
+use Rattle.bits.specs.Laws.Fields.{inner}
 use Rattle.bits.specs.Laws.Rank.{held, length-held}
 use Rattle.forest.specs.Index.{markBytes, numberBytes, indexLength}
 use Rattle.record.specs.Laws.Fields.{fieldsFrom-at}
@@ -29,13 +30,6 @@ pub section-at : (index : List ℕ) (n m k at bit : ℕ) → at ≡ k * markByte
     → getD (string index (8 * at) (n + 2 * m)) bit false ≡ getD (sectionOf n m index k) bit false
 unfolding sectionOf
 section-at index n m k at bit e = ap (λ (x : ℕ). getD (string index (8 * x) (n + 2 * m)) bit false) e
-
--- w bits of the first n
-inner : (w r n : ℕ) (s : List Bool) → r + w ≤ n → take w (drop r (take n s)) ≡ take w (drop r s)
-inner w zero n s h = take-take w n s (omega arith)
-inner w (suc r) zero s h = absurd (omega arith)
-inner w (suc r) (suc n) [] h = refl
-inner w (suc r) (suc n) (b ∷ s) h = inner w r n s (omega arith)
 
 -- one of the three sections
 one-of-three : (k b : ℕ) → k < 3 → k * b ≤ 2 * b

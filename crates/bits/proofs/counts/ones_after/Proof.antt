@@ -9,17 +9,13 @@ use Rattle.bits.specs.Bits.{bits, count}
 use Rattle.bits.proofs.counts.ones_after.Statement.{statement}
 use Rattle.bits.proofs.counts.ones_after.Tie as tie
 
-add-tail : tie.Need-add-tail
-add-tail c = search needs
-
-tail-requires : tie.Need-tail-requires
-tail-requires c κs = search needs
-
 ones-before-requires : tie.Need-ones-before-requires
 ones-before-requires c κs = rw (c .tail .ensures, length-drop) (omega arith)
 
 returns : tie.Need-returns
-returns c = c .ones-before .ensures ∙ ap (λ (t : List ℕ). count (take (c .before .before .before .args .n) (bits t))) (c .before .tail .ensures)
+returns c =
+    let n = c .before .before .before .args .n in
+    c .ones-before .ensures ∙ ap (λ (t : List ℕ). count (take n (bits t))) (c .before .tail .ensures)
 
 pub ones-after-spec : {M : Type 1} → statement M
-ones-after-spec = tie.close (tie.spec add-tail tail-requires ones-before-requires returns)
+ones-after-spec = tie.close (tie.spec (λ c. search needs) (λ c κs. search needs) ones-before-requires returns)

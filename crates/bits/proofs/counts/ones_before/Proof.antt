@@ -18,20 +18,10 @@ loop-holds : tie.Need-loop-holds Inv-loop μ-loop
 unfolding count
 loop-holds c = (omega arith, refl)
 
-mul-word-ones : tie.Need-mul-word-ones Inv-loop μ-loop
-mul-word-ones c = omega arith
-
-word-ones-requires : tie.Need-word-ones-requires Inv-loop μ-loop
-word-ones-requires c κs = omega arith
-
 add-sum : tie.Need-add-sum Inv-loop μ-loop
-add-sum c = omega (arith, count-take-le (64 * c .before .before .loop .i) (bits (c .before .before .before .before .args .bytes .now)))
-
-add-i : tie.Need-add-i Inv-loop μ-loop
-add-i c = omega arith
-
-loop-less : tie.Need-loop-less Inv-loop μ-loop
-loop-less c = omega arith
+add-sum c =
+    let s = bits (c .before .before .before .before .args .bytes .now) in
+    omega (arith, count-take-le (64 * c .before .before .loop .i) s)
 
 loop-again : tie.Need-loop-again Inv-loop μ-loop
 loop-again c =
@@ -40,23 +30,21 @@ loop-again c =
     let e : 64 * (i + 1) ≡ 64 * i + 64 = omega arith in
     let f : 8 * (8 * i) ≡ 64 * i = omega arith in (
       omega arith,
-      ap₂ _+_ (c .before .before .loop .inv .1) (c .word-ones .ensures .0 ∙ ap (λ (n : ℕ). count (take 64 (drop n s))) f)
+      ap₂ _+_ (c .before .before .loop .inv .1)
+          (c .word-ones .ensures .0 ∙ ap (λ (n : ℕ). count (take 64 (drop n s))) f)
           ∙ sym (ap (λ (n : ℕ). count (take n s)) e ∙ count-take-add s (64 * i) 64),
     )
 
 returns : tie.Need-returns Inv-loop μ-loop
 returns c =
-    let e : 64 * c .before .before .loop .i ≡ c .before .before .before .before .args .n = omega arith in
-    c .before .before .loop .inv .1 ∙ ap (λ (n : ℕ). count (take n (bits (c .before .before .before .before .args .bytes .now)))) e
-
-mul-short-ones : tie.Need-mul-short-ones Inv-loop μ-loop
-mul-short-ones c = omega arith
-
-short-ones-requires : tie.Need-short-ones-requires Inv-loop μ-loop
-short-ones-requires c κs = omega arith
+    let a = c .before .before .before .before .args in
+    let e : 64 * c .before .before .loop .i ≡ a .n = omega arith in
+    c .before .before .loop .inv .1 ∙ ap (λ (n : ℕ). count (take n (bits (a .bytes .now)))) e
 
 add-result : tie.Need-add-result Inv-loop μ-loop
-add-result c = omega (arith, count-take-le (64 * c .before .before .before .loop .i) (bits (c .before .before .before .before .before .args .bytes .now)))
+add-result c =
+    let s = bits (c .before .before .before .before .before .args .bytes .now) in
+    omega (arith, count-take-le (64 * c .before .before .before .loop .i) s)
 
 returns-2 : tie.Need-returns-2 Inv-loop μ-loop
 returns-2 c =
@@ -72,18 +60,5 @@ returns-2 c =
 pub ones-before-spec : {M : Type 1} → statement M
 ones-before-spec =
     tie.close
-    (tie.spec
-    Inv-loop
-    μ-loop
-    loop-holds
-    mul-word-ones
-    word-ones-requires
-    add-sum
-    add-i
-    loop-less
-    loop-again
-    returns
-    mul-short-ones
-    short-ones-requires
-    add-result
-    returns-2)
+    (tie.spec Inv-loop μ-loop loop-holds (λ c. omega arith) (λ c κs. omega arith) add-sum (λ c. omega arith)
+    (λ c. omega arith) loop-again returns (λ c. omega arith) (λ c κs. omega arith) add-result returns-2)

@@ -1,6 +1,6 @@
 -- `counts::ones_from` meets its contract, by the laws of a string that starts inside a byte.
-use mathlib.Core.Path.{_∙_, ap, sym}
-use Prim.Native.Nat.{ℕ}
+use mathlib.Core.Path.{_≡_, _∙_, ap, sym}
+use Prim.Native.Nat.{ℕ, _+_}
 use native.Mathlib.Omega.{arith}
 use borrow.Author.Needs.{needs}
 use lib.ListN.{take}
@@ -12,55 +12,39 @@ use Rattle.bits.proofs.counts.ones_from.Tie as tie
 
 returns : tie.Need-returns
 unfolding count
-returns c = sym (ap (λ (n : ℕ). count (take n (from (c .before .before .args .bytes .now) (c .before .before .args .start)))) (c .if1 .taken))
-
-sub-room : tie.Need-sub-room
-sub-room c = search needs
-
-byte-rest-requires : tie.Need-byte-rest-requires
-byte-rest-requires c κs = search needs
-
-shr-ones-of : tie.Need-shr-ones-of
-shr-ones-of c = search needs
-
-ones-of-requires : tie.Need-ones-of-requires
-ones-of-requires c κs = search needs
+returns c =
+    let a = c .before .before .args in
+    sym (ap (λ (n : ℕ). count (take n (from (a .bytes .now) (a .start)))) (c .if1 .taken))
 
 returns-2 : tie.Need-returns-2
-returns-2 c = c .ones-of .ensures .0 ∙ ones-within (c .before .before .byte-rest .ensures) (c .before .before .before .before .before .args .n) (c .before .if2 .taken)
+returns-2 c =
+    let n = c .before .before .before .before .before .args .n in
+    c .ones-of .ensures .0 ∙ ones-within (c .before .before .byte-rest .ensures) n (c .before .if2 .taken)
 
-ones-of-requires-2 : tie.Need-ones-of-requires-2
-ones-of-requires-2 c κs = search needs
+abbrev start : tie.After-ones-after → tie.Start
+start c = c .before .before .before .before .before .before
 
-sub-ones-after : tie.Need-sub-ones-after
-sub-ones-after c = search needs
-
-ones-after-requires : tie.Need-ones-after-requires
-ones-after-requires c κs = search needs
+-- the ones up to the end of the byte, and those after it
+all : (c : tie.After-ones-after)
+    → c .before .ones-of2 .result + c .ones-after .result
+    ≡ count (take (start c .args .n) (from (start c .args .bytes .now) (start c .args .start)))
+all c =
+    let x = c .before .ones-of2 in
+    let y = c .ones-after in
+    ones-beyond (c .before .before .before .byte-rest .ensures) (start c .args .n) (x .result) (y .result) (omega arith)
+    (x .ensures .0) (y .ensures)
 
 add-result : tie.Need-add-result
 add-result c =
-    let n = c .before .before .before .before .before .before .args .n in
-    let bytes = c .before .before .before .before .before .before .args .bytes .now in
-    let start = c .before .before .before .before .before .before .args .start in
-    let s = ones-beyond (c .before .before .before .byte-rest .ensures) n (c .before .ones-of2 .result) (c .ones-after .result) (omega arith) (c .before .ones-of2 .ensures .0) (c .ones-after .ensures) in
-    omega (arith, count-take-le n (from bytes start))
+    let a = start c .args in
+    let s = all c in
+    omega (arith, count-take-le (a .n) (from (a .bytes .now) (a .start)))
 
 returns-3 : tie.Need-returns-3
-returns-3 c = ones-beyond (c .before .before .before .byte-rest .ensures) (c .before .before .before .before .before .before .args .n) (c .before .ones-of2 .result) (c .ones-after .result) (omega arith) (c .before .ones-of2 .ensures .0) (c .ones-after .ensures)
+returns-3 c = all c
 
 pub ones-from-spec : {M : Type 1} → statement M
 ones-from-spec =
     tie.close
-    (tie.spec
-    returns
-    sub-room
-    byte-rest-requires
-    shr-ones-of
-    ones-of-requires
-    returns-2
-    ones-of-requires-2
-    sub-ones-after
-    ones-after-requires
-    add-result
-    returns-3)
+    (tie.spec returns (λ c. search needs) (λ c κs. search needs) (λ c. search needs) (λ c κs. search needs) returns-2
+    (λ c κs. search needs) (λ c. search needs) (λ c κs. search needs) add-result returns-3)

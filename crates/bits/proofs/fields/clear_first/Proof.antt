@@ -5,15 +5,6 @@ use borrow.Author.Needs.{needs}
 use Rattle.bits.proofs.fields.clear_first.Statement.{statement}
 use Rattle.bits.proofs.fields.clear_first.Tie as tie
 
-slice-read-bytes : tie.Need-slice-read-bytes
-slice-read-bytes c = search needs
-
-slice-write-bytes : tie.Need-slice-write-bytes
-slice-write-bytes c = search needs
-
-same-length : tie.Need-same-length
-same-length c = search needs
-
 returns : tie.Need-returns
 returns c =
     let args = c .before .args in
@@ -23,4 +14,4 @@ returns c =
     )
 
 pub clear-first-spec : {M : Type 1} → statement M
-clear-first-spec = tie.close (tie.spec slice-read-bytes slice-write-bytes same-length returns)
+clear-first-spec = tie.close (tie.spec (λ c. search needs) (λ c. search needs) (λ c. search needs) returns)

@@ -15,15 +15,6 @@ use Rattle.bits.proofs.Joined.{field-in-byte}
 use Rattle.bits.proofs.fields.read_bit.Statement.{statement}
 use Rattle.bits.proofs.fields.read_bit.Tie as tie
 
-byte-at-requires : tie.Need-byte-at-requires
-byte-at-requires c κs = search needs
-
-sub-result : tie.Need-sub-result
-sub-result c = search needs
-
-shr-result : tie.Need-shr-result
-shr-result c = search needs
-
 returns : tie.Need-returns
 returns c =
     let bytes = c .before .before .args .bytes .now in
@@ -36,4 +27,4 @@ returns c =
     ap (λ (x : ℕ). eqb x 1) e ∙ eqb-bit (getD s index false)
 
 pub read-bit-spec : {M : Type 1} → statement M
-read-bit-spec = tie.close (tie.spec byte-at-requires sub-result shr-result returns)
+read-bit-spec = tie.close (tie.spec (λ c κs. search needs) (λ c. search needs) (λ c. search needs) returns)

@@ -8,18 +8,6 @@ use borrow.Author.Needs.{needs}
 use Rattle.bits.proofs.fields.read_long.Statement.{statement}
 use Rattle.bits.proofs.fields.read_long.Tie as tie
 
-add-short-word : tie.Need-add-short-word
-add-short-word c = search needs
-
-short-word-requires : tie.Need-short-word-requires
-short-word-requires c κs = search needs
-
-sub-result : tie.Need-sub-result
-sub-result c = search needs
-
-shr-result : tie.Need-shr-result
-shr-result c = search needs
-
 returns : tie.Need-returns
 returns c =
     let args = c .before .before .args in
@@ -30,4 +18,4 @@ returns c =
 
 pub read-long-spec : {M : Type 1} → statement M
 read-long-spec =
-    tie.close (tie.spec add-short-word short-word-requires sub-result shr-result returns)
+    tie.close (tie.spec (λ c. search needs) (λ c κs. search needs) (λ c. search needs) (λ c. search needs) returns)

@@ -5,57 +5,16 @@ use borrow.Author.Needs.{needs}
 use Rattle.bits.proofs.fields.read_two.Statement.{statement}
 use Rattle.bits.proofs.fields.read_two.Tie as tie
 
-shared-slice-read-join : tie.Need-shared-slice-read-join
-shared-slice-read-join c = search needs
-
-join-requires : tie.Need-join-requires
-join-requires c κs = search needs
-
-add-join : tie.Need-add-join
-add-join c = search needs
-
-shared-slice-read-join-2 : tie.Need-shared-slice-read-join-2
-shared-slice-read-join-2 c = search needs
-
-join-requires-2 : tie.Need-join-requires-2
-join-requires-2 c κs = search needs
-
-add-join-2 : tie.Need-add-join-2
-add-join-2 c = search needs
-
-shared-slice-read-join-3 : tie.Need-shared-slice-read-join-3
-shared-slice-read-join-3 c = search needs
-
-join-requires-3 : tie.Need-join-requires-3
-join-requires-3 c κs = search needs
-
-cut12-requires : tie.Need-cut12-requires
-cut12-requires c κs = search needs
-
-cut12-requires-2 : tie.Need-cut12-requires-2
-cut12-requires-2 c κs = search needs
-
 returns : tie.Need-returns
 returns c =
-    let args = c .before .before .before .before .before .before .before .before .before .args in
-    let known = c .before .before .before .before .before .before .before .before .shared-slice-known in
+    let args = c .before .before .before .before .args in
+    let known = c .before .before .before .shared-slice-known in
+    let x = c .before .before .join3 .ensures .0 in
     let a = c .before .cut12 .ensures in
     let b = c .cut122 .ensures in
-    two-in-bytes (args .bytes .now) (args .at) (λ i. known .given i .fits) (omega arith) (omega arith) (a .0) (b .0)
-    (a .1, b .1)
+    two-in-bytes (args .bytes .now) (args .at) (λ i. known .given i .fits) (omega arith) x (a .0) (b .0) (a .1, b .1)
 
 pub read-two-spec : {M : Type 1} → statement M
 read-two-spec =
     tie.close
-    (tie.spec
-    shared-slice-read-join
-    join-requires
-    add-join
-    shared-slice-read-join-2
-    join-requires-2
-    add-join-2
-    shared-slice-read-join-3
-    join-requires-3
-    cut12-requires
-    cut12-requires-2
-    returns)
+    (tie.spec (λ c. search needs) (λ c κs. search needs) (λ c κs. search needs) (λ c κs. search needs) returns)

@@ -7,21 +7,6 @@ use Rattle.bits.proofs.Stored.{replace-masked}
 use Rattle.bits.proofs.fields.replaced.Statement.{statement}
 use Rattle.bits.proofs.fields.replaced.Tie as tie
 
-add-top : tie.Need-add-top
-add-top c = search needs
-
-shr-result : tie.Need-shr-result
-shr-result c = search needs
-
-shl-result : tie.Need-shl-result
-shl-result c = search needs
-
-shl-result-2 : tie.Need-shl-result-2
-shl-result-2 c = search needs
-
-shl-result-3 : tie.Need-shl-result-3
-shl-result-3 c = search needs
-
 sub-result : tie.Need-sub-result
 sub-result c = rw (shifted-one (c .args .low) (omega arith)) (pow-pos (c .args .low))
 
@@ -32,4 +17,6 @@ returns c =
 
 pub replaced-spec : {M : Type 1} → statement M
 replaced-spec =
-    tie.close (tie.spec add-top shr-result shl-result shl-result-2 shl-result-3 sub-result returns)
+    tie.close
+    (tie.spec (λ c. search needs) (λ c. search needs) (λ c. search needs) (λ c. search needs) (λ c. search needs)
+    sub-result returns)

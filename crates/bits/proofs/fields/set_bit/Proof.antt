@@ -5,21 +5,6 @@ use Rattle.bits.proofs.Stored.{write-or}
 use Rattle.bits.proofs.fields.set_bit.Statement.{statement}
 use Rattle.bits.proofs.fields.set_bit.Tie as tie
 
-slice-read-bytes : tie.Need-slice-read-bytes
-slice-read-bytes c = search needs
-
-cast-bytes : tie.Need-cast-bytes
-cast-bytes c = search needs
-
-shr-bytes : tie.Need-shr-bytes
-shr-bytes c = search needs
-
-slice-write-bytes : tie.Need-slice-write-bytes
-slice-write-bytes c = search needs
-
-same-length : tie.Need-same-length
-same-length c = search needs
-
 returns : tie.Need-returns
 returns c =
     let args = c .before .args in (
@@ -30,4 +15,5 @@ returns c =
 pub set-bit-spec : {M : Type 1} → statement M
 set-bit-spec =
     tie.close
-    (tie.spec slice-read-bytes cast-bytes shr-bytes slice-write-bytes same-length returns)
+    (tie.spec (λ c. search needs) (λ c. search needs) (λ c. search needs) (λ c. search needs) (λ c. search needs)
+    returns)

@@ -8,22 +8,10 @@ use borrow.Author.Needs.{needs}
 use Rattle.bits.proofs.spans.halve.Statement.{statement}
 use Rattle.bits.proofs.spans.halve.Tie as tie
 
-shr-bits : tie.Need-shr-bits
-shr-bits c = search needs
-
-shl-bits : tie.Need-shl-bits
-shl-bits c = search needs
-
 sub-bits : tie.Need-sub-bits
 sub-bits c =
     let width = c .before .args .width in
     rw (shifted-one width (omega arith)) (pow-pos width)
-
-sub-left : tie.Need-sub-left
-sub-left c = search needs
-
-add-base : tie.Need-add-base
-add-base c = search needs
 
 returns : tie.Need-returns
 returns c =
@@ -41,4 +29,7 @@ returns-2 c =
     halve-high (a .width) (a .x) (a .k) (a .before) (pre .2) (pre .4) (omega arith)
 
 pub halve-spec : {M : Type 1} → statement M
-halve-spec = tie.close (tie.spec shr-bits shl-bits sub-bits sub-left add-base returns returns-2)
+halve-spec =
+    tie.close
+    (tie.spec (λ c. search needs) (λ c. search needs) sub-bits (λ c. search needs) (λ c. search needs) returns
+    returns-2)

@@ -9,12 +9,6 @@ use borrow.Author.Needs.{needs}
 use Rattle.bits.proofs.spans.ones4.Statement.{statement}
 use Rattle.bits.proofs.spans.ones4.Tie as tie
 
-mul-result : tie.Need-mul-result
-mul-result c = search needs
-
-shr-result : tie.Need-shr-result
-shr-result c = search needs
-
 returns : tie.Need-returns
 returns c =
     let x = c .args .x in
@@ -23,4 +17,4 @@ returns c =
     (e, omega (arith, ones-le 4 x (c .pre)))
 
 pub ones4-spec : {M : Type 1} → statement M
-ones4-spec = tie.close (tie.spec mul-result shr-result returns)
+ones4-spec = tie.close (tie.spec (λ c. search needs) (λ c. search needs) returns)

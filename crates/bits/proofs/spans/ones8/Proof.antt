@@ -5,14 +5,8 @@ use borrow.Author.Needs.{needs}
 use Rattle.bits.proofs.spans.ones8.Statement.{statement}
 use Rattle.bits.proofs.spans.ones8.Tie as tie
 
-ones4-requires : tie.Need-ones4-requires
-ones4-requires c κs = search needs
-
 ones4-requires-2 : tie.Need-ones4-requires-2
 ones4-requires-2 c κs = mask-lt (c .before .args .x) 4
-
-add-result : tie.Need-add-result
-add-result c = search needs
 
 returns : tie.Need-returns
 returns c =
@@ -20,4 +14,4 @@ returns c =
     ones-byte x (c .before .ones4 .ensures .0) (and-mask x 4) (c .ones42 .ensures .0)
 
 pub ones8-spec : {M : Type 1} → statement M
-ones8-spec = tie.close (tie.spec ones4-requires ones4-requires-2 add-result returns)
+ones8-spec = tie.close (tie.spec (λ c κs. search needs) ones4-requires-2 (λ c. search needs) returns)

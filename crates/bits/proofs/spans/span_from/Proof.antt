@@ -46,43 +46,25 @@ next : (c : tie.After-top)
     → (c .top .result < end c) × (begun (worded c) .args .start ≤ end c - 1 - c .top .result)
 next c = span-top (standing (worded c)) (c .top .result) (rest (worded c)) (c .top .ensures .1) (c .top .ensures .2)
 
-add-window-of : tie.Need-add-window-of
-add-window-of c = search needs
-
 window-of-requires : tie.Need-window-of-requires
 window-of-requires c κs =
     let a = c .before .args in
     let e = between-count (bits (a .bytes .now)) (a .start) (a .places) in
     omega arith
 
-in-word-requires : tie.Need-in-word-requires
-in-word-requires c κs = search needs
-
-sub-left : tie.Need-sub-left
-sub-left c = search needs
-
-shl-rest : tie.Need-shl-rest
-shl-rest c = search needs
-
 sub-rest : tie.Need-sub-rest
 sub-rest c =
     let left = 64 - c .in-word .result in
     rw (shifted-one left (omega arith)) (pow-pos left)
 
-add-end : tie.Need-add-end
-add-end c = search needs
+sub-from : tie.Need-sub-from
+sub-from c = let b = span-bounds (standing (c .before .before)) in omega arith
 
-sub-t14 : tie.Need-sub-t14
-sub-t14 c = let b = span-bounds (standing (c .before .before .before)) in omega arith
-
-sub-t15 : tie.Need-sub-t15
-sub-t15 c = let b = span-bounds (standing (c .before .before .before)) in omega arith
+sub-from-2 : tie.Need-sub-from-2
+sub-from-2 c = let b = span-bounds (standing (c .before .before)) in omega arith
 
 sub-t16 : tie.Need-sub-t16
 sub-t16 c = let b = span-bounds (standing (c .before .before .before)) in omega arith
-
-top-requires : tie.Need-top-requires
-top-requires c κs = search needs
 
 sub-t18 : tie.Need-sub-t18
 sub-t18 c = let b = next c in omega arith
@@ -94,21 +76,6 @@ returns : tie.Need-returns
 returns c =
     span-here (standing (worded c)) (c .top .result) (rest (worded c)) (c .top .ensures .1) (c .top .ensures .2)
 
-sub-t9 : tie.Need-sub-t9
-sub-t9 c = let b = span-bounds (standing (c .before .before .before)) in omega arith
-
-sub-t20 : tie.Need-sub-t20
-sub-t20 c = let b = span-bounds (standing (c .before .before .before)) in omega arith
-
-add-next-from : tie.Need-add-next-from
-add-next-from c = search needs
-
-next-from-requires : tie.Need-next-from-requires
-next-from-requires c κs = search needs
-
-sub-t23 : tie.Need-sub-t23
-sub-t23 c = search needs
-
 returns-2 : tie.Need-returns-2
 returns-2 c =
     let w = c .before .before .before .before in
@@ -117,24 +84,6 @@ returns-2 c =
 pub span-from-spec : {M : Type 1} → statement M
 span-from-spec =
     tie.close
-    (tie.spec
-    add-window-of
-    window-of-requires
-    in-word-requires
-    sub-left
-    shl-rest
-    sub-rest
-    add-end
-    sub-t14
-    sub-t15
-    sub-t16
-    top-requires
-    sub-t18
-    sub-t19
-    returns
-    sub-t9
-    sub-t20
-    add-next-from
-    next-from-requires
-    sub-t23
-    returns-2)
+    (tie.spec (λ c. search needs) window-of-requires (λ c κs. search needs) (λ c. search needs) (λ c. search needs)
+    sub-rest (λ c. search needs) sub-from sub-from-2 sub-t16 (λ c κs. search needs) sub-t18 sub-t19 returns
+    (λ c κs. search needs) (λ c. search needs) returns-2)

@@ -3,22 +3,18 @@ use Prim.Native.Nat.{_*_, _<_}
 use native.Mathlib.Omega.{arith}
 use lib.ListN.{length}
 use Rattle.bits.specs.Bits.{bits}
-use Rattle.bits.proofs.Windows.{Opened, window-some, window-here}
-use Rattle.bits.proofs.Windows.{window-before, window-there}
+use Rattle.bits.proofs.Windows.{Opened, window-some, window-here, window-before, window-there}
 use borrow.Author.Needs.{needs}
 use Rattle.bits.proofs.spans.window_of.Statement.{statement}
 use Rattle.bits.proofs.spans.window_of.Tie as tie
 
 abbrev begun : tie.After-ones-of → tie.Start
-begun c = c .before .before .before .before
-
-abbrev parted : tie.After-ones-of → tie.After-part-end
-parted c = c .before .before
+begun c = c .before .before .before
 
 -- the first part, read
 opened : (c : tie.After-ones-of)
     → Opened (bits (begun c .args .bytes .now)) (begun c .args .start) (begun c .args .end) (begun c .args .k)
-    (length (begun c .args .bytes .now)) (parted c .part-end .result) (c .before .read-long .result)
+    (length (begun c .args .bytes .now)) (c .before .part-from .result .width) (c .before .part-from .result .bits)
     (c .ones-of .result)
 opened c =
     let pre = begun c .pre in
@@ -27,81 +23,38 @@ opened c =
       all = pre .1;
       between = pre .2;
       held = pre .3;
-      end = parted c .part-end .ensures;
-      same = c .before .read-long .ensures;
+      part = c .before .part-from .ensures;
       count = c .ones-of .ensures .0;
     }
 
 -- the word that was reached begins before the end
-before : (c : tie.After-skip-from) → 8 * c .skip-from .result .at < begun (c .before .before) .args .end
-before c = window-before (opened (c .before .before)) (c .before .if1 .left) (c .skip-from .ensures)
+before : (c : tie.After-skip-from) → 8 * c .skip-from .result .at < begun (c .before .before .before) .args .end
+before c = window-before (opened (c .before .before .before)) (c .before .before .if1 .left) (c .skip-from .ensures)
 
-part-end-requires : tie.Need-part-end-requires
-part-end-requires c κs = search needs
-
-sub-read-long : tie.Need-sub-read-long
-sub-read-long c = search needs
-
-read-long-requires : tie.Need-read-long-requires
-read-long-requires c κs =
-    let a = c .before .before .args in
-    let pre = c .before .before .pre in
+part-from-requires : tie.Need-part-from-requires
+part-from-requires c κs =
+    let a = c .before .args in
+    let pre = c .before .pre in
     let l = window-some (bits (a .bytes .now)) (a .start) (a .end) (pre .2) (pre .0) (pre .1) in
     omega arith
-
-ones-of-requires : tie.Need-ones-of-requires
-ones-of-requires c κs = search needs
-
-sub-t13 : tie.Need-sub-t13
-sub-t13 c = search needs
 
 returns : tie.Need-returns
 returns c = window-here (opened (c .before)) (c .if1 .taken)
 
-sub-skip-from : tie.Need-sub-skip-from
-sub-skip-from c = search needs
+part-at-requires : tie.Need-part-at-requires
+part-at-requires c κs = let l = before c in omega arith
 
-skip-from-requires : tie.Need-skip-from-requires
-skip-from-requires c κs = search needs
-
-mul-lesser : tie.Need-mul-lesser
-mul-lesser c = let l = before c in omega arith
-
-sub-lesser : tie.Need-sub-lesser
-sub-lesser c = let l = before c in omega arith
-
-lesser-requires : tie.Need-lesser-requires
-lesser-requires c κs = search needs
-
-mul-t11 : tie.Need-mul-t11
-mul-t11 c = let l = before (c .before) in omega arith
-
-short-word-requires : tie.Need-short-word-requires
-short-word-requires c κs = let l = before (c .before) in omega arith
+mul-t10 : tie.Need-mul-t10
+mul-t10 c = let l = before (c .before .before) in omega arith
 
 returns-2 : tie.Need-returns-2
 returns-2 c =
-    let o = opened (c .before .before .before .before) in
-    let more = c .before .before .before .if1 .left in
-    let r = c .before .before .skip-from .ensures in
-    let w = c .before .lesser in
-    window-there o more r (w .result) (w .ensures) (c .short-word .ensures)
+    let r = c .before .before in
+    let o = opened (r .before .before .before) in
+    window-there o (r .before .before .if1 .left) (r .skip-from .ensures) (c .before .part-at .ensures)
 
 pub window-of-spec : {M : Type 1} → statement M
 window-of-spec =
     tie.close
-    (tie.spec
-    part-end-requires
-    sub-read-long
-    read-long-requires
-    ones-of-requires
-    sub-t13
-    returns
-    sub-skip-from
-    skip-from-requires
-    mul-lesser
-    sub-lesser
-    lesser-requires
-    mul-t11
-    short-word-requires
-    returns-2)
+    (tie.spec part-from-requires (λ c κs. search needs) returns (λ c. search needs) (λ c. search needs)
+    (λ c κs. search needs) part-at-requires mul-t10 returns-2)

@@ -10,15 +10,6 @@ use Rattle.bits.proofs.Joined.{field-in-byte, shifted-one}
 use Rattle.bits.proofs.words.byte_rest.Statement.{statement}
 use Rattle.bits.proofs.words.byte_rest.Tie as tie
 
-sub-room : tie.Need-sub-room
-sub-room c = search needs
-
-byte-at-requires : tie.Need-byte-at-requires
-byte-at-requires c κs = search needs
-
-shl-result : tie.Need-shl-result
-shl-result c = search needs
-
 sub-result : tie.Need-sub-result
 sub-result c =
     let room = 8 - c .before .before .args .start % 8 in
@@ -31,9 +22,10 @@ returns c =
     let b = c .byte-at .result in
     rw (shifted-one room (omega arith)) (record {
       inside = c .before .before .pre;
-      same = and-mask b room ∙ ap (λ (x : ℕ). x % 2 ^ room) (sym (div-one b)) ∙ field-in-byte start room 0 (c .byte-at .ensures) (omega arith);
+      same = and-mask b room ∙ ap (λ (x : ℕ). x % 2 ^ room) (sym (div-one b))
+          ∙ field-in-byte start room 0 (c .byte-at .ensures) (omega arith);
       small = lt-of-le-of-lt (and-le-l b (2 ^ room - 1)) (c .byte-at .ensures .small);
     })
 
 pub byte-rest-spec : {M : Type 1} → statement M
-byte-rest-spec = tie.close (tie.spec sub-room byte-at-requires shl-result sub-result returns)
+byte-rest-spec = tie.close (tie.spec (λ c. search needs) (λ c κs. search needs) (λ c. search needs) sub-result returns)

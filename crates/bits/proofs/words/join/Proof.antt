@@ -9,8 +9,9 @@ use Rattle.bits.proofs.words.join.Tie as tie
 
 returns : tie.Need-returns
 returns c =
-    let e : c .args .acc * 2 ^ 8 < 2 ^ 64 = omega arith in
-    (ap (λ (x : ℕ). bitOr x (c .args .b)) (mod-eq-of-lt e) ∙ or-shifted (c .args .acc) 8 (c .args .b) (omega arith), omega arith)
+    let a = c .args in
+    let e : a .acc * 2 ^ 8 < 2 ^ 64 = omega arith in
+    (ap (λ (x : ℕ). bitOr x (a .b)) (mod-eq-of-lt e) ∙ or-shifted (a .acc) 8 (a .b) (omega arith), omega arith)
 
 pub join-spec : {M : Type 1} → statement M
 join-spec = tie.close (tie.spec returns)

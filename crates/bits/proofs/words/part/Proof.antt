@@ -7,18 +7,6 @@ use lib.ListN.{take, drop}
 use Rattle.bits.proofs.words.part.Statement.{statement}
 use Rattle.bits.proofs.words.part.Tie as tie
 
-add-result : tie.Need-add-result
-add-result c = search needs
-
-sub-result : tie.Need-sub-result
-sub-result c = search needs
-
-part-result-start : tie.Need-part-result-start
-part-result-start c = search needs
-
-part-result-end : tie.Need-part-result-end
-part-result-end c = search needs
-
 returns : tie.Need-returns
 returns c =
     let a = c .before .args in
@@ -26,4 +14,4 @@ returns c =
     ap (λ (m : ℕ). take m (drop (a .at) (a .bytes .now))) e
 
 pub part-spec : {M : Type 1} → statement M
-part-spec = tie.close (tie.spec add-result sub-result part-result-start part-result-end returns)
+part-spec = tie.close (tie.spec (λ c. search needs) (λ c. search needs) (λ c. search needs) (λ c. search needs) returns)

@@ -10,12 +10,6 @@ use Rattle.bits.specs.Laws.Rank.{count-take-le, ones-field}
 use Rattle.bits.proofs.words.short_ones.Statement.{statement}
 use Rattle.bits.proofs.words.short_ones.Tie as tie
 
-short-word-requires : tie.Need-short-word-requires
-short-word-requires c κs = search needs
-
-ones-of-requires : tie.Need-ones-of-requires
-ones-of-requires c κs = search needs
-
 returns : tie.Need-returns
 returns c =
     let n = c .before .before .before .args .n in
@@ -26,4 +20,4 @@ returns c =
     (e, omega (arith, count-take-le n (drop (8 * at) s)))
 
 pub short-ones-spec : {M : Type 1} → statement M
-short-ones-spec = tie.close (tie.spec short-word-requires ones-of-requires returns)
+short-ones-spec = tie.close (tie.spec (λ c κs. search needs) (λ c κs. search needs) returns)

@@ -7,19 +7,10 @@ use lib.Seq.{take-all}
 use Rattle.bits.proofs.words.tail.Statement.{statement}
 use Rattle.bits.proofs.words.tail.Tie as tie
 
-sub-result : tie.Need-sub-result
-sub-result c = search needs
-
-part-result-start : tie.Need-part-result-start
-part-result-start c = search needs
-
-part-result-end : tie.Need-part-result-end
-part-result-end c = search needs
-
 returns : tie.Need-returns
 returns c =
     let bytes = c .before .args .bytes .now in
     take-all (length bytes - c .before .args .at) (drop (c .before .args .at) bytes) (simp length-drop (omega arith))
 
 pub tail-spec : {M : Type 1} → statement M
-tail-spec = tie.close (tie.spec sub-result part-result-start part-result-end returns)
+tail-spec = tie.close (tie.spec (λ c. search needs) (λ c. search needs) (λ c. search needs) returns)

@@ -7,19 +7,12 @@ use borrow.Author.Needs.{needs}
 use Rattle.bits.proofs.words.word_ones.Statement.{statement}
 use Rattle.bits.proofs.words.word_ones.Tie as tie
 
-low-word-requires : tie.Need-low-word-requires
-low-word-requires c κs = search needs
-
-ones-of-requires : tie.Need-ones-of-requires
-ones-of-requires c κs = search needs
-
 returns : tie.Need-returns
 returns c =
     let args = c .before .before .before .args in
-    let same = c .before .low-word .ensures in (
-      c .ones-of .ensures .0 ∙ ap ones same ∙ turned-ones (args .bytes .now) (args .at) (omega arith),
-      c .ones-of .ensures .1,
-    )
+    let known = c .before .before .shared-slice-known in
+    let same = turned-ones (args .bytes .now) (args .at) (λ i. known .given i .fits) (omega arith) in
+    (c .ones-of .ensures .0 ∙ ap ones (c .before .low-word .ensures) ∙ same, c .ones-of .ensures .1)
 
 pub word-ones-spec : {M : Type 1} → statement M
-word-ones-spec = tie.close (tie.spec low-word-requires ones-of-requires returns)
+word-ones-spec = tie.close (tie.spec (λ c κs. search needs) (λ c κs. search needs) returns)

@@ -1,25 +1,23 @@
 -- `climbs::climb_head` meets its contract: what is left of the climb answers as the whole does.
-use mathlib.Core.Logic.{_⊎_, inl, inr}
+use mathlib.Core.Logic.{_⊎_, inl}
 use mathlib.Core.Path.{_≡_, sym, ap, _∙_}
-use Prim.Native.Nat.{ℕ, _-_, _≤_, _<_}
+use Prim.Native.Nat.{ℕ, _<_}
 use native.Mathlib.Numerals.{add-one}
 use native.Mathlib.Omega.{arith}
 use borrow.Author.Needs.{needs}
-use Rattle.graph.specs.Walk.{walk}
 use Rattle.record.specs.Answers.{Answer, refused, answered}
 use Rattle.record.specs.Laws.Sounded.{sound-vertices}
 use Rattle.queries.specs.Queries.{headNext, headOf}
 use Rattle.queries.specs.Steps.{moveOf}
 use Rattle.queries.specs.View.{View, viewBy}
-use Rattle.queries.proofs.Laws.Climbing.{climb-stop, climb-on, climb-late, head-inside, head-begin}
+use Rattle.queries.specs.declared.climbs.Move.{Move}
+use Rattle.queries.proofs.Laws.Climbing.{climb, climb-stop, climb-on, climb-late, head-inside, head-begin}
 use Rattle.queries.proofs.climbs.climb_head.Statement.{statement}
 use Rattle.queries.proofs.climbs.climb_head.Tie as tie
 
 abbrev Inv-loop : tie.InvT-loop
 Inv-loop bytes index n m starts v u₀ left₀ u left =
-    (u < n)
-    × (left < n)
-    × (walk (headNext (viewBy n m bytes index)) (refused 12) left u ≡ headOf (viewBy n m bytes index) v)
+    (u < n) × (climb (headNext (viewBy n m bytes index)) (refused 12) left u ≡ headOf (viewBy n m bytes index) v)
 
 abbrev μ-loop : tie.MeasureT-loop
 μ-loop bytes index n m starts v u₀ left₀ u left = left
@@ -41,113 +39,79 @@ next c = headNext (view c)
 abbrev whole : Place → Answer ℕ
 whole c = headOf (view c) (begin c .args .v)
 
-stop : (c : Place) {a : Answer ℕ} → inl a ≡ next c (c .loop .u) → a ≡ whole c
-stop c e = climb-stop (next c) (refused 12) (c .loop .left) (c .loop .u) e (c .loop .inv .2)
+-- ---- after a step
 
-late : (c : Place) {p : ℕ} → c .loop .left ≤ 0 → inr p ≡ next c (c .loop .u) → refused 12 ≡ whole c
-late c h e = climb-late (next c) (refused 12) (c .loop .left) (c .loop .u) h e (c .loop .inv .2)
+abbrev Moved : Type 0
+Moved = tie.After-head-move Inv-loop μ-loop
 
-on : (c : Place) {p : ℕ} → 0 < c .loop .left → inr p ≡ next c (c .loop .u)
-    → (p < begin c .args .n)
-    × (c .loop .left - 1 < begin c .args .n)
-    × (walk (next c) (refused 12) (c .loop .left - 1) p ≡ whole c)
-on c h e =
-    let l = head-inside (view c) (c .loop .u) e in
-    let k = sound-vertices (begin c .pre .0 .sound) in
-    let i = c .loop .inv .1 in
-    (omega arith, omega arith, climb-on (next c) (refused 12) (c .loop .left) (c .loop .u) h e (c .loop .inv .2))
+abbrev place : Moved → Place
+place c = c .before .before
 
-sub-left : tie.Need-sub-left Inv-loop μ-loop
-sub-left c = let h = c .before .before .before .pre .2 in omega arith
+told : (c : Moved) {r : Move} → c .head-move .result ≡ r
+    → moveOf (place c .loop .u) r ≡ next (place c) (place c .loop .u)
+told c e = sym (ap (moveOf (place c .loop .u)) e) ∙ c .head-move .ensures
+
+stop : (c : Moved) {a : Answer ℕ} → inl a ≡ next (place c) (place c .loop .u) → a ≡ whole (place c)
+stop c e =
+    let l = place c .loop in
+    climb-stop (next (place c)) (refused 12) (l .left) (l .u) (c .before .loop-test .taken) e (l .inv .1)
 
 loop-holds : tie.Need-loop-holds Inv-loop μ-loop
 loop-holds c =
     let args = c .before .before .before .args in
     let pre = c .before .before .before .pre in
-    let h = pre .2 in
-    (h, omega arith, head-begin (pre .0 .sound) (args .index .now) (args .v))
+    (pre .2, head-begin (pre .0 .sound) (args .index .now) (args .v) (pre .2))
 
 head-move-requires : tie.Need-head-move-requires Inv-loop μ-loop
 head-move-requires c κs =
     let pre = begin (c .before) .pre in
     (pre .0, pre .1, c .before .loop .inv .0)
 
-head-move-requires-2 : tie.Need-head-move-requires-2 Inv-loop μ-loop
-head-move-requires-2 c κs =
-    let pre = begin (c .before) .pre in
-    (pre .0, pre .1, c .before .loop .inv .0)
-
 enum-told : tie.Need-enum-told Inv-loop μ-loop
 enum-told c = search needs
+
+returns : tie.Need-returns Inv-loop μ-loop
+returns c = stop (c .before .before) (told (c .before .before) (c .enum-told .given .1))
 
 enum-told-2 : tie.Need-enum-told-2 Inv-loop μ-loop
 enum-told-2 c = search needs
 
-enum-known-p : tie.Need-enum-known-p Inv-loop μ-loop
-enum-known-p c = search needs
-
-enum-told-3 : tie.Need-enum-told-3 Inv-loop μ-loop
-enum-told-3 c = search needs
-
-enum-told-4 : tie.Need-enum-told-4 Inv-loop μ-loop
-enum-told-4 c = search needs
-
-enum-told-5 : tie.Need-enum-told-5 Inv-loop μ-loop
-enum-told-5 c = search needs
-
-returns : tie.Need-returns Inv-loop μ-loop
-returns c =
-    let at = c .before .before .before .before in
-    stop at (sym (ap (moveOf (at .loop .u)) (c .enum-told .given .1)) ∙ c .before .before .head-move .ensures)
+add-t13 : tie.Need-add-t13 Inv-loop μ-loop
+add-t13 c =
+    let at = place (c .before .before) in
+    let i = at .loop .inv .0 in
+    let f = begin at .pre .0 .framed .n-fits in
+    omega arith
 
 returns-2 : tie.Need-returns-2 Inv-loop μ-loop
 returns-2 c =
-    let at = c .before .before .before .before in
-    ap answered (add-one (at .loop .u))
-    ∙ stop at (sym (ap (moveOf (at .loop .u)) (c .enum-told2 .given .1)) ∙ c .before .before .head-move .ensures)
+    let moved = c .before .before in
+    ap answered (add-one (place moved .loop .u)) ∙ stop moved (told moved (c .enum-told2 .given .1))
 
-returns-3 : tie.Need-returns-3 Inv-loop μ-loop
-returns-3 c =
-    let at = c .before .before .before .before in
-    stop at (sym (ap (moveOf (at .loop .u)) (c .enum-told3 .given .1)) ∙ c .before .before .head-move2 .ensures)
+enum-known-p : tie.Need-enum-known-p Inv-loop μ-loop
+enum-known-p c = search needs
 
-returns-4 : tie.Need-returns-4 Inv-loop μ-loop
-returns-4 c =
-    let at = c .before .before .before .before in
-    ap answered (add-one (at .loop .u))
-    ∙ stop at (sym (ap (moveOf (at .loop .u)) (c .enum-told4 .given .1)) ∙ c .before .before .head-move2 .ensures)
-
-returns-5 : tie.Need-returns-5 Inv-loop μ-loop
-returns-5 c =
-    let at = c .before .before .before .before in
-    late at (c .before .before .before .loop-test .left)
-    (sym (ap (moveOf (at .loop .u)) (c .enum-told5 .given .1)) ∙ c .before .before .head-move2 .ensures)
-
-add-t13 : tie.Need-add-t13 Inv-loop μ-loop
-add-t13 c =
-    let at = c .before .before .before .before in
-    let i = at .loop .inv .0 in
-    let f = begin at .pre .0 .framed .n-fits in
-    omega arith
-
-add-t18 : tie.Need-add-t18 Inv-loop μ-loop
-add-t18 c =
-    let at = c .before .before .before .before in
-    let i = at .loop .inv .0 in
-    let f = begin at .pre .0 .framed .n-fits in
-    omega arith
-
-sub-left-2 : tie.Need-sub-left-2 Inv-loop μ-loop
-sub-left-2 c = omega arith
+sub-left : tie.Need-sub-left Inv-loop μ-loop
+sub-left c = omega arith
 
 loop-less : tie.Need-loop-less Inv-loop μ-loop
 loop-less c = omega arith
 
 loop-again : tie.Need-loop-again Inv-loop μ-loop
 loop-again c =
-    let at = c .before .before .before .before .before in
-    on at (c .before .before .before .before .loop-test .taken)
-    (sym (ap (moveOf (at .loop .u)) (c .before .p .given .1)) ∙ c .before .before .before .head-move .ensures)
+    let moved = c .before .before .before in
+    let at = place moved in
+    let l = at .loop in
+    let e = told moved (c .before .p .given .1) in
+    let i = head-inside (view at) (l .u) e in
+    let k = sound-vertices (begin at .pre .0 .sound) in
+    let rest = climb-on (next at) (refused 12) (l .left) (l .u) (moved .before .loop-test .taken) e (l .inv .1) in
+    (omega arith, rest)
+
+returns-3 : tie.Need-returns-3 Inv-loop μ-loop
+returns-3 c =
+    let at = c .before in
+    climb-late (next at) (refused 12) (at .loop .left) (at .loop .u) (c .loop-test .left) (at .loop .inv .1)
 
 pub climb-head-spec : {M : Type 1} → statement M
 climb-head-spec =
@@ -155,7 +119,6 @@ climb-head-spec =
     (tie.spec
     Inv-loop
     μ-loop
-    sub-left
     loop-holds
     head-move-requires
     enum-told
@@ -164,14 +127,7 @@ climb-head-spec =
     add-t13
     returns-2
     enum-known-p
-    sub-left-2
+    sub-left
     loop-less
     loop-again
-    head-move-requires-2
-    enum-told-3
-    enum-told-4
-    add-t18
-    enum-told-5
-    returns-3
-    returns-4
-    returns-5)
+    returns-3)

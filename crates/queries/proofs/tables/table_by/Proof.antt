@@ -1,7 +1,7 @@
 -- `tables::table_by` meets its contract: Build's rules first, then the lengths of the lists, then the lists.
 use Rattle.record.specs.Answers.{verdict}
 use Rattle.forest.specs.Operations.{build}
-use Rattle.record.specs.Answers.{Answer, answered}
+use Rattle.record.specs.Answers.{answered}
 use mathlib.Core.Path.{_≡_, sym, ap, _∙_}
 use borrow.Author.Needs.{needs}
 use Rattle.queries.specs.Table.{Columns, columns}
