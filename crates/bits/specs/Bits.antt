@@ -1,5 +1,5 @@
--- Bit strings over bytes (document 01, "Bits"): what the contracts of this crate mean. A byte is a number below 256 and a bit is a
--- Boolean, true for a one. A list of bits has its most significant bit first.
+-- Bit strings over bytes (document 01, "Bits"): what the contracts of this crate mean. A byte is a number below 256 and
+-- a bit is a Boolean, true for a one. A list of bits has its most significant bit first.
 use mathlib.Core.Bool.{Bool, true, false}
 use mathlib.Core.List.{List, [], _∷_, _++_}
 use Prim.Native.Nat.{ℕ, zero, suc, _+_, _*_, _/_, _%_, _^_}
@@ -52,11 +52,13 @@ unfoldable pub value : List Bool → ℕ
 value [] = 0
 value (b ∷ s) = bit b * 2 ^ length s + value s
 
--- the value of the field of w bits from bit `start` on; past the end of the list there are no bits, and the field is shorter
+-- the value of the field of w bits from bit `start` on; past the end of the list there are no bits, and the field is
+-- shorter
 unfoldable pub field : ℕ → List Bool → ℕ → ℕ
 field w s start = value (take w (drop start s))
 
--- the bits with the w lowest bits of v in the field of w bits from bit `start` on; where the list holds that field, nothing else changes
+-- the bits with the w lowest bits of v in the field of w bits from bit `start` on; where the list holds that field,
+-- nothing else changes
 unfoldable pub put : ℕ → ℕ → List Bool → ℕ → List Bool
 put w v s start = take start s ++ (toBits w v ++ drop (start + w) s)
 

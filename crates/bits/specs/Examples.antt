@@ -7,7 +7,8 @@ use Rattle.bits.specs.Bits.{toBits, bits, string, count, rank, onesAt, s
 
 abbrev sample : List ℕ
 sample =
-    0x00 ∷ 0x30 ∷ 0x00 ∷ 0x59 ∷ 0x22 ∷ 0xA0 ∷ 0x02 ∷ 0x00 ∷ 0x10 ∷ 0x00 ∷ 0x00 ∷ 0x20 ∷ 0x01 ∷ 0x00 ∷ 0x30 ∷ 0x00 ∷ 0x00 ∷ 0x20 ∷ 0x05 ∷ 0x00 ∷ 0x40 ∷ []
+    0x00 ∷ 0x30 ∷ 0x00 ∷ 0x59 ∷ 0x22 ∷ 0xA0 ∷ 0x02 ∷ 0x00 ∷ 0x10 ∷ 0x00 ∷ 0x00 ∷ 0x20 ∷ 0x01 ∷ 0x00 ∷ 0x30 ∷ 0x00 ∷ 0x00
+    ∷ 0x20 ∷ 0x05 ∷ 0x00 ∷ 0x40 ∷ []
 
 -- 6 terminals, 5 wires, and the first field after D: terminal 3, less 1
 header : field 13 (bits sample) 0 ∷ field 15 (bits sample) 13 ∷ field 12 (bits sample) 44 ∷ [] ≡ 6 ∷ 5 ∷ 2 ∷ []
@@ -15,16 +16,19 @@ unfolding toBits bits value field
 header = refl
 
 -- D: its ones stand at 1, 4, 7, 11, 13 and 15
-selects-of-D : map (select (string sample 28 16)) (0 ∷ 1 ∷ 2 ∷ 3 ∷ 4 ∷ 5 ∷ 6 ∷ 7 ∷ []) ≡ 0 ∷ 1 ∷ 4 ∷ 7 ∷ 11 ∷ 13 ∷ 15 ∷ 0 ∷ []
+selects-of-D : map (select (string sample 28 16)) (0 ∷ 1 ∷ 2 ∷ 3 ∷ 4 ∷ 5 ∷ 6 ∷ 7 ∷ []) ≡ 0 ∷ 1 ∷ 4 ∷ 7 ∷ 11 ∷ 13 ∷ 15
+    ∷ 0 ∷ []
 unfolding toBits bits string onesAt select
 selects-of-D = refl
 
-ranks-of-D : map (rank (string sample 28 16)) (0 ∷ 1 ∷ 3 ∷ 4 ∷ 10 ∷ 11 ∷ 16 ∷ 17 ∷ []) ≡ 0 ∷ 1 ∷ 1 ∷ 2 ∷ 3 ∷ 4 ∷ 6 ∷ 6 ∷ []
+ranks-of-D : map (rank (string sample 28 16)) (0 ∷ 1 ∷ 3 ∷ 4 ∷ 10 ∷ 11 ∷ 16 ∷ 17 ∷ []) ≡ 0 ∷ 1 ∷ 1 ∷ 2 ∷ 3 ∷ 4 ∷ 6 ∷ 6
+    ∷ []
 unfolding toBits bits string count rank
 ranks-of-D = refl
 
 -- 168 bits are held; one more is not, and counts as empty
-not-held : rank (string sample 1 168) 168 ∷ rank (string sample 0 168) 168 ∷ select (string sample 1 168) 1 ∷ [] ≡ 0 ∷ 20 ∷ 0 ∷ []
+not-held : rank (string sample 1 168) 168 ∷ rank (string sample 0 168) 168 ∷ select (string sample 1 168) 1 ∷ [] ≡ 0
+    ∷ 20 ∷ 0 ∷ []
 unfolding toBits bits string count rank onesAt select
 not-held = refl
 

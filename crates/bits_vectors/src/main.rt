@@ -1,4 +1,5 @@
-// Asks `bits` on fixed bytes and prints the answers, a line for each bit string, field and write. The file stdout has what they must be.
+// Asks `bits` on fixed bytes and prints the answers, a line for each bit string, field and write. The file stdout has
+// what they must be.
 ghost use Prim.Native.Nat.{_<_, _≤_};
 ghost use lib.ListN.{length};
 use print::label;

@@ -1,5 +1,5 @@
-// The C interface. A slice is a pointer and a length; a result has the refusal's number in its high half, or else the value in its low half
-// (specs/Code.antt). No function has a precondition. `include/celduga.h` declares them.
+// The C interface. A slice is a pointer and a length; a result has the refusal's number in its high half, or else the
+// value in its low half (specs/Code.antt). No function has a precondition. `include/celduga.h` declares them.
 ghost use mathlib.Core.Path.{_≡_};
 ghost use Rattle.bits.specs.Bits.{bit, string, rank, select};
 ghost use Rattle.record.specs.Operations.{check, degree, unpack, unpacked, loopFigure};
@@ -31,7 +31,10 @@ pub extern "C" fn celduga_degree(bytes: &[u8], v: usize) -> u32
 
 #[no_mangle]
 pub extern "C" fn celduga_unpack(bytes: &[u8], list: &mut [u16]) -> u32
-    ensures { λ r. ⌜ (r ≡ code nothing (unpack (now (bytes .entry)) (now (list .entry)))) × (now (list .exit) ≡ unpacked (now (bytes .entry)) (now (list .entry))) ⌝ }
+    ensures { λ r. ⌜
+        (r ≡ code nothing (unpack (now (bytes .entry)) (now (list .entry))))
+        × (now (list .exit) ≡ unpacked (now (bytes .entry)) (now (list .entry)))
+        ⌝ }
 {
     codes::of_verdict(record::unpack(bytes, list))
 }
@@ -55,7 +58,10 @@ pub extern "C" fn celduga_loop_figure(bytes: &[u8]) -> u32
 
 #[no_mangle]
 pub extern "C" fn celduga_build(bytes: &[u8], work: &mut [u16], index: &mut [u8]) -> u32
-    ensures { λ r. ⌜ (r ≡ code nothing (build (now (bytes .entry)) (now (work .entry)) (now (index .entry)))) × (now (index .exit) ≡ built (now (bytes .entry)) (now (work .entry)) (now (index .entry))) ⌝ }
+    ensures { λ r. ⌜
+        (r ≡ code nothing (build (now (bytes .entry)) (now (work .entry)) (now (index .entry))))
+        × (now (index .exit) ≡ built (now (bytes .entry)) (now (work .entry)) (now (index .entry)))
+        ⌝ }
 {
     codes::of_verdict(forest::build(bytes, work, index))
 }

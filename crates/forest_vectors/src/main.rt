@@ -1,4 +1,5 @@
-// Has `forest` build the indexes of fixed records and prints the answers, a line for each call. The file stdout has what they must be.
+// Has `forest` build the indexes of fixed records and prints the answers, a line for each call. The file stdout has
+// what they must be.
 ghost use Prim.Native.Nat.{_+_, _*_, _≤_};
 use print::digest;
 use print::label;
@@ -68,7 +69,8 @@ fn lent(name: &[u8], before: &[u8], bytes: &[u8], cell: u16, byte: u8, work: usi
     );
 }
 
-// A record of n terminals and m wires that is accepted. What the work slice and the buffer hold before does not matter, nor does more work.
+// A record of n terminals and m wires that is accepted. What the work slice and the buffer hold before does not matter,
+// nor does more work.
 fn run(name: &[u8], bytes: &[u8], n: usize, m: usize)
     requires { ⌜ (n ≤ 12) × (m ≤ 14) ⌝ }
 {
@@ -142,7 +144,8 @@ fn blocks() {
     );
 }
 
-// Three ways between two terminals, a cycle with a chord and a tail, bridges and cycles in turn, components with isolated terminals between them.
+// Three ways between two terminals, a cycle with a chord and a tail, bridges and cycles in turn, components with
+// isolated terminals between them.
 fn mixtures() {
     run(
         b"theta",

@@ -1,4 +1,5 @@
-// The largest records: shapes of 4,096 terminals, whose bytes are packed by formula. Terminals count from 0 here, as they do in the fields.
+// The largest records: shapes of 4,096 terminals, whose bytes are packed by formula. Terminals count from 0 here, as
+// they do in the fields.
 ghost use Prim.Native.Nat.{_+_, _*_, _≤_, _<_};
 
 pub enum Shape {
@@ -108,7 +109,8 @@ fn offset(k: usize) -> usize
     }
 }
 
-// Each terminal is joined to the four on either side. It takes every third of the eight steps, and which one is first depends on it.
+// Each terminal is joined to the four on either side. It takes every third of the eight steps, and which one is first
+// depends on it.
 fn on_circulant(v: usize, j: usize) -> usize
     requires { ⌜ (v < 4096) × (j < 4095) ⌝ }
     ensures { λ r. ⌜ r < 4096 ⌝ }
@@ -171,8 +173,8 @@ fn put_number(bytes: &mut [u8], start: usize, width: usize, x: usize)
     }
 }
 
-// The block of terminal v: its one in D, and its fields, the first of which is field p. Its zeros are there before. Returns the
-// next block's first field.
+// The block of terminal v: its one in D, and its fields, the first of which is field p. Its zeros are there before.
+// Returns the next block's first field.
 fn put_block(bytes: &mut [u8], s: Shape, v: usize, p: usize) -> usize
     requires { ⌜ (v < 4096) × (p ≤ 4095 * v) ⌝ }
     ensures { λ r. ⌜ r ≤ p + 4095 ⌝ }

@@ -2,7 +2,8 @@
 use Prim.Native.Nat.{ℕ, suc}
 use mathlib.Core.{Bool.true, Bool.false, Bool._&&_, Bool._||_, List.List, List.[], List._∷_, List._++_, List.List·Memᴰ}
 use lib.{Dec.eqb, ListN.length}
-use Rattle.graph.specs.{Graph.Blocks, Graph.target, Graph.pair, Search.Forest, Search.PlaceTest, Search.root, Search.via, Search.aim, Joined.bridge}
+use Rattle.graph.specs.{Graph.Blocks, Graph.target, Graph.pair, Search.Forest, Search.PlaceTest, Search.root}
+use Rattle.graph.specs.{Search.via, Search.aim, Joined.bridge}
 
 unfoldable pub number : Forest → ℕ → ℕ  -- the visit number of v, from 0: how many were entered before it
 number [] v = 0
@@ -12,7 +13,8 @@ unfoldable pub vertexAt : Forest → ℕ → ℕ  -- the vertex of visit number 
 vertexAt [] k = 0
 vertexAt (a ∷ F) k = elim (eqb k (length F)) [ true ↦ aim a | false ↦ vertexAt F k ]
 
-unfoldable pub climb : {A : Type 0} → (ℕ → A) → (ℕ → ℕ → ℕ → A → A) → Forest → ℕ → A  -- r at a root; at v, entered from u by place j, s of the value at u
+unfoldable pub climb : {A : Type 0} → (ℕ → A) → (ℕ → ℕ → ℕ → A → A) → Forest → ℕ
+    → A  -- r at a root; at v, entered from u by place j, s of the value at u
 climb r s [] x = r x
 climb r s (root v ∷ F) x = elim (eqb x v) [ true ↦ r v | false ↦ climb r s F x ]
 climb r s (via u j v ∷ F) x = elim (eqb x v) [ true ↦ s u j v (climb r s F u) | false ↦ climb r s F x ]
@@ -23,7 +25,8 @@ parent F = climb (λ v. 0) (λ u j v a. suc u) F
 unfoldable pub rootOf : Forest → ℕ → ℕ  -- the root above v
 rootOf F = climb (λ v. v) (λ u j v a. a) F
 
-unfoldable pub head : Blocks → Forest → ℕ → ℕ  -- document 01's climb: v itself at a root or below a bridge, else the parent's head
+unfoldable pub head : Blocks → Forest → ℕ
+    → ℕ  -- document 01's climb: v itself at a root or below a bridge, else the parent's head
 head g F = climb (λ v. v) (λ u j v a. elim (bridge g u j) [ true ↦ v | false ↦ a ]) F
 
 pub data Ancestor (F : Forest) (x : ℕ) : ℕ → Type 0 where  -- x is met on the way up from v, v included
@@ -40,5 +43,6 @@ childMark [] x i = false
 childMark (root v ∷ F) x i = childMark F x i
 childMark (via u j v ∷ F) x i = (eqb x u && eqb i j) || childMark F x i
 
-unfoldable pub parentMark : Blocks → Blocks → Forest → PlaceTest  -- the mark P, in h: its pair in g has the mark E; for wires h is g
+unfoldable pub parentMark : Blocks → Blocks → Forest
+    → PlaceTest  -- the mark P, in h: its pair in g has the mark E; for wires h is g
 parentMark h g F u j = childMark F (target h u j) (pair h g u j)

@@ -1,4 +1,5 @@
--- The laws. Each group, and each file of a group, rests only on those above it in its list; the numbers are those of `Theorems`.
+-- The laws. Each group, and each file of a group, rests only on those above it in its list; the numbers are those of
+-- `Theorems`.
 pub mod Places
 pub mod Tree
 pub mod Run

@@ -19,7 +19,8 @@ use Rattle.graph.specs.Laws.Places.Each.{eachOf, eachFrom, each, each-pl
 -- the marks of each block: 1 where the test holds
 marksOf : PlaceTest → ℕ → ℕ → List ℕ → List ℕ
 marksOf test u j [] = []
-marksOf test u j (v ∷ l) = elim (test u j) [ true ↦ 1 ∷ marksOf test u (suc j) l | false ↦ 0 ∷ marksOf test u (suc j) l ]
+marksOf test u j (v ∷ l) =
+    elim (test u j) [ true ↦ 1 ∷ marksOf test u (suc j) l | false ↦ 0 ∷ marksOf test u (suc j) l ]
 
 marksFrom : PlaceTest → ℕ → Blocks → List (List ℕ)
 marksFrom test u [] = []
@@ -38,10 +39,13 @@ sound-well-formed g e = well-formed-at
     (λ u j p. clash (eq-eqb u u refl) (not-true (eqb u u) (parts p .1)))
     (λ u j v p. eqb-true (mentions v (block g u)) (mentions u (block g v)) (parts p .2))
   where
-    parts : {u j v : ℕ} → Place g u j v → (ltb v (length g) ≡ true) × (not (eqb v u) ≡ true) × (eqb (mentions v (block g u)) (mentions u (block g v)) ≡ true)
+    parts : {u j v : ℕ} → Place g u j v
+        → (ltb v (length g) ≡ true) × (not (eqb v u) ≡ true)
+        × (eqb (mentions v (block g u)) (mentions u (block g v)) ≡ true)
     parts {u} {j} {v} p =
         let t : sound g u j v ≡ true = each-place (sound g) g .0 e u j v p in
-        let (a, b) = and-parts (ltb v (length g)) (not (eqb v u) && eqb (mentions v (block g u)) (mentions u (block g v))) t in
+        let (a, b) = and-parts (ltb v (length g))
+        (not (eqb v u) && eqb (mentions v (block g u)) (mentions u (block g v))) t in
         let (c, d) = and-parts (not (eqb v u)) (eqb (mentions v (block g u)) (mentions u (block g v))) b in
         (a, c, d)
 
@@ -83,15 +87,18 @@ unfolding rootOf climb search run countUp arcs entered flatten
 sample-roots = refl
 
 -- the marks E, P and B, block by block
-sample-E : marksFrom (childMark (forest sample)) 0 sample ≡ (1 ∷ 0 ∷ []) ∷ (0 ∷ 0 ∷ []) ∷ (1 ∷ 1 ∷ 0 ∷ []) ∷ (0 ∷ []) ∷ (1 ∷ []) ∷ (0 ∷ []) ∷ []
+sample-E : marksFrom (childMark (forest sample)) 0 sample ≡ (1 ∷ 0 ∷ []) ∷ (0 ∷ 0 ∷ []) ∷ (1 ∷ 1 ∷ 0 ∷ []) ∷ (0 ∷ [])
+    ∷ (1 ∷ []) ∷ (0 ∷ []) ∷ []
 unfolding marksFrom marksOf childMark search run countUp arcs entered flatten
 sample-E = refl
 
-sample-P : marksFrom (parentMark sample sample (forest sample)) 0 sample ≡ (0 ∷ 0 ∷ []) ∷ (0 ∷ 1 ∷ []) ∷ (0 ∷ 0 ∷ 1 ∷ []) ∷ (1 ∷ []) ∷ (0 ∷ []) ∷ (1 ∷ []) ∷ []
+sample-P : marksFrom (parentMark sample sample (forest sample)) 0 sample ≡ (0 ∷ 0 ∷ []) ∷ (0 ∷ 1 ∷ [])
+    ∷ (0 ∷ 0 ∷ 1 ∷ []) ∷ (1 ∷ []) ∷ (0 ∷ []) ∷ (1 ∷ []) ∷ []
 unfolding marksFrom marksOf parentMark pair position mentions childMark search run countUp arcs entered flatten
 sample-P = refl
 
-sample-B : marksFrom (bridge sample) 0 sample ≡ (0 ∷ 0 ∷ []) ∷ (0 ∷ 0 ∷ []) ∷ (0 ∷ 1 ∷ 0 ∷ []) ∷ (1 ∷ []) ∷ (1 ∷ []) ∷ (1 ∷ []) ∷ []
+sample-B : marksFrom (bridge sample) 0 sample ≡ (0 ∷ 0 ∷ []) ∷ (0 ∷ 0 ∷ []) ∷ (0 ∷ 1 ∷ 0 ∷ []) ∷ (1 ∷ []) ∷ (1 ∷ [])
+    ∷ (1 ∷ []) ∷ []
 unfolding marksFrom marksOf bridge joined without pair position mentions search run arcs entered flatten
 sample-B = refl
 
@@ -106,7 +113,10 @@ sample-section = same-heads sample-well-formed (vertices-cover sample) 0 1 (omeg
 
 sample-apart : DoublyJoined sample 2 3 → ⊥
 unfolding head climb bridge joined without pair position mentions search run countUp arcs entered flatten
-sample-apart d = let e : _≡_ {A = ℕ} 0 3 = same-heads sample-well-formed (vertices-cover sample) 2 3 (omega arith) (omega arith) .1 d in omega arith
+sample-apart d =
+    let e : _≡_ {A = ℕ} 0 3 =
+    same-heads sample-well-formed (vertices-cover sample) 2 3 (omega arith) (omega arith) .1 d in
+    omega arith
 
 -- ---- two wires between the same ends, and a single one further on
 
@@ -121,7 +131,8 @@ doubled-E : marksFrom (childMark (forest doubled)) 0 doubled ≡ (1 ∷ 0 ∷ []
 unfolding marksFrom marksOf childMark search run countUp arcs entered flatten
 doubled-E = refl
 
-doubled-P : marksFrom (parentMark doubled doubled (forest doubled)) 0 doubled ≡ (0 ∷ 0 ∷ []) ∷ (1 ∷ 0 ∷ 0 ∷ []) ∷ (1 ∷ []) ∷ []
+doubled-P : marksFrom (parentMark doubled doubled (forest doubled)) 0 doubled ≡ (0 ∷ 0 ∷ []) ∷ (1 ∷ 0 ∷ 0 ∷ [])
+    ∷ (1 ∷ []) ∷ []
 unfolding marksFrom marksOf parentMark pair position mentions childMark search run countUp arcs entered flatten
 doubled-P = refl
 

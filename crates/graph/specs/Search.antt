@@ -1,7 +1,9 @@
--- The depth-first search (document 01, "Forest"): it takes the starts in order; each one still unvisited becomes a root. From a visited
--- vertex it tries the neighbours in listed order, goes to the first unvisited one as a child, and returns when none is left.
+-- The depth-first search (document 01, "Forest"): it takes the starts in order; each one still unvisited becomes a
+-- root. From a visited vertex it tries the neighbours in listed order, goes to the first unvisited one as a child, and
+-- returns when none is left.
 use Prim.Native.Nat.{ℕ, zero, suc, _+_}
-use mathlib.Core.{Bool.Bool, Bool.true, Bool.false, Bool._||_, List.List, List.[], List._∷_, List._++_, List.map, List.flatten}
+use mathlib.Core.{Bool.Bool, Bool.true, Bool.false, Bool._||_, List.List, List.[], List._∷_, List._++_, List.map}
+use mathlib.Core.{List.flatten}
 use lib.{Dec.eqb, ListN.length}
 use Rattle.graph.specs.Graph.{Blocks, block}
 
@@ -26,16 +28,24 @@ unfoldable pub entered : ℕ → Forest → Bool  -- v is visited
 entered v [] = false
 entered v (a ∷ F) = eqb v (aim a) || entered v F
 
-unfoldable pub arcs : PlaceTest → ℕ → ℕ → List ℕ → List Goal  -- the allowed places of u from position j on, as goals; the list is the block from there on
+unfoldable pub arcs : PlaceTest → ℕ → ℕ → List ℕ
+    → List Goal  -- the allowed places of u from position j on, as goals; the list is the block from there on
 arcs ok u j [] = []
 arcs ok u j (v ∷ l) = elim (ok u j) [ true ↦ via u j v ∷ arcs ok u (suc j) l | false ↦ arcs ok u (suc j) l ]
 
-unfoldable pub run : Blocks → PlaceTest → ℕ → Forest → List Goal → Forest  -- the first goal is passed over if visited; else entered, its places next
+unfoldable pub run : Blocks → PlaceTest → ℕ → Forest → List Goal
+    → Forest  -- the first goal is passed over if visited; else entered, its places next
 run g ok zero F goals = F
 run g ok (suc k) F [] = F
-run g ok (suc k) F (a ∷ goals) = elim (entered (aim a) F) [ true ↦ run g ok k F goals | false ↦ run g ok k (a ∷ F) (arcs ok (aim a) 0 (block g (aim a)) ++ goals) ]
+run g ok (suc k) F (a ∷ goals) =
+    elim (entered (aim a) F) [
+      | true ↦ run g ok k F goals
+      | false ↦ run g ok k (a ∷ F)
+          (arcs ok (aim a) 0 (block g (aim a)) ++ goals)
+    ]
 
-unfoldable pub search : Blocks → PlaceTest → List ℕ → Forest  -- with a step for each start and each place: there are no more goals
+unfoldable pub search : Blocks → PlaceTest → List ℕ
+    → Forest  -- with a step for each start and each place: there are no more goals
 search g ok starts = run g ok (length starts + length (flatten g)) [] (map root starts)
 
 unfoldable pub countUp : ℕ → ℕ → List ℕ  -- i, i + 1, ..: n numbers

@@ -1,5 +1,5 @@
-// The listing of the record on standard input (document 01, `loomlist`): what the search forest says of each terminal, or `refused` and the
-// refusal's number. An error of a read or a write is told on standard error.
+// The listing of the record on standard input (document 01, `loomlist`): what the search forest says of each terminal,
+// or `refused` and the refusal's number. An error of a read or a write is told on standard error.
 ghost use Prim.Native.Nat.{_≤_};
 ghost use Rattle.loomlist.specs.Listing.{Sized};
 use input::Input;
@@ -67,7 +67,8 @@ fn read(room: &mut [u8]) {
     }
 }
 
-// There is room for a byte more than the longest record has, so that a longer input is refused as one of a wrong length.
+// There is room for a byte more than the longest record has, so that a longer input is refused as one of a wrong
+// length.
 fn main() {
     if os::arg_count() > 1 {
         listing::usage();

@@ -29,7 +29,8 @@ use Rattle.queries.specs.Laws.Columns.{table-cells}
 use Rattle.queries.specs.Table.{tableOf, Tabled}
 
 -- where Build refuses nothing, it has written the index
-pub build-writes : (bytes work buffer : List ℕ) → build bytes work buffer ≡ answered tt → Written bytes (built bytes work buffer)
+pub build-writes : (bytes work buffer : List ℕ) → build bytes work buffer ≡ answered tt
+    → Written bytes (built bytes work buffer)
 build-writes = Answered.written-by
 
 -- fill bits, and the bits at D's ones, affect no answer, on any index of the right length
@@ -153,5 +154,6 @@ module _ {bytes index : List ℕ} (w : Written bytes index) where
 
   -- ---- Demand 3
 
-  pub heads-tell : {u v : ℕ} → Terminal bytes u → Terminal bytes v → HeadsTell bytes u v (head bytes index u) (head bytes index v)
+  pub heads-tell : {u v : ℕ} → Terminal bytes u → Terminal bytes v
+      → HeadsTell bytes u v (head bytes index u) (head bytes index v)
   heads-tell = Answered.heads-answer w

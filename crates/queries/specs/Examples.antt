@@ -12,8 +12,8 @@ use Rattle.graph.specs.Forest.{number, childMark, parentMark}
 use Rattle.graph.specs.Walk.{walk}
 use Rattle.record.specs.Record.{terminals, wires, usedBits, recordLength, unary, fieldsFrom, fields, zeros, parts}
 use Rattle.record.specs.Record.{blocks, layOut, unaryOf, fieldBits, recordBits, recordOf}
-use Rattle.record.specs.Rules.{firstBroken, beginsWithZero, orderR, anyIn, anyFrom, spareSet, stray, doubled, oneSided}
-use Rattle.record.specs.Rules.{placeRules, layoutRules, checkRules}
+use Rattle.record.specs.Rules.{firstBroken, beginsWithZero, orderR, spareSet, placeRules, layoutRules, checkRules}
+use Rattle.adjacency.specs.Places.{anyIn, anyFrom, stray, doubled, oneSided}
 use Rattle.record.specs.Answers.{Answer, refused, answered, outcome, otherwise, said}
 use Rattle.record.specs.Operations.{check, otherLength, outOfRange}
 use Rattle.forest.specs.Index.{marksFrom, section, sectionE, sectionP, sectionB, numbers, indexBy, indexOf}

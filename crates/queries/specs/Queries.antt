@@ -1,5 +1,5 @@
--- What the queries answer on a view (document 01, "Operations and their answers"), once nothing of order Q is broken. Vertices count from 0
--- here, and answers are document 01's numbers, but for the parent of a root, which is none.
+-- What the queries answer on a view (document 01, "Operations and their answers"), once nothing of order Q is broken.
+-- Vertices count from 0 here, and answers are document 01's numbers, but for the parent of a root, which is none.
 use mathlib.Core.Bool.{Bool, true, false, _||_}
 use mathlib.Core.List.{List, map}
 use mathlib.Core.Logic.{_⊎_, inl, inr}
@@ -63,7 +63,8 @@ ancestorBy top = inl (answered false)
 ancestorBy (rise j p) = inr p
 
 abbrev pub ancestorNext : View → ℕ → ℕ → Answer Bool ⊎ ℕ
-ancestorNext w x u = elim (eqb x u) [ true ↦ inl (answered true) | false ↦ ancestorBy (stepUp (w .graph) (w .marksP) u) ]
+ancestorNext w x u =
+    elim (eqb x u) [ true ↦ inl (answered true) | false ↦ ancestorBy (stepUp (w .graph) (w .marksP) u) ]
 
 unfoldable pub ancestorOf : View → ℕ → ℕ → Answer Bool
 ancestorOf w x u = walk (ancestorNext w x) (refused 12) (length (w .graph) - 1) u

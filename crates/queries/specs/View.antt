@@ -1,5 +1,5 @@
--- What an index shows beside a record, built or not: the marks of each block, and the stored numbers. The queries speak of this alone, so
--- another layout of the index is another function from bytes to the same view.
+-- What an index shows beside a record, built or not: the marks of each block, and the stored numbers. The queries speak
+-- of this alone, so another layout of the index is another function from bytes to the same view.
 use mathlib.Core.Path.{_≡_}
 use mathlib.Core.Bool.{Bool, false}
 use mathlib.Core.List.{List}

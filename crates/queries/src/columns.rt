@@ -21,7 +21,9 @@ use record::starts::fill_starts;
 // The visit numbers, from 1. The record stands here for the contract only.
 fn fill_visits(bytes: &[u8], index: &[u8], n: usize, m: usize, visits: &mut [u16])
     requires { ⌜ (Ready (now bytes) (now index) n m) × (length (now visits) ≡ n) ⌝ }
-    ensures { λ _. ⌜ Cells (λ v. v) (λ v. suc (number (forest (blocks (now (bytes .entry)))) v)) n n (now (visits .exit)) ⌝ }
+    ensures { λ _. ⌜
+        Cells (λ v. v) (λ v. suc (number (forest (blocks (now (bytes .entry)))) v)) n n (now (visits .exit))
+        ⌝ }
 {
     let mut v = 0;
     while v < n {
@@ -32,8 +34,12 @@ fn fill_visits(bytes: &[u8], index: &[u8], n: usize, m: usize, visits: &mut [u16
 
 // How many children each vertex has.
 fn fill_counts(bytes: &[u8], index: &[u8], n: usize, m: usize, starts: &[u16], counts: &mut [u16])
-    requires { ⌜ (Ready (now bytes) (now index) n m) × (now starts ≡ startsOf (unary (now bytes))) × (length (now counts) ≡ n) ⌝ }
-    ensures { λ _. ⌜ Cells (λ v. v) (λ v. length (childrenIn (forest (blocks (now (bytes .entry)))) v)) n n (now (counts .exit)) ⌝ }
+    requires { ⌜
+        (Ready (now bytes) (now index) n m) × (now starts ≡ startsOf (unary (now bytes))) × (length (now counts) ≡ n)
+        ⌝ }
+    ensures { λ _. ⌜
+        Cells (λ v. v) (λ v. length (childrenIn (forest (blocks (now (bytes .entry)))) v)) n n (now (counts .exit))
+        ⌝ }
 {
     let mut v = 0;
     while v < n {
@@ -46,7 +52,11 @@ fn fill_counts(bytes: &[u8], index: &[u8], n: usize, m: usize, starts: &[u16], c
 
 // The vertices in order of visits. The record and the index stand here for the contract only.
 fn fill_order(bytes: &[u8], index: &[u8], n: usize, m: usize, visits: &[u16], order: &mut [u16])
-    requires { ⌜ (Ready (now bytes) (now index) n m) × (Cells (λ v. v) (λ v. suc (number (forest (blocks (now bytes))) v)) n n (now visits)) × (length (now order) ≡ n) ⌝ }
+    requires { ⌜
+        (Ready (now bytes) (now index) n m)
+        × (Cells (λ v. v) (λ v. suc (number (forest (blocks (now bytes))) v)) n n (now visits))
+        × (length (now order) ≡ n)
+        ⌝ }
     ensures { λ _. ⌜ Cells (λ k. k) (vertexAt (forest (blocks (now (bytes .entry))))) n n (now (order .exit)) ⌝ }
 {
     let mut v = 0;
@@ -73,8 +83,15 @@ fn place_of(
     v: usize,
     heads: &[u16],
 ) -> Placed
-    requires { ⌜ (Ready (now bytes) (now index) n m) × (now starts ≡ startsOf (unary (now bytes))) × (k < n) × (v ≡ vertexAt (forest (blocks (now bytes))) k) × (HeadsTo (now bytes) n k (now heads)) ⌝ }
-    ensures { λ r. ⌜ (r .parent ≡ parentIn (forest (blocks (now (bytes .entry)))) v) × (r .head ≡ suc (headIn (blocks (now (bytes .entry))) (forest (blocks (now (bytes .entry)))) v)) × (r .parent < 65536) × (r .head < 65536) ⌝ }
+    requires { ⌜
+        (Ready (now bytes) (now index) n m) × (now starts ≡ startsOf (unary (now bytes))) × (k < n)
+        × (v ≡ vertexAt (forest (blocks (now bytes))) k) × (HeadsTo (now bytes) n k (now heads))
+        ⌝ }
+    ensures { λ r. ⌜
+        (r .parent ≡ parentIn (forest (blocks (now (bytes .entry)))) v)
+        × (r .head ≡ suc (headIn (blocks (now (bytes .entry))) (forest (blocks (now (bytes .entry)))) v))
+        × (r .parent < 65536) × (r .head < 65536)
+        ⌝ }
 {
     let a = get(starts, v);
     let b = get(starts, v + 1);
@@ -112,8 +129,15 @@ fn fill_climbs(
     parents: &mut [u16],
     heads: &mut [u16],
 )
-    requires { ⌜ (Ready (now bytes) (now index) n m) × (now starts ≡ startsOf (unary (now bytes))) × (Cells (λ k. k) (vertexAt (forest (blocks (now bytes)))) n n (now order)) × (length (now parents) ≡ n) × (length (now heads) ≡ n) ⌝ }
-    ensures { λ _. ⌜ (ParentsTo (now (bytes .entry)) n n (now (parents .exit))) × (HeadsTo (now (bytes .entry)) n n (now (heads .exit))) ⌝ }
+    requires { ⌜
+        (Ready (now bytes) (now index) n m) × (now starts ≡ startsOf (unary (now bytes)))
+        × (Cells (λ k. k) (vertexAt (forest (blocks (now bytes)))) n n (now order)) × (length (now parents) ≡ n)
+        × (length (now heads) ≡ n)
+        ⌝ }
+    ensures { λ _. ⌜
+        (ParentsTo (now (bytes .entry)) n n (now (parents .exit)))
+        × (HeadsTo (now (bytes .entry)) n n (now (heads .exit)))
+        ⌝ }
 {
     let mut k = 0;
     while k < n {

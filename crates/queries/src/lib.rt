@@ -4,7 +4,9 @@
 ghost use mathlib.Core.Path.{_≡_};
 ghost use Rattle.record.specs.Answers.{counted, verdict};
 ghost use Rattle.queries.specs.Answers.{above, terminal, related, numbered};
-ghost use Rattle.queries.specs.Operations.{parent as parentOf, head as headOf, ancestor as ancestorOf, children as childrenOf, child as childOf, visit as visitOf, visited as visitedOf};
+ghost use Rattle.queries.specs.Operations.{parent as parentOf, head as headOf, ancestor as ancestorOf};
+ghost use Rattle.queries.specs.Operations.{children as childrenOf, child as childOf, visit as visitOf};
+ghost use Rattle.queries.specs.Operations.{visited as visitedOf};
 ghost use Rattle.queries.specs.Table.{columns, TableDone};
 use forest::Dfi;
 use record::Counted;

@@ -1,5 +1,5 @@
-// Asks `queries` about fixed records and indexes and prints the answers: a line for each query, of Child and Ancestor one for each terminal;
-// and then Table. The file stdout has what they must be.
+// Asks `queries` about fixed records and indexes and prints the answers: a line for each query, of Child and Ancestor
+// one for each terminal; and then Table. The file stdout has what they must be.
 ghost use Prim.Native.Nat.{_≤_};
 use answers::above;
 use answers::counted;
@@ -122,8 +122,8 @@ fn stated() {
     run(b"empty", b"\x00\x00\x00\x00", b"", 1);
 }
 
-// The indexes that Build writes: for a path, components with isolated terminals between them, two triangles joined by a bridge, a cycle with a
-// chord and a tail.
+// The indexes that Build writes: for a path, components with isolated terminals between them, two triangles joined by a
+// bridge, a cycle with a chord and a tail.
 fn built() {
     run(
         b"path",
@@ -181,7 +181,8 @@ fn parents() {
     );
 }
 
-// Stored numbers of 6 and more, and equal ones; marks at the places of D's ones; every bit clear, and set; the index of the path.
+// Stored numbers of 6 and more, and equal ones; marks at the places of D's ones; every bit clear, and set; the index of
+// the path.
 fn others() {
     on_sample(
         b"numbers",
@@ -243,7 +244,8 @@ fn strays() {
     );
 }
 
-// One terminal, its own neighbour twice: P at the first place, then with B there, with B at the second; P and B at both.
+// One terminal, its own neighbour twice: P at the first place, then with B there, with B at the second; P and B at
+// both.
 fn own() {
     run(
         b"own",

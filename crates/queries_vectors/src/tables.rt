@@ -1,4 +1,5 @@
-// Table, for all terminals at once: a line with the lengths that are lent and the verdict, and one for each list after the call.
+// Table, for all terminals at once: a line with the lengths that are lent and the verdict, and one for each list after
+// the call.
 ghost use Prim.Native.Nat.{_≤_};
 use print::refused;
 use print::show_numbers;
@@ -57,7 +58,8 @@ fn table(
     column(name, b" heads:", heads);
 }
 
-// Table with a work slice and lists of these lengths. The lists hold marks at first, each its own: a refused call leaves them.
+// Table with a work slice and lists of these lengths. The lists hold marks at first, each its own: a refused call
+// leaves them.
 fn lent(
     name: &[u8],
     bytes: &[u8],
@@ -92,8 +94,8 @@ fn run(name: &[u8], bytes: &[u8], n: usize)
     lent(name, bytes, 8 * n, n, n, n, n);
 }
 
-// Document 01's records, a path, components with isolated terminals between them, two triangles joined by a bridge, a cycle with a chord and a
-// tail.
+// Document 01's records, a path, components with isolated terminals between them, two triangles joined by a bridge, a
+// cycle with a chord and a tail.
 pub fn accepted() {
     run(
         b"sample",
@@ -176,7 +178,8 @@ fn on_sample(work: usize, visits: usize, parents: usize, counts: usize, heads: u
     );
 }
 
-// Work of one number more, which is accepted; 9, before 10; 10, for each list in turn, too short and too long; and 5 before both.
+// Work of one number more, which is accepted; 9, before 10; 10, for each list in turn, too short and too long; and 5
+// before both.
 pub fn bad_lengths() {
     on_sample(49, 6, 6, 6, 6);
     on_sample(47, 6, 6, 6, 6);

@@ -1,4 +1,5 @@
-// Asks `record` about fixed records and prints the answers, a line for each call. The file stdout has what they must be.
+// Asks `record` about fixed records and prints the answers, a line for each call. The file stdout has what they must
+// be.
 ghost use Prim.Native.Nat.{_≤_};
 use print::label;
 use print::number;

@@ -101,4 +101,9 @@ toBits-append a b v =
     value-injective (toBits (a + b) v) (toBits a (v / 2 ^ b) ++ toBits b v)
     (rw (length-append, length-toBits (a + b) v, length-toBits a (v / 2 ^ b), length-toBits b v))
     (value-toBits (a + b) v ∙ mod-pow-add v a b
-    ∙ sym (rw (value-append (toBits a (v / 2 ^ b)) (toBits b v), length-toBits b v, value-toBits a (v / 2 ^ b), value-toBits b v)))
+    ∙ sym (rw (
+      value-append (toBits a (v / 2 ^ b)) (toBits b v),
+      length-toBits b v,
+      value-toBits a (v / 2 ^ b),
+      value-toBits b v,
+    )))

@@ -9,7 +9,8 @@ use borrow.Author.Tests.{le-leb}
 use lib.Dec.{lit<}
 use lib.Pow.{pow-mono}
 use native.Mathlib.Omega.{arith}
-use lib.ListN.{length, take, drop, replicate, length-append, length-drop, take-append-drop, drop-of-length-le, replicate-append-replicate, length-take}
+use lib.ListN.{length, take, drop, replicate, length-append, length-drop, take-append-drop, drop-of-length-le}
+use lib.ListN.{replicate-append-replicate, length-take}
 use lib.Seq.{take-at, drop-at, take-append-le, take-append-add, length-take-le}
 use Rattle.bits.specs.Bits.{toBits, bits, string, value, packed, pack}
 use Rattle.bits.specs.Laws.Digits.{value-lt, length-toBits, value-toBits, toBits-value}
@@ -31,14 +32,22 @@ take-replicate (suc k) zero b h = absurd (omega arith)
 take-replicate (suc k) (suc n) b h = ap (λ (s : List Bool). b ∷ s) (take-replicate k n b (omega arith))
 
 -- the next eight bits, and what follows them
-next-byte : (s rest : List Bool) (n : ℕ) → length s ≤ 8 * suc n → rest ≡ drop 8 s ++ replicate (8 * n - length (drop 8 s)) false
+next-byte : (s rest : List Bool) (n : ℕ) → length s ≤ 8 * suc n
+    → rest ≡ drop 8 s ++ replicate (8 * n - length (drop 8 s)) false
     → take 8 (s ++ replicate 8 false) ++ rest ≡ s ++ replicate (8 * suc n - length s) false
 next-byte s rest n h e = go (decLe 8 (length s))
   where
     go : Dec (8 ≤ length s) → take 8 (s ++ replicate 8 false) ++ rest ≡ s ++ replicate (8 * suc n - length s) false
     go (yes k) =
         let c : 8 * n - length (drop 8 s) ≡ 8 * suc n - length s = omega (arith, length-drop 8 s) in
-        rw (e, c, take-append-le 8 s (replicate 8 false) k, ← append-assoc (take 8 s) (drop 8 s) (replicate (8 * suc n - length s) false), take-append-drop 8 s)
+        rw (
+          e,
+          c,
+          take-append-le 8 s (replicate 8 false) k,
+          ← append-assoc (take 8 s) (drop 8 s)
+              (replicate (8 * suc n - length s) false),
+          take-append-drop 8 s,
+        )
     go (no k) =
         let c : 8 * n - length (drop 8 s) ≡ 8 * n = omega (arith, length-drop 8 s) in
         let d : 8 ≡ length s + (8 - length s) = omega arith in
@@ -62,7 +71,8 @@ bits-packed zero [] h = refl
 bits-packed zero (b ∷ s) h = absurd (omega arith)
 bits-packed (suc n) s h =
     let c : List Bool = take 8 (s ++ replicate 8 false) in
-    let l : length c ≡ 8 = length-take-le 8 (s ++ replicate 8 false) (omega (arith, length-append s (replicate 8 false))) in
+    let l : length c ≡ 8 =
+    length-take-le 8 (s ++ replicate 8 false) (omega (arith, length-append s (replicate 8 false))) in
     ap (λ (t : List Bool). t ++ bits (packed n (drop 8 s))) (toBits-value 8 c l)
     ∙ next-byte s (bits (packed n (drop 8 s))) n h (bits-packed n (drop 8 s) (simp length-drop (omega arith)))
 
@@ -74,7 +84,10 @@ bits-pack s = bits-packed ((length s + 7) / 8) s (omega arith)
 -- as a string, they are the bits that were packed
 pub string-pack : (s : List Bool) → string (pack s) 0 (length s) ≡ s
 string-pack s =
-    rw (held (pack s) 0 (length s) (le-leb (0 + length s) (8 * length (pack s)) (omega (arith, length-pack s))), bits-pack s)
+    rw (
+      held (pack s) 0 (length s) (le-leb (0 + length s) (8 * length (pack s)) (omega (arith, length-pack s))),
+      bits-pack s,
+    )
     (take-at s (replicate (8 * ((length s + 7) / 8) - length s) false) (length s) refl)
 
 -- bytes of zero are zero bits
@@ -89,7 +102,8 @@ packed-bytes : (n : ℕ) (s : List Bool) → AreBytes (packed n s)
 unfolding packed
 packed-bytes zero s i = lit< tt
 packed-bytes (suc n) s zero =
-    lt-of-lt-of-le (value-lt (take 8 (s ++ replicate 8 false))) (pow-mono {j = 8} (simp length-take (min-le-left 8 (length (s ++ replicate 8 false)))))
+    lt-of-lt-of-le (value-lt (take 8 (s ++ replicate 8 false)))
+    (pow-mono {j = 8} (simp length-take (min-le-left 8 (length (s ++ replicate 8 false)))))
 packed-bytes (suc n) s (suc i) = packed-bytes n (drop 8 s) i
 
 -- what packing gives are bytes
@@ -103,7 +117,9 @@ packed-bits [] h = refl
 packed-bits (b ∷ bytes) h =
     let l : length (toBits 8 b) ≡ 8 = length-toBits 8 b in
     ap₂ (λ (x : ℕ) (xs : List ℕ). x ∷ xs)
-    (ap value (ap (take 8) (append-assoc (toBits 8 b) (bits bytes) (replicate 8 false)) ∙ take-at (toBits 8 b) (bits bytes ++ replicate 8 false) 8 l)
+    (ap value
+    (ap (take 8) (append-assoc (toBits 8 b) (bits bytes) (replicate 8 false))
+    ∙ take-at (toBits 8 b) (bits bytes ++ replicate 8 false) 8 l)
     ∙ value-toBits 8 b ∙ mod-eq-of-lt (h 0))
     (ap (packed (length bytes)) (drop-at (toBits 8 b) (bits bytes) 8 l) ∙ packed-bits bytes (λ i. h (suc i)))
 

@@ -34,7 +34,8 @@ onesAt-append p (false ∷ s) t =
     rw (← e) (onesAt-append (suc p) s t)
 
 -- numbered from m places further on
-onesAt-further : (m p : ℕ) (s : List Bool) (j : ℕ) → j < count s → getD (onesAt (m + p) s) j 0 ≡ m + getD (onesAt p s) j 0
+onesAt-further : (m p : ℕ) (s : List Bool) (j : ℕ) → j < count s
+    → getD (onesAt (m + p) s) j 0 ≡ m + getD (onesAt p s) j 0
 unfolding onesAt count
 onesAt-further m p [] j h = absurd (omega arith)
 onesAt-further m p (true ∷ s) zero h = refl
@@ -42,7 +43,8 @@ onesAt-further m p (true ∷ s) (suc j) h = rw (← add-suc m p) (onesAt-further
 onesAt-further m p (false ∷ s) j h = rw (← add-suc m p) (onesAt-further m (suc p) s j h)
 
 -- each is one of the string's places
-onesAt-bounds : (p : ℕ) (s : List Bool) (j : ℕ) → j < count s → (p ≤ getD (onesAt p s) j 0) × (getD (onesAt p s) j 0 < p + length s)
+onesAt-bounds : (p : ℕ) (s : List Bool) (j : ℕ) → j < count s
+    → (p ≤ getD (onesAt p s) j 0) × (getD (onesAt p s) j 0 < p + length s)
 unfolding onesAt count
 onesAt-bounds p [] j h = absurd (omega arith)
 onesAt-bounds p (true ∷ s) zero h = omega arith
@@ -117,7 +119,8 @@ select-right s t (suc k) h l =
     ∙ onesAt-further (length s) 1 t i (omega arith))
 
 -- past the first string: the place in the second, if there is one
-pub select-right-found : (s t : List Bool) (k : ℕ) → count s < k → 1 ≤ select t (k - count s) → select (s ++ t) k ≡ length s + select t (k - count s)
+pub select-right-found : (s t : List Bool) (k : ℕ) → count s < k → 1 ≤ select t (k - count s)
+    → select (s ++ t) k ≡ length s + select t (k - count s)
 select-right-found s t k h p = go (decLe k (count s + count t))
   where
     go : Dec (k ≤ count s + count t) → select (s ++ t) k ≡ length s + select t (k - count s)
@@ -150,13 +153,16 @@ select-take s n k = go (decLe k (count (take n s))) (decLe k (count s))
 
     go : Dec (k ≤ count (take n s)) → Dec (k ≤ count s) → select (take n s) k ≡ within n (select s k)
     go (yes h) d =
-        let e : select s k ≡ select (take n s) k = ap (λ (t : List Bool). select t k) (sym whole) ∙ select-left (take n s) (drop n s) k h in
+        let e : select s k ≡ select (take n s) k =
+        ap (λ (t : List Bool). select t k) (sym whole) ∙ select-left (take n s) (drop n s) k h in
         let l : select s k ≤ n = omega (arith, e, select-le (take n s) k, length-take n s) in
         sym e ∙ sym (within-in n (select s k) l)
     go (no h) (yes d) =
-        let c : count s ≡ count (take n s) + count (drop n s) = ap count (sym whole) ∙ count-append (take n s) (drop n s) in
+        let c : count s ≡ count (take n s) + count (drop n s) =
+        ap count (sym whole) ∙ count-append (take n s) (drop n s) in
         let e : select s k ≡ length (take n s) + select (drop n s) (k - count (take n s)) =
-        ap (λ (t : List Bool). select t k) (sym whole) ∙ select-right (take n s) (drop n s) k (omega arith) (omega arith) in
+        ap (λ (t : List Bool). select t k) (sym whole)
+        ∙ select-right (take n s) (drop n s) k (omega arith) (omega arith) in
         let b = select-bounds (drop n s) (k - count (take n s)) (omega arith) (omega arith) in
         let f : length s ≤ n → ⊥ = λ (g : length s ≤ n). omega (arith, ap count (take-all n s g)) in
         let l : n < select s k = omega (arith, length-take-le n s (omega arith)) in
@@ -179,7 +185,8 @@ unfolding rank
 rank-cons b s p = count-cons b (take p s)
 
 -- past the first bit
-rank-select-cons : (b : Bool) (s : List Bool) (k : ℕ) → 1 ≤ k → k ≤ count s → rank s (select s k) ≡ k → rank (b ∷ s) (select (b ∷ s) (bit b + k)) ≡ bit b + k
+rank-select-cons : (b : Bool) (s : List Bool) (k : ℕ) → 1 ≤ k → k ≤ count s → rank s (select s k) ≡ k
+    → rank (b ∷ s) (select (b ∷ s) (bit b + k)) ≡ bit b + k
 rank-select-cons b s k h l e = rw (select-cons b s k h l, rank-cons b s (select s k), e)
 
 -- up to the k-th one there are k ones
@@ -195,7 +202,8 @@ rank-select (false ∷ s) (suc k) h =
     let e : bit false + suc k ≡ suc k = omega arith in
     rw e at (rank-select-cons false s (suc k) (omega arith) h (rank-select s (suc k) h))
 
-later : (b : Bool) (s : List Bool) (i : ℕ) → select s (rank s (i + 1)) ≡ i + 1 → select (b ∷ s) (rank (b ∷ s) (suc i + 1)) ≡ suc i + 1
+later : (b : Bool) (s : List Bool) (i : ℕ) → select s (rank s (i + 1)) ≡ i + 1
+    → select (b ∷ s) (rank (b ∷ s) (suc i + 1)) ≡ suc i + 1
 later b s i e =
     let r : ℕ = rank s (i + 1) in
     let z : r ≡ 0 → ⊥ = λ (z : r ≡ 0). omega (arith, ap (select s) z, select-zero s) in
@@ -213,11 +221,14 @@ select-rank (b ∷ s) (suc i) e = later b s i (select-rank s i e)
 -- ---- of a string by its bytes: where they hold it, where they don't, and of no places
 
 module _ (bytes : List ℕ) (start places k : ℕ) where
-  pub select-held : leb (start + places) (8 * length bytes) ≡ true → select (string bytes start places) k ≡ select (take places (drop start (bits bytes))) k
+  pub select-held : leb (start + places) (8 * length bytes) ≡ true
+      → select (string bytes start places) k ≡ select (take places (drop start (bits bytes))) k
   select-held h = ap (λ (s : List Bool). select s k) (held bytes start places h)
 
   pub select-not-held : leb (start + places) (8 * length bytes) ≡ false → select (string bytes start places) k ≡ 0
-  select-not-held h = let l = select-le (string bytes start places) k in omega (arith, ap length (not-held bytes start places h))
+  select-not-held h =
+      let l = select-le (string bytes start places) k in
+      omega (arith, ap length (not-held bytes start places h))
 
 pub select-empty : (bytes : List ℕ) (start k : ℕ) → select (string bytes start 0) k ≡ 0
 select-empty bytes start k = omega (arith, select-le (string bytes start 0) k, length-string bytes start 0)

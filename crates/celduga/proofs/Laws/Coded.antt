@@ -4,7 +4,9 @@ use Prim.Native.Nat.{ℕ, _*_, _≤_}
 use native.Mathlib.Omega.{arith}
 use Rattle.record.specs.Answers.{Answer, refused, answered, number}
 use Rattle.record.specs.declared.Refusal.{Refusal}
-use Rattle.record.specs.declared.Refusal.the-variants.{TooShort, OverLimit, WrongLength, BadUnary, SpareSet, StrayNeighbour, DoubledNeighbour, OneSidedWire, ShortWork, WrongBuffer, NoTerminal, BadIndex, NoChild}
+use Rattle.record.specs.declared.Refusal.the-variants.{TooShort, OverLimit, WrongLength, BadUnary, SpareSet}
+use Rattle.record.specs.declared.Refusal.the-variants.{StrayNeighbour, DoubledNeighbour, OneSidedWire, ShortWork}
+use Rattle.record.specs.declared.Refusal.the-variants.{WrongBuffer, NoTerminal, BadIndex, NoChild}
 use Rattle.celduga.specs.Code.{code}
 use Rattle.celduga.specs.Laws.Halves.{Valued, none, value}
 

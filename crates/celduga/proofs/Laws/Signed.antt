@@ -37,7 +37,8 @@ module _ (z : ℤ) (near : mag z < 32768) where
         go (pos k) h l = absurd (let q = ltb-true k 0 l in omega arith)
         go (negsuc k) h l =
             let e : 65536 - suc k ≡ 65535 - k = omega arith in
-            ap (λ (c : Bool). cond c (negsuc (suc k - 65537)) (pos (65536 - suc k))) (le-ltb 65536 (suc k) (omega arith)) ∙ ap pos e
+            ap (λ (c : Bool). cond c (negsuc (suc k - 65537)) (pos (65536 - suc k)))
+            (le-ltb 65536 (suc k) (omega arith)) ∙ ap pos e
 
     small : complement z < 65536
     unfolding complement
@@ -57,7 +58,9 @@ module _ (z : ℤ) (near : mag z < 32768) where
 
   pub above-handed : ltZ (toZ w32 (ofZ w32 z)) (pos 0) ≡ false → Handed (toZ w32 (ofZ w32 z)) (complement z)
   unfolding complement
-  above-handed l = subst (λ (y : ℤ). Handed y (complement z)) (sym held) (go z near (subst (λ (y : ℤ). ltZ y (pos 0) ≡ false) held l))
+  above-handed l =
+      subst (λ (y : ℤ). Handed y (complement z)) (sym held)
+      (go z near (subst (λ (y : ℤ). ltZ y (pos 0) ≡ false) held l))
     where
       go : (y : ℤ) → mag y < 32768 → ltZ y (pos 0) ≡ false → Handed y (complement y)
       go (pos k) h l = handed k (omega arith)

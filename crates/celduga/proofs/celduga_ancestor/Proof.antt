@@ -5,14 +5,9 @@ use borrow.Author.Needs.{needs}
 use Rattle.celduga.proofs.celduga_ancestor.Statement.{statement}
 use Rattle.celduga.proofs.celduga_ancestor.Tie as tie
 
-ancestor-requires : tie.Need-ancestor-requires
-ancestor-requires c κs = search needs
-
-of-related-requires : tie.Need-of-related-requires
-of-related-requires c κs = search needs
-
 returns : tie.Need-returns
 returns c = code-call bit (c .before .ancestor .ensures) (c .of-related .ensures)
 
 pub celduga-ancestor-spec : {M : Type 1} → statement M
-celduga-ancestor-spec = tie.close (tie.spec ancestor-requires of-related-requires returns)
+celduga-ancestor-spec = tie.close
+    (tie.spec (λ c κs. search needs) (λ c κs. search needs) returns)

@@ -5,21 +5,13 @@ use borrow.Author.Needs.{needs}
 use Rattle.celduga.proofs.celduga_build.Statement.{statement}
 use Rattle.celduga.proofs.celduga_build.Tie as tie
 
-build-requires : tie.Need-build-requires
-build-requires c κs = search needs
-
-of-verdict-requires : tie.Need-of-verdict-requires
-of-verdict-requires c κs = search needs
-
-same-length : tie.Need-same-length
-same-length c = search needs
-
-same-length-2 : tie.Need-same-length-2
-same-length-2 c = search needs
-
 returns : tie.Need-returns
-returns c = (code-call nothing (c .before .before .before .before .before .build .ensures .0) (c .of-verdict .ensures), c .before .before .before .before .before .build .ensures .1)
+returns c = (
+  code-call nothing (c .before .before .before .before .before .build .ensures .0) (c .of-verdict .ensures),
+  c .before .before .before .before .before .build .ensures .1,
+)
 
 pub celduga-build-spec : {M : Type 1} → statement M
 celduga-build-spec =
-    tie.close (tie.spec build-requires of-verdict-requires same-length same-length-2 returns)
+    tie.close
+    (tie.spec (λ c κs. search needs) (λ c κs. search needs) (λ c. search needs) (λ c. search needs) returns)

@@ -5,14 +5,9 @@ use borrow.Author.Needs.{needs}
 use Rattle.celduga.proofs.celduga_check.Statement.{statement}
 use Rattle.celduga.proofs.celduga_check.Tie as tie
 
-check-requires : tie.Need-check-requires
-check-requires c κs = search needs
-
-of-verdict-requires : tie.Need-of-verdict-requires
-of-verdict-requires c κs = search needs
-
 returns : tie.Need-returns
 returns c = code-call nothing (c .before .check .ensures) (c .of-verdict .ensures)
 
 pub celduga-check-spec : {M : Type 1} → statement M
-celduga-check-spec = tie.close (tie.spec check-requires of-verdict-requires returns)
+celduga-check-spec = tie.close
+    (tie.spec (λ c κs. search needs) (λ c κs. search needs) returns)

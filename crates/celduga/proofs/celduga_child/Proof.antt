@@ -6,14 +6,15 @@ use borrow.Author.Needs.{needs}
 use Rattle.celduga.proofs.celduga_child.Statement.{statement}
 use Rattle.celduga.proofs.celduga_child.Tie as tie
 
-child-requires : tie.Need-child-requires
-child-requires c κs = search needs
-
 of-found-requires : tie.Need-of-found-requires
-of-found-requires c κs = valued-call (c .child .ensures) (child-small (c .before .before .before .args .bytes .now) (c .before .before .before .args .index .now) (c .before .before .before .args .v) (c .before .before .before .args .j))
+of-found-requires c κs =
+    valued-call (c .child .ensures)
+    (child-small (c .before .before .before .args .bytes .now) (c .before .before .before .args .index .now)
+    (c .before .before .before .args .v) (c .before .before .before .args .j))
 
 returns : tie.Need-returns
 returns c = code-call itself (c .before .child .ensures) (c .of-found .ensures)
 
 pub celduga-child-spec : {M : Type 1} → statement M
-celduga-child-spec = tie.close (tie.spec child-requires of-found-requires returns)
+celduga-child-spec = tie.close
+    (tie.spec (λ c κs. search needs) of-found-requires returns)

@@ -6,14 +6,15 @@ use borrow.Author.Needs.{needs}
 use Rattle.celduga.proofs.celduga_children.Statement.{statement}
 use Rattle.celduga.proofs.celduga_children.Tie as tie
 
-children-requires : tie.Need-children-requires
-children-requires c κs = search needs
-
 of-counted-requires : tie.Need-of-counted-requires
-of-counted-requires c κs = valued-call (c .children .ensures) (children-small (c .before .before .before .args .bytes .now) (c .before .before .before .args .index .now) (c .before .before .before .args .v))
+of-counted-requires c κs =
+    valued-call (c .children .ensures)
+    (children-small (c .before .before .before .args .bytes .now) (c .before .before .before .args .index .now)
+    (c .before .before .before .args .v))
 
 returns : tie.Need-returns
 returns c = code-call itself (c .before .children .ensures) (c .of-counted .ensures)
 
 pub celduga-children-spec : {M : Type 1} → statement M
-celduga-children-spec = tie.close (tie.spec children-requires of-counted-requires returns)
+celduga-children-spec = tie.close
+    (tie.spec (λ c κs. search needs) of-counted-requires returns)

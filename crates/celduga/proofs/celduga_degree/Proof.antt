@@ -6,14 +6,13 @@ use borrow.Author.Needs.{needs}
 use Rattle.celduga.proofs.celduga_degree.Statement.{statement}
 use Rattle.celduga.proofs.celduga_degree.Tie as tie
 
-degree-requires : tie.Need-degree-requires
-degree-requires c κs = search needs
-
 of-counted-requires : tie.Need-of-counted-requires
-of-counted-requires c κs = valued-call (c .degree .ensures) (degree-small (c .before .before .args .bytes .now) (c .before .before .args .v))
+of-counted-requires c κs =
+    valued-call (c .degree .ensures) (degree-small (c .before .before .args .bytes .now) (c .before .before .args .v))
 
 returns : tie.Need-returns
 returns c = code-call itself (c .before .degree .ensures) (c .of-counted .ensures)
 
 pub celduga-degree-spec : {M : Type 1} → statement M
-celduga-degree-spec = tie.close (tie.spec degree-requires of-counted-requires returns)
+celduga-degree-spec = tie.close
+    (tie.spec (λ c κs. search needs) of-counted-requires returns)

@@ -6,9 +6,6 @@ use borrow.Author.Needs.{needs}
 use Rattle.celduga.proofs.celduga_loop_figure.Statement.{statement}
 use Rattle.celduga.proofs.celduga_loop_figure.Tie as tie
 
-loop-figure-requires : tie.Need-loop-figure-requires
-loop-figure-requires c κs = search needs
-
 of-figure-requires : tie.Need-of-figure-requires
 of-figure-requires c κs = valued-call (c .loop-figure .ensures) (figure-short (c .before .before .args .bytes .now))
 
@@ -16,4 +13,5 @@ returns : tie.Need-returns
 returns c = code-call complement (c .before .loop-figure .ensures) (c .of-figure .ensures)
 
 pub celduga-loop-figure-spec : {M : Type 1} → statement M
-celduga-loop-figure-spec = tie.close (tie.spec loop-figure-requires of-figure-requires returns)
+celduga-loop-figure-spec = tie.close
+    (tie.spec (λ c κs. search needs) of-figure-requires returns)

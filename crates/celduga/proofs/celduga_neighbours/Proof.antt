@@ -6,9 +6,6 @@ use Rattle.celduga.specs.Code.{inHalves}
 use Rattle.celduga.proofs.celduga_neighbours.Statement.{statement}
 use Rattle.celduga.proofs.celduga_neighbours.Tie as tie
 
-part-of-requires : tie.Need-part-of-requires
-part-of-requires c κs = search needs
-
 of-part-requires : tie.Need-of-part-requires
 of-part-requires c κs = part-near (c .part-of .ensures)
 
@@ -18,4 +15,5 @@ returns c =
     record { tells = λ list l. c .of-part .ensures ∙ ap₂ inHalves (p .begins list l) (p .counts list l) }
 
 pub celduga-neighbours-spec : {M : Type 1} → statement M
-celduga-neighbours-spec = tie.close (tie.spec part-of-requires of-part-requires returns)
+celduga-neighbours-spec = tie.close
+    (tie.spec (λ c κs. search needs) of-part-requires returns)

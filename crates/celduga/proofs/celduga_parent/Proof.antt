@@ -6,14 +6,15 @@ use borrow.Author.Needs.{needs}
 use Rattle.celduga.proofs.celduga_parent.Statement.{statement}
 use Rattle.celduga.proofs.celduga_parent.Tie as tie
 
-parent-requires : tie.Need-parent-requires
-parent-requires c κs = search needs
-
 of-above-requires : tie.Need-of-above-requires
-of-above-requires c κs = valued-call (c .parent .ensures) (parent-small (c .before .before .before .args .bytes .now) (c .before .before .before .args .index .now) (c .before .before .before .args .v))
+of-above-requires c κs =
+    valued-call (c .parent .ensures)
+    (parent-small (c .before .before .before .args .bytes .now) (c .before .before .before .args .index .now)
+    (c .before .before .before .args .v))
 
 returns : tie.Need-returns
 returns c = code-call orZero (c .before .parent .ensures) (c .of-above .ensures)
 
 pub celduga-parent-spec : {M : Type 1} → statement M
-celduga-parent-spec = tie.close (tie.spec parent-requires of-above-requires returns)
+celduga-parent-spec = tie.close
+    (tie.spec (λ c κs. search needs) of-above-requires returns)

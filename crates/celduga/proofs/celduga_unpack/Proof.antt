@@ -5,17 +5,12 @@ use borrow.Author.Needs.{needs}
 use Rattle.celduga.proofs.celduga_unpack.Statement.{statement}
 use Rattle.celduga.proofs.celduga_unpack.Tie as tie
 
-unpack-requires : tie.Need-unpack-requires
-unpack-requires c κs = search needs
-
-of-verdict-requires : tie.Need-of-verdict-requires
-of-verdict-requires c κs = search needs
-
-same-length : tie.Need-same-length
-same-length c = search needs
-
 returns : tie.Need-returns
-returns c = (code-call nothing (c .before .before .before .unpack .ensures .0) (c .of-verdict .ensures), c .before .before .before .unpack .ensures .1)
+returns c = (
+  code-call nothing (c .before .before .before .unpack .ensures .0) (c .of-verdict .ensures),
+  c .before .before .before .unpack .ensures .1,
+)
 
 pub celduga-unpack-spec : {M : Type 1} → statement M
-celduga-unpack-spec = tie.close (tie.spec unpack-requires of-verdict-requires same-length returns)
+celduga-unpack-spec = tie.close
+    (tie.spec (λ c κs. search needs) (λ c κs. search needs) (λ c. search needs) returns)

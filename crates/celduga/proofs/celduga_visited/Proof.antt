@@ -6,14 +6,15 @@ use borrow.Author.Needs.{needs}
 use Rattle.celduga.proofs.celduga_visited.Statement.{statement}
 use Rattle.celduga.proofs.celduga_visited.Tie as tie
 
-visited-requires : tie.Need-visited-requires
-visited-requires c κs = search needs
-
 of-found-requires : tie.Need-of-found-requires
-of-found-requires c κs = valued-call (c .visited .ensures) (visited-small (c .before .before .before .args .bytes .now) (c .before .before .before .args .index .now) (c .before .before .before .args .i))
+of-found-requires c κs =
+    valued-call (c .visited .ensures)
+    (visited-small (c .before .before .before .args .bytes .now) (c .before .before .before .args .index .now)
+    (c .before .before .before .args .i))
 
 returns : tie.Need-returns
 returns c = code-call itself (c .before .visited .ensures) (c .of-found .ensures)
 
 pub celduga-visited-spec : {M : Type 1} → statement M
-celduga-visited-spec = tie.close (tie.spec visited-requires of-found-requires returns)
+celduga-visited-spec = tie.close
+    (tie.spec (λ c κs. search needs) of-found-requires returns)

@@ -51,7 +51,8 @@ module _ {A : Type 0} (low : A → ℕ) (fits : (a : A) → low a < 65536) where
   pub halves-always : (a : Answer A) → (code low a / 65536 ≡ refusal a) × (code low a % 65536 ≡ said low a)
   halves-always a = halves low (λ x h. h) (always a)
 
-pub halves-nothing : (a : Answer (Unit {0})) → (code nothing a / 65536 ≡ refusal a) × (code nothing a % 65536 ≡ said nothing a)
+pub halves-nothing : (a : Answer (Unit {0}))
+    → (code nothing a / 65536 ≡ refusal a) × (code nothing a % 65536 ≡ said nothing a)
 unfolding nothing
 halves-nothing = halves-always nothing (λ x. omega arith)
 
@@ -63,7 +64,8 @@ halves-yes = halves-always bit fits
     fits false = omega arith
 
 -- for numbers, for parents, and for the loop figure
-pub halves-number : {a : Answer ℕ} → Small a → (code itself a / 65536 ≡ refusal a) × (code itself a % 65536 ≡ said itself a)
+pub halves-number : {a : Answer ℕ} → Small a
+    → (code itself a / 65536 ≡ refusal a) × (code itself a % 65536 ≡ said itself a)
 unfolding itself
 halves-number s = halves itself (λ k h. h) s
 
@@ -71,7 +73,8 @@ pub halves-parent : {a : Answer (Option ℕ)} → SmallParent a
     → (code orZero a / 65536 ≡ refusal a) × (code orZero a % 65536 ≡ said orZero a)
 halves-parent s = halves orZero (λ p h. h) s
 
-pub halves-figure : {a : Answer ℤ} → Short a → (code complement a / 65536 ≡ refusal a) × (code complement a % 65536 ≡ said complement a)
+pub halves-figure : {a : Answer ℤ} → Short a
+    → (code complement a / 65536 ≡ refusal a) × (code complement a % 65536 ≡ said complement a)
 unfolding complement
 halves-figure s = halves complement fits s
   where

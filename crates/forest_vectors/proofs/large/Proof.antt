@@ -17,7 +17,8 @@ array-borrow-prefix-bytes : tie.Need-array-borrow-prefix-bytes
 array-borrow-prefix-bytes c = search needs
 
 slice-aggregate-measure : tie.Need-slice-aggregate-measure
-slice-aggregate-measure c = front 0 53764 (c .before .before .record-length .result) (c .before .before .record-length .ensures)
+slice-aggregate-measure c =
+    front 0 53764 (c .before .before .record-length .result) (c .before .before .record-length .ensures)
 
 slice-aggregate-measure-2 : tie.Need-slice-aggregate-measure-2
 slice-aggregate-measure-2 c = search needs
@@ -26,7 +27,9 @@ array-borrow-prefix-index : tie.Need-array-borrow-prefix-index
 array-borrow-prefix-index c = search needs
 
 slice-aggregate-measure-3 : tie.Need-slice-aggregate-measure-3
-slice-aggregate-measure-3 c = front 255 19968 (c .before .before .before .index-length .result) (c .before .before .before .index-length .ensures .1)
+slice-aggregate-measure-3 c =
+    front 255 19968 (c .before .before .before .index-length .result)
+    (c .before .before .before .index-length .ensures .1)
 
 measure-requires : tie.Need-measure-requires
 measure-requires c κs = search needs

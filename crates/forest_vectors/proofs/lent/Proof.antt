@@ -8,13 +8,17 @@ array-borrow-prefix-cells : tie.Need-array-borrow-prefix-cells
 array-borrow-prefix-cells c = search needs
 
 slice-aggregate-build : tie.Need-slice-aggregate-build
-slice-aggregate-build c = front (c .before .before .before .before .args .cell) 99 (c .before .before .before .before .args .work) (c .before .before .before .before .pre .0)
+slice-aggregate-build c =
+    front (c .before .before .before .before .args .cell) 99 (c .before .before .before .before .args .work)
+    (c .before .before .before .before .pre .0)
 
 array-borrow-prefix-buffer : tie.Need-array-borrow-prefix-buffer
 array-borrow-prefix-buffer c = search needs
 
 slice-aggregate-build-2 : tie.Need-slice-aggregate-build-2
-slice-aggregate-build-2 c = front (c .before .before .before .before .before .args .byte) 36 (c .before .before .before .before .before .args .length) (c .before .before .before .before .before .pre .1)
+slice-aggregate-build-2 c =
+    front (c .before .before .before .before .before .args .byte) 36
+    (c .before .before .before .before .before .args .length) (c .before .before .before .before .before .pre .1)
 
 build-requires : tie.Need-build-requires
 build-requires c κs = search needs

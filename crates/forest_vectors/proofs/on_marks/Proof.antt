@@ -14,13 +14,17 @@ array-borrow-prefix-cells : tie.Need-array-borrow-prefix-cells
 array-borrow-prefix-cells c = search needs
 
 slice-aggregate-build-2 : tie.Need-slice-aggregate-build-2
-slice-aggregate-build-2 c = front 0 64 (c .before .before .before .before .before .before .args .work) (c .before .before .before .before .before .before .pre .0)
+slice-aggregate-build-2 c =
+    front 0 64 (c .before .before .before .before .before .before .args .work)
+    (c .before .before .before .before .before .before .pre .0)
 
 array-borrow-prefix-buffer : tie.Need-array-borrow-prefix-buffer
 array-borrow-prefix-buffer c = search needs
 
 slice-aggregate-build-3 : tie.Need-slice-aggregate-build-3
-slice-aggregate-build-3 c = let h = c .before .before .before .before .before .before .before .pre in sym (length-take-le _ _ (omega arith))
+slice-aggregate-build-3 c =
+    let h = c .before .before .before .before .before .before .before .pre in
+    sym (length-take-le _ _ (omega arith))
 
 build-requires : tie.Need-build-requires
 build-requires c κs = search needs

@@ -28,14 +28,17 @@ module _ {A : Type 0} {bytes index : List ℕ} {v n m : ℕ} (q : Asked bytes in
   passed-on e = e ∙ same-view ∙ then-untold (orderQ bytes index v) (f (viewOf bytes index)) (q .kept)
 
 -- rules after order Q
-module _ {A : Type 0} {bytes index : List ℕ} {v n m : ℕ} (q : Asked bytes index v n m) (more : List Rule) (a : Answer A) where
+module _ {A : Type 0} {bytes index : List ℕ} {v n m : ℕ} (q : Asked bytes index v n m) (more : List Rule)
+    (a : Answer A) where
   passed-further : {r : Answer A} → r ≡ triedThen more a → r ≡ triedThen (orderQ bytes index v ++ more) a
   passed-further e = e ∙ then-passed more a (order-numbered-q bytes index v) (q .kept)
 
 -- a refusal by order Q is the query's
 refused-on : {A : Type 0} (bytes index : List ℕ) (v : ℕ) (a : Answer A) {k : ℕ}
     → refused k ≡ tried (orderQ bytes index v) (sizesOf bytes) → refused k ≡ triedThen (orderQ bytes index v) a
-refused-on bytes index v a e = then-refused (orderQ bytes index v) [] (sizesOf bytes) a e ∙ ap (λ (l : List Rule). triedThen l a) (append-nil (orderQ bytes index v))
+refused-on bytes index v a e =
+    then-refused (orderQ bytes index v) [] (sizesOf bytes) a e
+    ∙ ap (λ (l : List Rule). triedThen l a) (append-nil (orderQ bytes index v))
 
 -- order Q as the code tries it: r is what it hands on
 module _ (bytes index : List ℕ) (k : ℕ) {r : Shape} (e : shape r ≡ tried (orderQ bytes index k) (sizesOf bytes)) where

@@ -8,7 +8,8 @@ use Rattle.queries.specs.Operations.{head}
 use Rattle.queries.specs.Written.{Terminal, HeadsTell}
 use Rattle.queries.specs.Demands.{build-writes, heads-tell}
 
-pub paired : (bytes work buffer : List ℕ) {index : List ℕ} {u v : ℕ} {x y : Answer ℕ} → index ≡ built bytes work buffer → x ≡ head bytes index u → y ≡ head bytes index v
+pub paired : (bytes work buffer : List ℕ) {index : List ℕ} {u v : ℕ} {x y : Answer ℕ} → index ≡ built bytes work buffer
+    → x ≡ head bytes index u → y ≡ head bytes index v
     → build bytes work buffer ≡ answered tt → Terminal bytes u → Terminal bytes v → HeadsTell bytes u v x y
 paired bytes work buffer {u = u} {v = v} {x = x} {y = y} is ex ey e t r =
     let h = heads-tell (build-writes bytes work buffer e) t r in

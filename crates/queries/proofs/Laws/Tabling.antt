@@ -14,16 +14,16 @@ use Rattle.graph.specs.Graph.{WellFormed}
 use Rattle.graph.specs.Search.{countUp, forest}
 use Rattle.graph.specs.Forest.{number, vertexAt, parent, head, children}
 use Rattle.graph.specs.Laws.Joined.Spanning.{Covers}
-use Rattle.graph.specs.Theorems.{number-in-range, vertex-in-range, vertex-of-number, number-of-vertex, parent-before-child}
+use Rattle.graph.specs.Theorems.{number-in-range, vertex-in-range, vertex-of-number, number-of-vertex}
+use Rattle.graph.specs.Theorems.{parent-before-child}
 use Rattle.record.specs.Record.{unary, blocks, terminals}
 use Rattle.record.specs.Answers.{Answer, answered}
 use Rattle.forest.specs.Index.{indexOf}
 use Rattle.record.specs.Starts.{startsOf}
 use Rattle.adjacency.specs.Laws.Stores.{cell-same, cell-other}
 use Rattle.queries.specs.View.{viewBy, sectionOf, numberOf, blockMarks}
-use Rattle.queries.specs.Queries.{Step, stuck, top, rise, stepUp, parentBy, parentOf, headBy}
+use Rattle.queries.specs.Queries.{Step, stuck, top, rise, stepUp, parentBy, parentOf, headBy, headNext}
 use Rattle.queries.specs.Answers.{orZero, unlessZero}
-use Rattle.queries.specs.Queries.{headNext}
 use Rattle.queries.specs.Operations.{visit, parent as parentAnswer, head as headAnswer}
 use Rattle.queries.specs.Operations.{children as childrenAnswer}
 use Rattle.queries.specs.Written.{Written, Terminal}
@@ -46,7 +46,8 @@ pub cells-begin : {at value : ℕ → ℕ} {n : ℕ} {l : List ℕ} → length l
 cells-begin e = record { size = e; cells = λ i h. absurd (omega arith) }
 
 -- the cell of k is stored, which is none of those before
-pub cells-put : {at value : ℕ → ℕ} {n k : ℕ} {l : List ℕ} → Cells at value n k l → ((i : ℕ) → i < k → at i ≡ at k → ⊥) → {a x : ℕ} {next : List ℕ}
+pub cells-put : {at value : ℕ → ℕ} {n k : ℕ} {l : List ℕ} → Cells at value n k l → ((i : ℕ) → i < k → at i ≡ at k → ⊥)
+    → {a x : ℕ} {next : List ℕ}
     → a ≡ at k → at k < n → x ≡ value k → next ≡ set l a x → Cells at value n (k + 1) next
 cells-put {at} {value} {n} {k} {l} c apart {a} {x} {next} ea h ex e = record {
   size = ap length e ∙ length-set l a x ∙ c .size;
@@ -93,7 +94,8 @@ module _ {bytes index : List ℕ} {n m : ℕ} (r : Ready bytes index n m) where
   pub visit-cell : {v x : ℕ} → v < n → x ≡ numberOf n m index v → x + 1 ≡ suc (number (forest (blocks bytes)) v)
   visit-cell {v} h e = let q = shows .shows-numbers v (inside h) in omega arith
 
-  module _ {starts : List ℕ} {v a b : ℕ} (es : starts ≡ startsOf (unary bytes)) (h : v < n) (ga : a ≡ getD starts v 0) (gb : b ≡ getD starts (v + 1) 0) where
+  module _ {starts : List ℕ} {v a b : ℕ} (es : starts ≡ startsOf (unary bytes)) (h : v < n) (ga : a ≡ getD starts v 0)
+      (gb : b ≡ getD starts (v + 1) 0) where
     from : a ≡ getD (startsOf (unary bytes)) v 0
     from = block-from (ready-beside r) es h ga gb
 
@@ -120,10 +122,16 @@ module _ {bytes index : List ℕ} {n m : ℕ} (r : Ready bytes index n m) where
   -- ---- the order of visits
 
   pub visit-inside : {v : ℕ} → v < n → number (forest (blocks bytes)) v < n
-  visit-inside {v} h = let e = vertices in let q = number-in-range (formed .in-range) covered v (inside h) in omega arith
+  visit-inside {v} h =
+      let e = vertices in
+      let q = number-in-range (formed .in-range) covered v (inside h) in
+      omega arith
 
   pub vertex-inside : {k : ℕ} → k < n → vertexAt (forest (blocks bytes)) k < n
-  vertex-inside {k} h = let e = vertices in let q = vertex-in-range (formed .in-range) covered k (inside h) in omega arith
+  vertex-inside {k} h =
+      let e = vertices in
+      let q = vertex-in-range (formed .in-range) covered k (inside h) in
+      omega arith
 
   pub at-inside : {k v : ℕ} → k < n → v ≡ vertexAt (forest (blocks bytes)) k → v < n
   at-inside h e = rw e (vertex-inside h)
@@ -134,24 +142,29 @@ module _ {bytes index : List ℕ} {n m : ℕ} (r : Ready bytes index n m) where
   there : {k : ℕ} → k < n → number (forest (blocks bytes)) (vertexAt (forest (blocks bytes)) k) ≡ k
   there {k} h = number-of-vertex (formed .in-range) covered k (inside h)
 
-  pub numbers-apart : {k : ℕ} → k < n → (i : ℕ) → i < k → number (forest (blocks bytes)) i ≡ number (forest (blocks bytes)) k → ⊥
+  pub numbers-apart : {k : ℕ} → k < n → (i : ℕ) → i < k
+      → number (forest (blocks bytes)) i ≡ number (forest (blocks bytes)) k → ⊥
   numbers-apart {k} h i l e =
       let x = back {v = i} (omega arith) in
       let y = back h in
       let z = ap (vertexAt (forest (blocks bytes))) e in
       omega arith
 
-  pub vertices-apart : {k : ℕ} → k < n → (i : ℕ) → i < k → vertexAt (forest (blocks bytes)) i ≡ vertexAt (forest (blocks bytes)) k → ⊥
+  pub vertices-apart : {k : ℕ} → k < n → (i : ℕ) → i < k
+      → vertexAt (forest (blocks bytes)) i ≡ vertexAt (forest (blocks bytes)) k → ⊥
   vertices-apart {k} h i l e =
       let x = there {k = i} (omega arith) in
       let y = there h in
       let z = ap (number (forest (blocks bytes))) e in
       omega arith
 
-  pub order-filled : {v : ℕ} {order : List ℕ} → n ≤ v → Cells (number (forest (blocks bytes))) (λ x. x) n v order → Cells (λ k. k) (vertexAt (forest (blocks bytes))) n n order
+  pub order-filled : {v : ℕ} {order : List ℕ} → n ≤ v → Cells (number (forest (blocks bytes))) (λ x. x) n v order
+      → Cells (λ k. k) (vertexAt (forest (blocks bytes))) n n order
   order-filled {order = order} f c = record {
     size = c .size;
-    cells = λ k h. ap (λ (x : ℕ). getD order x 0) (sym (there h)) ∙ c .cells (vertexAt (forest (blocks bytes)) k) (let q = vertex-inside h in omega arith);
+    cells =
+        λ k h. ap (λ (x : ℕ). getD order x 0) (sym (there h))
+        ∙ c .cells (vertexAt (forest (blocks bytes)) k) (let q = vertex-inside h in omega arith);
   }
 
   -- ---- parents and heads
@@ -178,29 +191,35 @@ module _ {bytes index : List ℕ} {n m : ℕ} (r : Ready bytes index n m) where
     pub root-parent : top ≡ step → 0 ≡ parent (forest (blocks bytes)) v
     root-parent e = none-zero (parent (forest (blocks bytes)) v) (same-answer (above-is e))
 
-    pub risen-to : {starts : List ℕ} {a b : ℕ} → starts ≡ startsOf (unary bytes) → a ≡ getD starts v 0 → b ≡ getD starts (v + 1) 0 → {j p : ℕ} → rise j p ≡ step → p < n
+    pub risen-to : {starts : List ℕ} {a b : ℕ} → starts ≡ startsOf (unary bytes) → a ≡ getD starts v 0
+        → b ≡ getD starts (v + 1) 0 → {j p : ℕ} → rise j p ≡ step → p < n
     risen-to es ga gb e =
         let o = ready-beside r in
-        rise-to (o .sound) h (block-from o es h ga gb) (block-to o es h ga gb) (sectionOf n m index 1) (length-P (o .framed)) e
+        rise-to (o .sound) h (block-from o es h ga gb) (block-to o es h ga gb) (sectionOf n m index 1)
+        (length-P (o .framed)) e
 
     pub risen-parent : {j p : ℕ} → rise j p ≡ step → p + 1 ≡ parent (forest (blocks bytes)) v
     risen-parent {p = p} e = add-one p ∙ some-is (parent (forest (blocks bytes)) v) (same-answer (above-is e))
 
-    pub stopped : inl (answered (suc v)) ≡ headNext (viewBy n m bytes index) v → v + 1 ≡ suc (head (blocks bytes) (forest (blocks bytes)) v)
+    pub stopped : inl (answered (suc v)) ≡ headNext (viewBy n m bytes index) v
+        → v + 1 ≡ suc (head (blocks bytes) (forest (blocks bytes)) v)
     stopped e = add-one v ∙ same-answer (head-stopped formed covered shows v (inside h) (sym e))
 
     pub root-head : top ≡ step → v + 1 ≡ suc (head (blocks bytes) (forest (blocks bytes)) v)
     root-head e = stopped (ap (headBy (viewBy n m bytes index) v) e)
 
-    module _ {p : ℕ} (l : p < n) (e : parent (forest (blocks bytes)) v ≡ p + 1) (up : inr p ≡ headNext (viewBy n m bytes index) v)
-        {k : ℕ} (is : v ≡ vertexAt (forest (blocks bytes)) k) (f : k < n) {heads : List ℕ} (t : HeadsTo bytes n k heads) where
+    module _ {p : ℕ} (l : p < n) (e : parent (forest (blocks bytes)) v ≡ p + 1)
+        (up : inr p ≡ headNext (viewBy n m bytes index) v)
+        {k : ℕ} (is : v ≡ vertexAt (forest (blocks bytes)) k) (f : k < n) {heads : List ℕ}
+        (t : HeadsTo bytes n k heads) where
       pub risen-head : {x : ℕ} → x ≡ getD heads p 0 → x ≡ suc (head (blocks bytes) (forest (blocks bytes)) v)
       risen-head ex =
           let F = forest (blocks bytes) in
           let b = parent-before-child (formed .in-range) covered p v (inside h) (e ∙ add-one p) in
           let q : number F p < k = let y = there f in let z = ap (number F) is in omega arith in
           let w = back l in
-          ex ∙ ap (λ (x : ℕ). getD heads x 0) (sym w) ∙ t .hold .cells (number F p) q ∙ ap (λ (x : ℕ). suc (head (blocks bytes) F x)) w
+          ex ∙ ap (λ (x : ℕ). getD heads x 0) (sym w) ∙ t .hold .cells (number F p) q
+          ∙ ap (λ (x : ℕ). suc (head (blocks bytes) F x)) w
           ∙ sym (same-answer (head-risen formed covered shows (inside h) (inside l) (sym up)))
 
   -- ---- the whole table

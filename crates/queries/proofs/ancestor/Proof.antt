@@ -11,18 +11,6 @@ use borrow.Author.Needs.{needs}
 use Rattle.queries.proofs.ancestor.Statement.{statement}
 use Rattle.queries.proofs.ancestor.Tie as tie
 
-order-q-requires : tie.Need-order-q-requires
-order-q-requires c κs = search needs
-
-enum-known-r : tie.Need-enum-known-r
-enum-known-r c = search needs
-
-enum-known-s : tie.Need-enum-known-s
-enum-known-s c = search needs
-
-out-of-range-requires : tie.Need-out-of-range-requires
-out-of-range-requires c κs = search needs
-
 returns : tie.Need-returns
 unfolding ancestor ancestorRules
 returns c =
@@ -61,12 +49,5 @@ returns-3 c =
 pub ancestor-spec : {M : Type 1} → statement M
 ancestor-spec =
     tie.close
-    (tie.spec
-    order-q-requires
-    enum-known-r
-    enum-known-s
-    out-of-range-requires
-    returns
-    ancestor-in-requires
-    returns-2
-    returns-3)
+    (tie.spec (λ c κs. search needs) (λ c. search needs) (λ c. search needs) (λ c κs. search needs) returns
+    ancestor-in-requires returns-2 returns-3)

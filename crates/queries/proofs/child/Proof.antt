@@ -9,15 +9,6 @@ use borrow.Author.Needs.{needs}
 use Rattle.queries.proofs.child.Statement.{statement}
 use Rattle.queries.proofs.child.Tie as tie
 
-order-q-requires : tie.Need-order-q-requires
-order-q-requires c κs = search needs
-
-enum-known-r : tie.Need-enum-known-r
-enum-known-r c = search needs
-
-enum-known-s : tie.Need-enum-known-s
-enum-known-s c = search needs
-
 child-in-requires : tie.Need-child-in-requires
 child-in-requires c κs =
     let args = c .before .before .before .before .before .before .args in
@@ -46,4 +37,4 @@ returns-2 c =
 pub child-spec : {M : Type 1} → statement M
 child-spec =
     tie.close
-    (tie.spec order-q-requires enum-known-r enum-known-s child-in-requires returns returns-2)
+    (tie.spec (λ c κs. search needs) (λ c. search needs) (λ c. search needs) child-in-requires returns returns-2)

@@ -10,15 +10,6 @@ use borrow.Author.Needs.{needs}
 use Rattle.queries.proofs.children.Statement.{statement}
 use Rattle.queries.proofs.children.Tie as tie
 
-order-q-requires : tie.Need-order-q-requires
-order-q-requires c κs = search needs
-
-enum-known-r : tie.Need-enum-known-r
-enum-known-r c = search needs
-
-enum-known-s : tie.Need-enum-known-s
-enum-known-s c = search needs
-
 children-in-requires : tie.Need-children-in-requires
 children-in-requires c κs =
     let args = c .before .before .before .before .before .before .args in
@@ -44,4 +35,4 @@ returns-2 c =
 pub children-spec : {M : Type 1} → statement M
 children-spec =
     tie.close
-    (tie.spec order-q-requires enum-known-r enum-known-s children-in-requires returns returns-2)
+    (tie.spec (λ c κs. search needs) (λ c. search needs) (λ c. search needs) children-in-requires returns returns-2)

@@ -8,15 +8,6 @@ use borrow.Author.Needs.{needs}
 use Rattle.queries.proofs.head.Statement.{statement}
 use Rattle.queries.proofs.head.Tie as tie
 
-order-q-requires : tie.Need-order-q-requires
-order-q-requires c κs = search needs
-
-enum-known-r : tie.Need-enum-known-r
-enum-known-r c = search needs
-
-enum-known-s : tie.Need-enum-known-s
-enum-known-s c = search needs
-
 head-in-requires : tie.Need-head-in-requires
 head-in-requires c κs =
     let args = c .before .before .before .before .before .before .args in
@@ -41,4 +32,4 @@ returns-2 c =
 pub head-spec : {M : Type 1} → statement M
 head-spec =
     tie.close
-    (tie.spec order-q-requires enum-known-r enum-known-s head-in-requires returns returns-2)
+    (tie.spec (λ c κs. search needs) (λ c. search needs) (λ c. search needs) head-in-requires returns returns-2)

@@ -8,15 +8,6 @@ use Rattle.queries.proofs.Laws.TableRules.{table-unread}
 use Rattle.queries.proofs.table.Statement.{statement}
 use Rattle.queries.proofs.table.Tie as tie
 
-order-r-requires : tie.Need-order-r-requires
-order-r-requires c κs = search needs
-
-enum-known-r : tie.Need-enum-known-r
-enum-known-r c = search needs
-
-enum-known-s : tie.Need-enum-known-s
-enum-known-s c = search needs
-
 -- the call of order R, and where it began
 abbrev start : tie.After-order-r → tie.Start
 start c = c .before .before .before .before .before .before .before
@@ -37,36 +28,9 @@ returns c =
     table-unread (args .bytes .now) (args .work .now) lent
     (sym (ap shape (c .before .r .given .1)) ∙ o .order-r .ensures)
 
-same-length : tie.Need-same-length
-same-length c = search needs
-
-same-length-2 : tie.Need-same-length-2
-same-length-2 c = search needs
-
-same-length-3 : tie.Need-same-length-3
-same-length-3 c = search needs
-
-same-length-4 : tie.Need-same-length-4
-same-length-4 c = search needs
-
-same-length-5 : tie.Need-same-length-5
-same-length-5 c = search needs
-
-returns-2 : tie.Need-returns-2
-returns-2 c = search needs
-
 pub table-spec : {M : Type 1} → statement M
 table-spec =
     tie.close
-    (tie.spec
-    order-r-requires
-    enum-known-r
-    enum-known-s
-    table-in-requires
-    returns
-    same-length
-    same-length-2
-    same-length-3
-    same-length-4
-    same-length-5
-    returns-2)
+    (tie.spec (λ c κs. search needs) (λ c. search needs) (λ c. search needs) table-in-requires returns
+    (λ c. search needs) (λ c. search needs) (λ c. search needs) (λ c. search needs) (λ c. search needs)
+    (λ c. search needs))

@@ -8,15 +8,6 @@ use borrow.Author.Needs.{needs}
 use Rattle.queries.proofs.visit.Statement.{statement}
 use Rattle.queries.proofs.visit.Tie as tie
 
-order-q-requires : tie.Need-order-q-requires
-order-q-requires c κs = search needs
-
-enum-known-r : tie.Need-enum-known-r
-enum-known-r c = search needs
-
-enum-known-s : tie.Need-enum-known-s
-enum-known-s c = search needs
-
 visit-in-requires : tie.Need-visit-in-requires
 visit-in-requires c κs =
     let args = c .before .before .before .before .before .before .args in
@@ -41,4 +32,4 @@ returns-2 c =
 pub visit-spec : {M : Type 1} → statement M
 visit-spec =
     tie.close
-    (tie.spec order-q-requires enum-known-r enum-known-s visit-in-requires returns returns-2)
+    (tie.spec (λ c κs. search needs) (λ c. search needs) (λ c. search needs) visit-in-requires returns returns-2)

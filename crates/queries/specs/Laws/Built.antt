@@ -78,16 +78,19 @@ module _ {bytes : List ℕ} (a : Accepted bytes) where
   section-is (suc (suc (suc k))) h = absurd (omega arith)
 
   -- a block's part of one
-  marks-in : (test : PlaceTest) (u : ℕ) → u < length (blocks bytes) → blockMarks bytes (section test (blocks bytes)) u ≡ map (test u) (countUp 0 (length (block (blocks bytes) u)))
+  marks-in : (test : PlaceTest) (u : ℕ) → u < length (blocks bytes)
+      → blockMarks bytes (section test (blocks bytes)) u ≡ map (test u) (countUp 0 (length (block (blocks bytes) u)))
   unfolding blockMarks
   marks-in test u h =
       let l = as-many in
       let o = span-one sound {u = u} (omega arith) in
       let b = start-block sound u (omega arith) in
       let e : select (unary bytes) (suc u) ≡ placeBit (blocks bytes) u 0 = omega arith in
-      ap (λ (x : ℕ). take (length (block (blocks bytes) u)) (drop x (section test (blocks bytes)))) e ∙ block-part test (blocks bytes) u h
+      ap (λ (x : ℕ). take (length (block (blocks bytes) u)) (drop x (section test (blocks bytes)))) e
+      ∙ block-part test (blocks bytes) u h
 
-  stored-is : (u : ℕ) → u < length (blocks bytes) → numberOf (terminals bytes) (wires bytes) (indexOf (blocks bytes)) u ≡ number (forest (blocks bytes)) u
+  stored-is : (u : ℕ) → u < length (blocks bytes)
+      → numberOf (terminals bytes) (wires bytes) (indexOf (blocks bytes)) u ≡ number (forest (blocks bytes)) u
   unfolding numberOf
   stored-is u h =
       let l = as-many in

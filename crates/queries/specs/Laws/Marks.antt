@@ -91,7 +91,8 @@ unfolding countUp count marks
 count-each f i zero = refl
 count-each f i (suc n) = go (told (f i)) (count-each f (suc i) n)
   where
-    go : Told (f i) → count (map f (countUp (suc i) n)) ≡ marks f (suc i) n → count (map f (countUp i (suc n))) ≡ marks f i (suc n)
+    go : Told (f i) → count (map f (countUp (suc i) n)) ≡ marks f (suc i) n
+        → count (map f (countUp i (suc n))) ≡ marks f i (suc n)
     go (pass e) r = rw (countUp, e, marks) (ap suc r)
     go (fail e) r = rw (countUp, e, marks) r
 
@@ -113,15 +114,18 @@ ones-each f i p [] k h = absurd (omega arith)
 ones-each f i p (v ∷ l) k h = go (f i) refl k h (λ q j a. ones-each f (suc i) q l j a)
   where
     go : (b : Bool) → f i ≡ b → (k : ℕ) → k < count (f i ∷ map f (countUp (suc i) (length l)))
-        → ((q j : ℕ) → j < count (map f (countUp (suc i) (length l))) → getD l (getD (onesAt q (map f (countUp (suc i) (length l)))) j 0 - q) 0 ≡ getD (marked f (suc i) l) j 0)
-        → getD (v ∷ l) (getD (onesAt p (f i ∷ map f (countUp (suc i) (length l)))) k 0 - p) 0 ≡ getD (marked f i (v ∷ l)) k 0
+        → ((q j : ℕ) → j < count (map f (countUp (suc i) (length l)))
+        → getD l (getD (onesAt q (map f (countUp (suc i) (length l)))) j 0 - q) 0 ≡ getD (marked f (suc i) l) j 0)
+        → getD (v ∷ l) (getD (onesAt p (f i ∷ map f (countUp (suc i) (length l)))) k 0 - p) 0
+        ≡ getD (marked f i (v ∷ l)) k 0
     go true e zero h rec = let z : p - p ≡ 0 = omega arith in rw (e, marked, onesAt, z)
     go true e (suc k) h rec =
         let c : k < count (map f (countUp (suc i) (length l))) = less e h in
         let m = ones-least (suc p) (map f (countUp (suc i) (length l))) k c in
         rw (e, marked, onesAt) (later v l m ∙ rec (suc p) k c)
       where
-        less : {k : ℕ} → f i ≡ true → suc k < count (f i ∷ map f (countUp (suc i) (length l))) → k < count (map f (countUp (suc i) (length l)))
+        less : {k : ℕ} → f i ≡ true → suc k < count (f i ∷ map f (countUp (suc i) (length l)))
+            → k < count (map f (countUp (suc i) (length l)))
         less e h = let x = rw e at h in omega arith
     go false e k h rec =
         let c : k < count (map f (countUp (suc i) (length l))) = rw e at h in
@@ -143,7 +147,8 @@ block-part test g u h =
     let b = start-most g (suc u) in
     let s = length-section test g in
     let d = length-drop (placeBit g u 0) (section test g) in
-    let l : length (take k (drop (placeBit g u 0) (section test g))) ≡ k = length-take-le k (drop (placeBit g u 0) (section test g)) (omega arith) in
+    let l : length (take k (drop (placeBit g u 0) (section test g))) ≡ k =
+    length-take-le k (drop (placeBit g u 0) (section test g)) (omega arith) in
     let m : length (map (test u) (countUp 0 k)) ≡ k = length-each (test u) 0 k in
     ext-getD false (take k (drop (placeBit g u 0) (section test g))) (map (test u) (countUp 0 k)) (l ∙ sym m) (λ i c. (
     let j : i < k = omega arith in

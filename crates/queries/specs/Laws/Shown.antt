@@ -15,7 +15,9 @@ use Rattle.graph.specs.Graph.{block, target, position, WellFormed}
 use Rattle.graph.specs.Search.{Forest, all, search, countUp}
 use Rattle.graph.specs.Joined.{bridge}
 use Rattle.graph.specs.Forest.{number, vertexAt, parent, head, children, childMark, parentMark}
-use Rattle.graph.specs.Theorems.{wires-balance, number-in-range, vertex-in-range, vertex-of-number, number-of-vertex, children-as-listed, children-counted, parent-mark-once, parent-mark-none, ancestor-by-steps, head-by-steps, head-of-step}
+use Rattle.graph.specs.Theorems.{wires-balance, number-in-range, vertex-in-range, vertex-of-number, number-of-vertex}
+use Rattle.graph.specs.Theorems.{children-as-listed, children-counted, parent-mark-once, parent-mark-none}
+use Rattle.graph.specs.Theorems.{ancestor-by-steps, head-by-steps, head-of-step}
 use Rattle.graph.specs.Laws.Places.Basics.{clash}
 use Rattle.graph.specs.Laws.Places.Pairing.{place-at, source}
 use Rattle.graph.specs.Laws.Tree.Ancestors.{ancestor}
@@ -33,9 +35,12 @@ use Rattle.queries.specs.Laws.Marks.{set-inside, none-set, first-set, on
 
 -- the marks of each block and the stored numbers are the forest's
 pub record Shows (w : View) (F : Forest) : Type 0 where
-  pub shows-E : (u : ℕ) → u < length (w .graph) → w .marksE u ≡ map (childMark F u) (countUp 0 (length (block (w .graph) u)))
-  pub shows-P : (u : ℕ) → u < length (w .graph) → w .marksP u ≡ map (parentMark (w .graph) (w .graph) F u) (countUp 0 (length (block (w .graph) u)))
-  pub shows-B : (u : ℕ) → u < length (w .graph) → w .marksB u ≡ map (bridge (w .graph) u) (countUp 0 (length (block (w .graph) u)))
+  pub shows-E : (u : ℕ) → u < length (w .graph)
+      → w .marksE u ≡ map (childMark F u) (countUp 0 (length (block (w .graph) u)))
+  pub shows-P : (u : ℕ) → u < length (w .graph)
+      → w .marksP u ≡ map (parentMark (w .graph) (w .graph) F u) (countUp 0 (length (block (w .graph) u)))
+  pub shows-B : (u : ℕ) → u < length (w .graph)
+      → w .marksB u ≡ map (bridge (w .graph) u) (countUp 0 (length (block (w .graph) u)))
   pub shows-numbers : (u : ℕ) → u < length (w .graph) → w .stored u ≡ number F u
 
 -- a mark of a block
@@ -50,7 +55,8 @@ each-set f n i e =
 pub each-is : (f : ℕ → Bool) (n i : ℕ) → i < n → getD (map f (countUp 0 n)) i false ≡ f i
 each-is f n i h = let z : 0 + i ≡ i = omega arith in each-at f false 0 n i h ∙ ap f z
 
-module _ {w : View} {starts : List ℕ} (wf : WellFormed (w .graph)) (cov : Covers (w .graph) starts) (s : Shows w (search (w .graph) all starts)) where
+module _ {w : View} {starts : List ℕ} (wf : WellFormed (w .graph)) (cov : Covers (w .graph) starts)
+    (s : Shows w (search (w .graph) all starts)) where
   abbrev F : Forest
   F = search (w .graph) all starts
 
@@ -81,7 +87,9 @@ module _ {w : View} {starts : List ℕ} (wf : WellFormed (w .graph)) (cov : Cove
       parent-mark-once (wf .in-range) cov (wires-balance wf) (place-at a) (place-at l) b m
       ) in
       let c : count (w .marksP u) ≡ 1 = ap count (s .shows-P u h) ∙ one-set t i at only in
-      let p : select (w .marksP u) 1 - 1 ≡ i = ap (λ (x : List Bool). select x 1 - 1) (s .shows-P u h) ∙ ap (λ (x : ℕ). x - 1) (first-set t i at only) ∙ omega arith in
+      let p : select (w .marksP u) 1 - 1 ≡ i =
+      ap (λ (x : List Bool). select x 1 - 1) (s .shows-P u h) ∙ ap (λ (x : ℕ). x - 1) (first-set t i at only)
+      ∙ omega arith in
       let r : target (w .graph) u i < length (w .graph) = wf .in-range u i (target (w .graph) u i) (place-at l) in
       ap₂ (stepBy (w .graph) u) c p ∙ rw (stepBy, lt-ltb (target (w .graph) u i) (length (w .graph)) r)
 
@@ -107,7 +115,8 @@ module _ {w : View} {starts : List ℕ} (wf : WellFormed (w .graph)) (cov : Cove
   bridge-bit : (u i : ℕ) → i < length (block (w .graph) u) → getD (w .marksB u) i false ≡ bridge (w .graph) u i
   bridge-bit u i l =
       let h : u < length (w .graph) = source (place-at {g = w .graph} {u = u} l) in
-      ap (λ (t : List Bool). getD t i false) (s .shows-B u h) ∙ each-is (bridge (w .graph) u) (length (block (w .graph) u)) i l
+      ap (λ (t : List Bool). getD t i false) (s .shows-B u h)
+      ∙ each-is (bridge (w .graph) u) (length (block (w .graph) u)) i l
 
   head-steps : HeadSteps (w .graph) F (λ v. answered (suc v)) (headNext w)
   head-steps = record {
@@ -116,10 +125,12 @@ module _ {w : View} {starts : List ℕ} (wf : WellFormed (w .graph)) (cov : Cove
     goes-up = λ v i l m b. ap (headBy w v) (child-step v i l m) ∙ up v i (bridge-bit v i l ∙ b);
   }
     where
-      here : (v i : ℕ) → getD (w .marksB v) i false ≡ true → headBy w v (rise i (target (w .graph) v i)) ≡ inl (answered (suc v))
+      here : (v i : ℕ) → getD (w .marksB v) i false ≡ true
+          → headBy w v (rise i (target (w .graph) v i)) ≡ inl (answered (suc v))
       here v i e = rw (e, headBy)
 
-      up : (v i : ℕ) → getD (w .marksB v) i false ≡ false → headBy w v (rise i (target (w .graph) v i)) ≡ inr (target (w .graph) v i)
+      up : (v i : ℕ) → getD (w .marksB v) i false ≡ false
+          → headBy w v (rise i (target (w .graph) v i)) ≡ inr (target (w .graph) v i)
       up v i e = rw (e, headBy)
 
   pub head-shown : (u : ℕ) → u < length (w .graph) → headOf w u ≡ answered (suc (head (w .graph) F u))
@@ -127,8 +138,11 @@ module _ {w : View} {starts : List ℕ} (wf : WellFormed (w .graph)) (cov : Cove
   head-shown u h = head-by-steps wf cov head-steps (refused 12) u h
 
   -- where one step stops, and where it goes up
-  pub head-stopped : (u : ℕ) → u < length (w .graph) → {a : Answer ℕ} → headNext w u ≡ inl a → a ≡ answered (suc (head (w .graph) F u))
-  head-stopped u h e = sym (walk-stop (headNext w) (refused 12) (length (w .graph) - 1) e) ∙ head-by-steps wf cov head-steps (refused 12) u h
+  pub head-stopped : (u : ℕ) → u < length (w .graph) → {a : Answer ℕ} → headNext w u ≡ inl a
+      → a ≡ answered (suc (head (w .graph) F u))
+  head-stopped u h e =
+      sym (walk-stop (headNext w) (refused 12) (length (w .graph) - 1) e)
+      ∙ head-by-steps wf cov head-steps (refused 12) u h
 
   pub head-risen : {u p : ℕ} → u < length (w .graph) → p < length (w .graph) → headNext w u ≡ inr p
       → answered (suc (head (w .graph) F u)) ≡ answered (suc (head (w .graph) F p))
@@ -159,9 +173,11 @@ module _ {w : View} {starts : List ℕ} (wf : WellFormed (w .graph)) (cov : Cove
   pub count-shown : (u : ℕ) → u < length (w .graph) → childCount w u ≡ length (children F u)
   unfolding childCount
   count-shown u h =
-      ap count (s .shows-E u h) ∙ count-each (childMark F u) 0 (length (block (w .graph) u)) ∙ sym (children-counted (wf .in-range) cov u)
+      ap count (s .shows-E u h) ∙ count-each (childMark F u) 0 (length (block (w .graph) u))
+      ∙ sym (children-counted (wf .in-range) cov u)
 
-  pub child-shown : (u k : ℕ) → u < length (w .graph) → k < length (children F u) → childOf w u (suc k) ≡ answered (suc (getD (children F u) k 0))
+  pub child-shown : (u k : ℕ) → u < length (w .graph) → k < length (children F u)
+      → childOf w u (suc k) ≡ answered (suc (getD (children F u) k 0))
   unfolding childOf childCount
   child-shown u k h l =
       let n : ℕ = length (block (w .graph) u) in
@@ -172,9 +188,11 @@ module _ {w : View} {starts : List ℕ} (wf : WellFormed (w .graph)) (cov : Cove
       let (a, b) = select-bounds t (suc k) (omega arith) (omega arith) in
       let d = length-each (childMark F u) 0 n in
       let p : select t (suc k) - 1 < n = omega arith in
-      let r : target (w .graph) u (select t (suc k) - 1) < length (w .graph) = wf .in-range u (select t (suc k) - 1) (target (w .graph) u (select t (suc k) - 1)) (place-at p) in
+      let r : target (w .graph) u (select t (suc k) - 1) < length (w .graph) =
+      wf .in-range u (select t (suc k) - 1) (target (w .graph) u (select t (suc k) - 1)) (place-at p) in
       let q : target (w .graph) u (select t (suc k) - 1) ≡ getD (children F u) k 0 =
-      select-each (childMark F u) (block (w .graph) u) k z ∙ ap (λ (x : List ℕ). getD x k 0) (sym (children-as-listed (wf .in-range) cov u)) in
+      select-each (childMark F u) (block (w .graph) u) k z
+      ∙ ap (λ (x : List ℕ). getD x k 0) (sym (children-as-listed (wf .in-range) cov u)) in
       ap (λ (x : List Bool). vertexOr w (target (w .graph) u (select x (suc k) - 1))) (s .shows-E u h)
       ∙ yes-at (target (w .graph) u (select t (suc k) - 1)) r ∙ ap (λ (x : ℕ). answered (suc x)) q
     where
@@ -186,7 +204,8 @@ module _ {w : View} {starts : List ℕ} (wf : WellFormed (w .graph)) (cov : Cove
   pub visit-shown : (u : ℕ) → u < length (w .graph) → visitOf w u ≡ answered (suc (number F u))
   unfolding visitOf
   visit-shown u h =
-      ap (vertexOr w) (s .shows-numbers u h) ∙ rw (lt-ltb (number F u) (length (w .graph)) (number-in-range (wf .in-range) cov u h), vertexOr)
+      ap (vertexOr w) (s .shows-numbers u h)
+      ∙ rw (lt-ltb (number F u) (length (w .graph)) (number-in-range (wf .in-range) cov u h), vertexOr)
 
   pub visited-shown : (k : ℕ) → k < length (w .graph) → visitedOf w k ≡ answered (suc (vertexAt F k))
   unfolding visitedOf

@@ -6,20 +6,8 @@ use borrow.Author.Needs.{needs}
 use Rattle.celduga.proofs.codes.of_above.Statement.{statement}
 use Rattle.celduga.proofs.codes.of_above.Tie as tie
 
-enum-told : tie.Need-enum-told
-enum-told c = search needs
-
-enum-known-a : tie.Need-enum-known-a
-enum-known-a c = search needs
-
 low-requires : tie.Need-low-requires
 low-requires c κs = value-at (c .before .before .before .pre) (sym (ap above (c .before .a .given .1)))
-
-enum-known-a-2 : tie.Need-enum-known-a-2
-enum-known-a-2 c = search needs
-
-high-requires : tie.Need-high-requires
-high-requires c κs = search needs
 
 returns : tie.Need-returns
 returns c = code-answered orZero (sym (ap above (c .enum-told .given .1))) refl
@@ -33,12 +21,5 @@ returns-3 c = code-refused orZero (sym (ap above (c .before .before .a2 .given .
 pub of-above-spec : {M : Type 1} → statement M
 of-above-spec =
     tie.close
-    (tie.spec
-    enum-told
-    enum-known-a
-    low-requires
-    enum-known-a-2
-    high-requires
-    returns
-    returns-2
-    returns-3)
+    (tie.spec (λ c. search needs) (λ c. search needs) low-requires (λ c. search needs) (λ c κs. search needs) returns
+    returns-2 returns-3)

@@ -11,24 +11,22 @@ use borrow.Author.Needs.{needs}
 use Rattle.celduga.proofs.codes.of_figure.Statement.{statement}
 use Rattle.celduga.proofs.codes.of_figure.Tie as tie
 
-enum-known-a : tie.Need-enum-known-a
-enum-known-a c = search needs
-
 twos-requires : tie.Need-twos-requires
-twos-requires c κs = let h = value-at (c .before .before .before .pre) (sym (ap figure (c .before .a .given .1))) in subst (λ (z : ℤ). mag z < 32768) (sym (held (c .before .a .given .0 .0) h)) h
-
-enum-known-a-2 : tie.Need-enum-known-a-2
-enum-known-a-2 c = search needs
-
-high-requires : tie.Need-high-requires
-high-requires c κs = search needs
+twos-requires c κs =
+    let h = value-at (c .before .before .before .pre) (sym (ap figure (c .before .a .given .1))) in
+    subst (λ (z : ℤ). mag z < 32768) (sym (held (c .before .a .given .0 .0) h)) h
 
 returns : tie.Need-returns
-returns c = let e = sym (ap figure (c .before .before .a .given .1)) in code-answered complement e (c .twos .ensures ∙ ap complement (held (c .before .before .a .given .0 .0) (value-at (c .before .before .before .before .pre) e)))
+returns c =
+    let e = sym (ap figure (c .before .before .a .given .1)) in
+    code-answered complement e
+    (c .twos .ensures ∙ ap complement
+    (held (c .before .before .a .given .0 .0) (value-at (c .before .before .before .before .pre) e)))
 
 returns-2 : tie.Need-returns-2
 returns-2 c = code-refused complement (sym (ap figure (c .before .before .a2 .given .1))) (c .high .ensures)
 
 pub of-figure-spec : {M : Type 1} → statement M
 of-figure-spec =
-    tie.close (tie.spec enum-known-a twos-requires enum-known-a-2 high-requires returns returns-2)
+    tie.close
+    (tie.spec (λ c. search needs) twos-requires (λ c. search needs) (λ c κs. search needs) returns returns-2)

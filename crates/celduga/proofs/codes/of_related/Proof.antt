@@ -7,18 +7,6 @@ use borrow.Author.Needs.{needs}
 use Rattle.celduga.proofs.codes.of_related.Statement.{statement}
 use Rattle.celduga.proofs.codes.of_related.Tie as tie
 
-enum-told : tie.Need-enum-told
-enum-told c = search needs
-
-enum-told-2 : tie.Need-enum-told-2
-enum-told-2 c = search needs
-
-enum-known-a : tie.Need-enum-known-a
-enum-known-a c = search needs
-
-high-requires : tie.Need-high-requires
-high-requires c κs = search needs
-
 returns : tie.Need-returns
 returns c = code-answered bit (sym (ap related (c .enum-told .given .1))) refl
 
@@ -31,4 +19,5 @@ returns-3 c = code-refused bit (sym (ap related (c .before .before .a .given .1)
 pub of-related-spec : {M : Type 1} → statement M
 of-related-spec =
     tie.close
-    (tie.spec enum-told enum-told-2 enum-known-a high-requires returns returns-2 returns-3)
+    (tie.spec (λ c. search needs) (λ c. search needs) (λ c. search needs) (λ c κs. search needs) returns returns-2
+    returns-3)

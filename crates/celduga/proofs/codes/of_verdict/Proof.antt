@@ -7,15 +7,6 @@ use borrow.Author.Needs.{needs}
 use Rattle.celduga.proofs.codes.of_verdict.Statement.{statement}
 use Rattle.celduga.proofs.codes.of_verdict.Tie as tie
 
-enum-told : tie.Need-enum-told
-enum-told c = search needs
-
-enum-known-a : tie.Need-enum-known-a
-enum-known-a c = search needs
-
-high-requires : tie.Need-high-requires
-high-requires c κs = search needs
-
 returns : tie.Need-returns
 unfolding nothing
 returns c = code-answered nothing (sym (ap verdict (c .enum-told .given .1))) refl
@@ -24,4 +15,5 @@ returns-2 : tie.Need-returns-2
 returns-2 c = code-refused nothing (sym (ap verdict (c .before .before .a .given .1))) (c .high .ensures)
 
 pub of-verdict-spec : {M : Type 1} → statement M
-of-verdict-spec = tie.close (tie.spec enum-told enum-known-a high-requires returns returns-2)
+of-verdict-spec = tie.close
+    (tie.spec (λ c. search needs) (λ c. search needs) (λ c κs. search needs) returns returns-2)

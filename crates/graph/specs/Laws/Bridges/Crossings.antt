@@ -1,4 +1,5 @@
--- Theorem 5: which wires are bridges. None outside the tree; the tree wire into c exactly when no other wire leaves the descendants of c.
+-- Theorem 5: which wires are bridges. None outside the tree; the tree wire into c exactly when no other wire leaves the
+-- descendants of c.
 use Prim.Native.Nat.{ℕ}
 use mathlib.Core.Path.{_≡_, sym, _∙_, ap, subst}
 use mathlib.Core.Logic.{_↔_}
@@ -16,7 +17,8 @@ use Rattle.graph.specs.Laws.Tree.Entries.{parent-entered}
 use Rattle.graph.specs.Laws.Tree.Numbers.{parent-first}
 use Rattle.graph.specs.Laws.Tree.Climbs.{root-parent}
 use Rattle.graph.specs.Laws.Tree.Ancestors.{ancestor-first, ancestor-root, parent-not-below, dec-ancestor}
-use Rattle.graph.specs.Laws.Joined.Chains.{chain-trans, chain-one, chain-map, chain-sym, OnWire, this, that, wire-stays, without-same, without-twinned}
+use Rattle.graph.specs.Laws.Joined.Chains.{chain-trans, chain-one, chain-map, chain-sym, OnWire, this, that}
+use Rattle.graph.specs.Laws.Joined.Chains.{wire-stays, without-same, without-twinned}
 use Rattle.graph.specs.Laws.Joined.Reach.{joined-chain}
 use Rattle.graph.specs.Laws.Joined.Spanning.{Spanning, tree-place, source-entered, target-entered}
 use Rattle.graph.specs.Laws.Joined.Roots.{tree-chain-all, place-root, tree-without, chain-beside}
@@ -25,17 +27,20 @@ use Rattle.graph.specs.Laws.Edges.Marks.{child-mark, mark-paired}
 -- ---- the mark
 
 -- no mark: the ends are joined without the wire
-pub bridge-joined : {g : Blocks} → InRange g → {u j v : ℕ} → Place g u j v → (bridge g u j ≡ false) ↔ Chain g (without g u j) u v
+pub bridge-joined : {g : Blocks} → InRange g → {u j v : ℕ} → Place g u j v
+    → (bridge g u j ≡ false) ↔ Chain g (without g u j) u v
 unfolding bridge
 bridge-joined {g} r {u} {j} {v} p = (
-  λ e. subst (λ x. Chain g (without g u j) u x) (p .leads) (test .0 (not-false (joined g (without g u j) u (target g u j)) e)),
+  λ e. subst (λ x. Chain g (without g u j) u x) (p .leads)
+      (test .0 (not-false (joined g (without g u j) u (target g u j)) e)),
   λ c. rw (test .1 (subst (λ x. Chain g (without g u j) u x) (sym (p .leads)) c)),
 )
   where
     test : (joined g (without g u j) u (target g u j) ≡ true) ↔ Chain g (without g u j) u (target g u j)
     test = joined-chain r (without g u j) u (target g u j) (source p)
 
-pub bridge-parts : {g : Blocks} → InRange g → {u j v : ℕ} → Place g u j v → bridge g u j ≡ true → Chain g (without g u j) u v → ⊥
+pub bridge-parts : {g : Blocks} → InRange g → {u j v : ℕ} → Place g u j v → bridge g u j ≡ true
+    → Chain g (without g u j) u v → ⊥
 bridge-parts r p e c = clash e (bridge-joined r p .1 c)
 
 module _ {g : Blocks} (wf : WellFormed g) where
@@ -64,13 +69,16 @@ module _ {g : Blocks} (wf : WellFormed g) where
 -- ---- wires outside the tree
 
 module _ {g : Blocks} (wf : WellFormed g) {F : Forest} (span : Spanning g F) where
-  pub outside-no-bridge : {u i w : ℕ} → Place g u i w → childMark F u i ≡ false → parentMark g g F u i ≡ false → bridge g u i ≡ false
+  pub outside-no-bridge : {u i w : ℕ} → Place g u i w → childMark F u i ≡ false → parentMark g g F u i ≡ false
+      → bridge g u i ≡ false
   outside-no-bridge {u} {i} {w} p h k = bridge-joined (wf .in-range) p .1
       (chain-trans (chain-sym wf (without-twinned wf p) (tree-chain-all span free u (source-entered span p)))
       (rw (place-root span wf p) (tree-chain-all span free w (target-entered span p))))
     where
       bad : {a b y : ℕ} → List·Memᴰ (via a b y) F → OnWire g u i a b → ⊥
-      bad {a} {b} {y} m (this r s) = clash (child-mark m) (subst (λ x. childMark F x b ≡ false) (sym r) (subst (λ x. childMark F u x ≡ false) (sym s) h))
+      bad {a} {b} {y} m (this r s) =
+          clash (child-mark m)
+          (subst (λ x. childMark F x b ≡ false) (sym r) (subst (λ x. childMark F u x ≡ false) (sym s) h))
       bad {a} {b} {y} m (that r s) =
           let e₁ = mark-paired (both-ends wf) (span .built) (twin-place wf p) in
           let e₂ = twin-twin wf p in
@@ -95,11 +103,15 @@ pub record Crossing (g : Blocks) (F : Forest) (p j c : ℕ) : Type 0 where
   pub inside : Ancestor F c from
   pub outside : Ancestor F c to → ⊥
 
-module _ {g : Blocks} (wf : WellFormed g) {F : Forest} (span : Spanning g F) {p j c : ℕ} (m : List·Memᴰ (via p j c) F) where
+module _ {g : Blocks} (wf : WellFormed g) {F : Forest} (span : Spanning g F) {p j c : ℕ}
+    (m : List·Memᴰ (via p j c) F) where
   inner : {x : ℕ} → Ancestor F c x → Chain g (without g p j) c x
   inner self = here
   inner (child {v = y} k q) =
-      let ne : y ≡ c → ⊥ = λ (e : y ≡ c). (let l = parent-first (span .built) k in let l′ = ancestor-first (span .built) q in let z = ap (number F) e in omega arith) in
+      let ne : y ≡ c → ⊥ =
+      λ (e : y ≡ c).
+      (let l = parent-first (span .built) k in let l′ = ancestor-first
+      (span .built) q in let z = ap (number F) e in omega arith) in
       chain-trans (inner q) (chain-one (tree-place span k) (tree-without span wf m k ne))
 
   crossing-joined : Crossing g F p j c → Chain g (without g p j) p c
@@ -111,7 +123,9 @@ module _ {g : Blocks} (wf : WellFormed g) {F : Forest} (span : Spanning g F) {p 
       let e₂ = place-root span wf (x .place) in
       let e₃ = root-parent (span .built) m in
       let e : rootOf F (x .to) ≡ rootOf F p = cc in
-      chain-trans (chain-sym wf tw at-p) (chain-trans (rw e at up) (chain-sym wf tw (chain-trans (inner (x .inside)) (chain-one (x .place) (x .other)))))
+      chain-trans (chain-sym wf tw at-p)
+      (chain-trans (rw e at up)
+      (chain-sym wf tw (chain-trans (inner (x .inside)) (chain-one (x .place) (x .other)))))
 
   -- with no such wire, chains from c stay below c
   stays-below : (Crossing g F p j c → ⊥) → {x y : ℕ} → Chain g (without g p j) x y → Ancestor F c x → Ancestor F c y
@@ -132,4 +146,5 @@ module _ {g : Blocks} (wf : WellFormed g) {F : Forest} (span : Spanning g F) {p 
       go h (pass e) = e
       go h (fail e) =
           let r = bridge-joined (wf .in-range) (tree-place span m) .0 e in
-          absurd (parent-not-below (span .built) m (stays-below h (chain-sym wf (without-twinned wf (tree-place span m)) r) self))
+          absurd (parent-not-below (span .built) m
+          (stays-below h (chain-sym wf (without-twinned wf (tree-place span m)) r) self))

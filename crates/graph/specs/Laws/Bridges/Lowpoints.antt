@@ -18,7 +18,8 @@ use Rattle.graph.specs.Laws.Places.Basics.{clash, same-outcome}
 use Rattle.graph.specs.Laws.Places.Pairing.{both-ends, twin-place}
 use Rattle.graph.specs.Laws.Tree.Entries.{Entered, entry-entered, entry-once}
 use Rattle.graph.specs.Laws.Tree.Numbers.{number-bound, parent-first}
-use Rattle.graph.specs.Laws.Tree.Ancestors.{ancestor-first, ancestor-trans, ancestor-of-child, parent-not-below, ancestors-chain}
+use Rattle.graph.specs.Laws.Tree.Ancestors.{ancestor-first, ancestor-trans, ancestor-of-child, parent-not-below}
+use Rattle.graph.specs.Laws.Tree.Ancestors.{ancestors-chain}
 use Rattle.graph.specs.Laws.Joined.Chains.{OnWire, this, that, wire-out, wire-stays}
 use Rattle.graph.specs.Laws.Joined.Spanning.{Spanning, tree-place, source-entered, ends-related}
 use Rattle.graph.specs.Laws.Edges.Marks.{Back, back, child-mark-entry, marked-back}
@@ -30,7 +31,8 @@ pub data Attained (g : Blocks) (F : Forest) (m : ℕ) (t : ℕ → ℕ) (c : ℕ
   by-place : (i w : ℕ) → Place g c i w → (Back g g F c i → ⊥) → t c ≡ number F w → Attained g F m t c
   by-child : (j x : ℕ) → List·Memᴰ (via c j x) F → m ≤ number F x → t c ≡ t x → Attained g F m t c
 
--- t is at each vertex the least of its visit number, of those at its places but the way back, and of t at the children that count
+-- t is at each vertex the least of its visit number, of those at its places but the way back, and of t at the children
+-- that count
 pub record Lows (g : Blocks) (F : Forest) (m : ℕ) (t : ℕ → ℕ) : Type 0 where
   pub at-most : (c : ℕ) → Entered c F → t c ≤ number F c
   pub at-place : (c i w : ℕ) → Place g c i w → (Back g g F c i → ⊥) → t c ≤ number F w
@@ -54,19 +56,33 @@ record Dip (g : Blocks) (F : Forest) (c l : ℕ) : Type 0 where
 module _ {g : Blocks} (wf : WellFormed g) {F : Forest} (span : Spanning g F) {t : ℕ → ℕ} (lo : Lowpoints g F t) where
   low-below : {c d : ℕ} → Ancestor F c d → t c ≤ t d
   low-below self = omega arith
-  low-below (child {u = u} {j = j} {v = v} m q) = let a = low-below q in let b = lo .at-child u j v m (omega arith) in omega arith
+  low-below (child {u = u} {j = j} {v = v} m q) =
+      let a = low-below q in
+      let b = lo .at-child u j v m (omega arith) in
+      omega arith
 
   dip : (k c : ℕ) → Entered c F → length F ≤ number F c + k → t c < number F c → Dip g F c (t c)
   dip zero c i h l = absurd (omega (arith, number-bound i))
   dip (suc k) c i h l = go (lo .attained c i) (λ x ix hx lx. dip k x ix hx lx)
     where
-      go : Attained g F 0 t c → ((x : ℕ) → Entered x F → length F ≤ number F x + k → t x < number F x → Dip g F x (t x)) → Dip g F c (t c)
+      go : Attained g F 0 t c → ((x : ℕ) → Entered x F → length F ≤ number F x + k → t x < number F x → Dip g F x (t x))
+          → Dip g F c (t c)
       go (by-self e) rec = absurd (omega arith)
-      go (by-place j w p nb e) rec = record { from = c; at = j; to = w; place = p; forth = nb; inside = self; low = sym e }
+      go (by-place j w p nb e) rec =
+          record { from = c; at = j; to = w; place = p; forth = nb; inside = self; low = sym e }
       go (by-child j x m a e) rec =
           let pf = parent-first (span .built) m in
           let r = rec x (entry-entered m) (omega arith) (omega arith) in
-          record { from = r .from; at = r .at; to = r .to; place = r .place; forth = r .forth; inside = ancestor-trans (child m self) (r .inside); low = r .low ∙ sym e }
+          record {
+            from = r .from;
+            at = r .at;
+            to = r .to;
+            place = r .place;
+            forth = r .forth;
+            inside = ancestor-trans
+                (child m self) (r .inside);
+            low = r .low ∙ sym e;
+          }
 
   module _ {p j c : ℕ} (m : List·Memᴰ (via p j c) F) where
     low-crossing : t c < number F c → Crossing g F p j c
@@ -123,7 +139,8 @@ module _ {g : Blocks} (wf : WellFormed g) {F : Forest} (span : Spanning g F) {t 
             let b = lo .at-place (x .from) (x .at) (x .to) (x .place) (crossing-forth x) in
             absurd (x .outside (elim (ends-related span wf (x .place)) [
               | inl q ↦ ancestor-trans (x .inside) q
-              | inr q ↦ ancestors-chain (span .built) (x .from) (source-entered span (x .place)) q (x .inside) (omega arith)
+              | inr q ↦ ancestors-chain (span .built) (x .from) (source-entered span (x .place)) q (x .inside)
+                  (omega arith)
             ]))
 
     pub bridge-lowpoint : (bridge g p j ≡ true) ↔ (t c ≡ number F c)
@@ -147,7 +164,8 @@ module _ {g : Blocks} (wf : WellFormed g) {F : Forest} (span : Spanning g F) {t 
   pub bridge-at-child : {u i v : ℕ} → Place g u i v → childMark F u i ≡ true → eqb (t v) (number F v) ≡ bridge g u i
   bridge-at-child p e = low-test (child-mark-entry (span .built) p .0 e)
 
-  pub bridge-at-parent : {u i v : ℕ} → Place g u i v → parentMark g g F u i ≡ true → eqb (t u) (number F u) ≡ bridge g u i
+  pub bridge-at-parent : {u i v : ℕ} → Place g u i v → parentMark g g F u i ≡ true
+      → eqb (t u) (number F u) ≡ bridge g u i
   bridge-at-parent {u} {i} p e = go (marked-back (both-ends wf) (span .built) p e)
     where
       go : Back g g F u i → eqb (t u) (number F u) ≡ bridge g u i

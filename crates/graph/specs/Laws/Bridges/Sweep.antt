@@ -1,4 +1,5 @@
--- The lowpoints as a program finds them: first at each vertex over its places, then, from the last visited vertex back, each one's into its parent's.
+-- The lowpoints as a program finds them: first at each vertex over its places, then, from the last visited vertex back,
+-- each one's into its parent's.
 use Prim.Native.Nat.{ℕ, suc, _≤_, _<_, min}
 use mathlib.Core.Path.{_≡_, refl, sym, _∙_, ap}
 use mathlib.Core.Logic.{_⊎_, inl, inr}
@@ -10,7 +11,8 @@ use Rattle.graph.specs.Graph.{Blocks, block, Place}
 use Rattle.graph.specs.Search.{via, Forest}
 use Rattle.graph.specs.Forest.{number, vertexAt, parent}
 use Rattle.graph.specs.Laws.Tree.Entries.{Entered, entry-entered, parent-entered}
-use Rattle.graph.specs.Laws.Tree.Numbers.{number-bound, number-injective, vertex-entered, number-vertex, parent-first}
+use Rattle.graph.specs.Laws.Tree.Numbers.{number-bound, number-injective, vertex-entered, number-vertex}
+use Rattle.graph.specs.Laws.Tree.Numbers.{parent-first}
 use Rattle.graph.specs.Laws.Tree.Climbs.{slot, child-entry, parent-child}
 use Rattle.graph.specs.Laws.Joined.Spanning.{Spanning, source-entered, forest-length}
 use Rattle.graph.specs.Laws.Edges.Marks.{Back}
@@ -36,14 +38,16 @@ module _ {g : Blocks} {F : Forest} {c : ℕ} where
 
   -- the way back is passed over
   pub least-pass : {j x : ℕ} → Back g g F c j → Least g F c j x → Least g F c (suc j) x
-  least-pass {j} {x} k r = record { at-most = r .at-most; at-place = λ i w l p n. go i w l p n (ℕ-discrete i j); met = r .met }
+  least-pass {j} {x} k r =
+      record { at-most = r .at-most; at-place = λ i w l p n. go i w l p n (ℕ-discrete i j); met = r .met }
     where
       go : (i w : ℕ) → i < suc j → Place g c i w → (Back g g F c i → ⊥) → Dec (i ≡ j) → x ≤ number F w
       go i w l p n (yes e) = absurd (n (rw e k))
       go i w l p n (no d) = r .at-place i w (omega arith) p n
 
   -- any other place counts
-  pub least-take : {j x w : ℕ} → Place g c j w → (Back g g F c j → ⊥) → Least g F c j x → Least g F c (suc j) (min x (number F w))
+  pub least-take : {j x w : ℕ} → Place g c j w → (Back g g F c j → ⊥) → Least g F c j x
+      → Least g F c (suc j) (min x (number F w))
   least-take {j} {x} {w} q k r = record {
     at-most = let a = r .at-most in omega arith;
     at-place = λ i y l p n. go i y l p n (ℕ-discrete i j);
@@ -67,7 +71,8 @@ module _ {g : Blocks} {F : Forest} {c : ℕ} where
 -- ---- from the last visited vertex back
 
 -- a value keeps its reason where the table keeps the cells that it names
-attained-keeps : {g : Blocks} {F : Forest} {m m′ c : ℕ} {t t′ : ℕ → ℕ} → m′ ≤ m → t′ c ≡ t c → ((x : ℕ) → Entered x F → m ≤ number F x → t′ x ≡ t x)
+attained-keeps : {g : Blocks} {F : Forest} {m m′ c : ℕ} {t t′ : ℕ → ℕ} → m′ ≤ m → t′ c ≡ t c
+    → ((x : ℕ) → Entered x F → m ≤ number F x → t′ x ≡ t x)
     → Attained g F m t c → Attained g F m′ t′ c
 attained-keeps l e f (by-self q) = by-self (e ∙ q)
 attained-keeps l e f (by-place i w p n q) = by-place i w p n (e ∙ q)
@@ -75,11 +80,13 @@ attained-keeps l e f (by-child j x k a q) = by-child j x k (omega arith) (e ∙ 
 
 module _ {g : Blocks} {F : Forest} (span : Spanning g F) where
   -- the tables of the first pass: no child counts yet
-  pub sweep-begin : {t : ℕ → ℕ} → ((c : ℕ) → c < length g → Least g F c (length (block g c)) (t c)) → Lows g F (length g) t
+  pub sweep-begin : {t : ℕ → ℕ} → ((c : ℕ) → c < length g → Least g F c (length (block g c)) (t c))
+      → Lows g F (length g) t
   sweep-begin {t} h = record {
     at-most = λ c i. h c (span .within c i) .at-most;
     at-place = λ c i w p n. h c (span .within c (source-entered span p)) .at-place i w (p .fits) p n;
-    at-child = λ c j x m l. (let a = number-bound (entry-entered m) in let b = forest-length span in absurd (omega arith));
+    at-child =
+        λ c j x m l. (let a = number-bound (entry-entered m) in let b = forest-length span in absurd (omega arith));
     attained = λ c i. go c (h c (span .within c i) .met);
   }
     where
@@ -112,7 +119,9 @@ module _ {g : Blocks} {F : Forest} (span : Spanning g F) where
     sweep-root {t} e lo = record {
       at-most = lo .at-most;
       at-place = lo .at-place;
-      at-child = λ c j x k l. elim (this-or-later x (entry-entered k) l) [ inl q ↦ absurd (no-child q k) | inr q ↦ lo .at-child c j x k q ];
+      at-child =
+          λ c j x k l. elim (this-or-later x
+          (entry-entered k) l) [ inl q ↦ absurd (no-child q k) | inr q ↦ lo .at-child c j x k q ];
       attained = λ c i. attained-keeps (omega arith) refl (λ x k l. refl) (lo .attained c i);
     }
       where
@@ -120,11 +129,13 @@ module _ {g : Blocks} {F : Forest} (span : Spanning g F) where
         no-child q k = let a = parent-child (span .built) k in let b = ap (parent F) q in omega arith
 
     -- a child's lowpoint goes into its parent's
-    pub sweep-child : {t t′ : ℕ → ℕ} {u : ℕ} → parent F (vertexAt F m) ≡ suc u → Stored (length g) t t′ u (min (t u) (t (vertexAt F m)))
+    pub sweep-child : {t t′ : ℕ → ℕ} {u : ℕ} → parent F (vertexAt F m) ≡ suc u
+        → Stored (length g) t t′ u (min (t u) (t (vertexAt F m)))
         → Lows g F (suc m) t → Lows g F m t′
     sweep-child {t} {t′} {u} e st lo = record {
       at-most = λ c i. (let a = lower c i in let b = lo .at-most c i in omega arith);
-      at-place = λ c i w p n. (let a = lower c (source-entered span p) in let b = lo .at-place c i w p n in omega arith);
+      at-place =
+          λ c i w p n. (let a = lower c (source-entered span p) in let b = lo .at-place c i w p n in omega arith);
       at-child = λ c j x k l. under c j x k (this-or-later x (entry-entered k) l);
       attained = λ c i. go c i (ℕ-discrete c u) (decLe (t u) (t v)) (lo .attained c i);
     }
@@ -139,7 +150,11 @@ module _ {g : Blocks} {F : Forest} (span : Spanning g F) where
         other c i n = st .rest c (span .within c i) n
 
         lower : (c : ℕ) → Entered c F → t′ c ≤ t c
-        lower c i = elim (ℕ-discrete c u) [ yes q ↦ (let a = hit in let b = ap t′ q in let d = ap t q in omega arith) | no n ↦ (let a = other c i n in omega arith) ]
+        lower c i =
+            elim (ℕ-discrete c u) [
+              | yes q ↦ (let a = hit in let b = ap t′ q in let d = ap t q in omega arith)
+              | no n ↦ (let a = other c i n in omega arith)
+            ]
 
         -- what counts already lies past u
         past : (x : ℕ) → m ≤ number F x → x ≡ u → ⊥
@@ -175,5 +190,6 @@ module _ {g : Blocks} {F : Forest} (span : Spanning g F) where
             let n = v-number in
             let d = kept v v-entered (omega arith) in
             by-child (slot F v) v (rw q up) (omega arith) (omega arith)
-        go c i (yes q) (yes l) w = attained-keeps (omega arith) (let a = hit in let b = ap t′ q in let d = ap t q in omega arith) later w
+        go c i (yes q) (yes l) w =
+            attained-keeps (omega arith) (let a = hit in let b = ap t′ q in let d = ap t q in omega arith) later w
         go c i (no n) d w = attained-keeps (omega arith) (other c i n) later w

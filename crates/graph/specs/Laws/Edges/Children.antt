@@ -41,7 +41,8 @@ unfolding marked marks
 marked-length f i [] = refl
 marked-length f i (v ∷ l) = go (told (f i)) (marked-length f (suc i) l)
   where
-    go : Told (f i) → length (marked f (suc i) l) ≡ marks f (suc i) (length l) → length (marked f i (v ∷ l)) ≡ marks f i (suc (length l))
+    go : Told (f i) → length (marked f (suc i) l) ≡ marks f (suc i) (length l)
+        → length (marked f i (v ∷ l)) ≡ marks f i (suc (length l))
     go (pass e) h = rw (e, marked, marks) (ap suc h)
     go (fail e) h = rw (e, marked, marks) h
 
@@ -66,7 +67,8 @@ record Past (f f′ : ℕ → Bool) (j : ℕ) : Type 0 where
   none : (k : ℕ) → j ≤ k → f k ≡ false
   same : (k : ℕ) → (k ≡ j → ⊥) → f′ k ≡ f k
 
-marked-past : (f f′ : ℕ → Bool) (i d : ℕ) (l : List ℕ) → Past f f′ (i + d) → d < length l → marked f′ i l ≡ marked f i l ++ (getD l d 0 ∷ [])
+marked-past : (f f′ : ℕ → Bool) (i d : ℕ) (l : List ℕ) → Past f f′ (i + d) → d < length l
+    → marked f′ i l ≡ marked f i l ++ (getD l d 0 ∷ [])
 unfolding marked
 marked-past f f′ i d [] p h = absurd (omega arith)
 marked-past f f′ i zero (v ∷ l) p h =
@@ -75,12 +77,15 @@ marked-past f f′ i zero (v ∷ l) p h =
     let rest : (k : ℕ) → suc i ≤ k → f′ k ≡ false = λ k c. (p .same k (λ e. omega arith) ∙ none k (omega arith)) in
     marked-yes f′ i v l (rw z at (p .newly))
     ∙ (ap (λ x. v ∷ x) (marked-none f′ (suc i) l rest) ∙ rw (marked-none f i (v ∷ l) none))
-marked-past f f′ i (suc d) (v ∷ l) p h = go (told (f i)) (marked-past f f′ (suc i) d l (let z : i + suc d ≡ suc i + d = omega arith in rw z at p) (omega arith))
+marked-past f f′ i (suc d) (v ∷ l) p h =
+    go (told (f i))
+    (marked-past f f′ (suc i) d l (let z : i + suc d ≡ suc i + d = omega arith in rw z at p) (omega arith))
   where
     keep : f′ i ≡ f i
     keep = p .same i (λ e. omega arith)
 
-    go : Told (f i) → marked f′ (suc i) l ≡ marked f (suc i) l ++ (getD l d 0 ∷ []) → marked f′ i (v ∷ l) ≡ marked f i (v ∷ l) ++ (getD l d 0 ∷ [])
+    go : Told (f i) → marked f′ (suc i) l ≡ marked f (suc i) l ++ (getD l d 0 ∷ [])
+        → marked f′ i (v ∷ l) ≡ marked f i (v ∷ l) ++ (getD l d 0 ∷ [])
     go (pass e) r = marked-yes f′ i v l (keep ∙ e) ∙ (ap (λ x. v ∷ x) r ∙ rw (marked-yes f i v l e))
     go (fail e) r = marked-no f′ i v l (keep ∙ e) ∙ (r ∙ rw (marked-no f i v l e))
 
@@ -106,18 +111,23 @@ children-miss : (F : Forest) {u x : ℕ} (j v : ℕ) → (x ≡ u → ⊥) → c
 unfolding children
 children-miss F {u} {x} j v n = rw (ne-eqb x u n, children)
 
-pub children-marked : {g : Blocks} {F : Forest} → Built (Place g) F → InOrder g all F → (x : ℕ) → children F x ≡ marked (childMark F x) 0 (block g x)
+pub children-marked : {g : Blocks} {F : Forest} → Built (Place g) F → InOrder g all F → (x : ℕ)
+    → children F x ≡ marked (childMark F x) 0 (block g x)
 unfolding children childMark
 children-marked {g} {F = []} b o x = sym (marked-none (childMark [] x) 0 (block g x) (λ k c. refl))
 children-marked {g} {F = root v ∷ F} b o x = children-marked {F = F} (before b) (order-before o) x
-children-marked {g} {F = via u j v ∷ F} b o x = go (ℕ-discrete x u) (children-marked {F = F} (before b) (order-before o) x)
+children-marked {g} {F = via u j v ∷ F} b o x =
+    go (ℕ-discrete x u) (children-marked {F = F} (before b) (order-before o) x)
   where
     p : Place g u j v
     p = entry-allowed b (List·Memᴰ·head refl)
 
     -- no later place of u has a mark: v would be entered
     late : (k : ℕ) → j ≤ k → childMark F u k ≡ true → Dec (j < k) → ⊥
-    late k l e (yes c) = fresh b (order-entered (before b) (order-before o) (mark-child F u k e .entry-at) c (record { place = p; allowed = refl }))
+    late k l e (yes c) =
+        fresh b
+        (order-entered (before b) (order-before o) (mark-child F u k e .entry-at) c
+        (record { place = p; allowed = refl }))
     late k l e (no c) =
         let m = mark-child F u k e in
         let q = entry-allowed (before b) (m .entry-at) .leads in
@@ -139,9 +149,15 @@ children-marked {g} {F = via u j v ∷ F} b o x = go (ℕ-discrete x u) (childre
         sym (s ∙ ap (λ y. marked (childMark F u) 0 (block g u) ++ (y ∷ [])) (p .leads))
 
     at-x : x ≡ u → marked (childMark F x) 0 (block g x) ++ (v ∷ []) ≡ marked (childMark (via u j v ∷ F) x) 0 (block g x)
-    at-x e = subst (λ y. marked (childMark F y) 0 (block g y) ++ (v ∷ []) ≡ marked (childMark (via u j v ∷ F) y) 0 (block g y)) (sym e) at-u
+    at-x e =
+        subst
+        (λ y. marked (childMark F y) 0 (block g y) ++ (v ∷ []) ≡ marked (childMark (via u j v ∷ F) y) 0 (block g y))
+        (sym e) at-u
 
     go : Dec (x ≡ u) → children F x ≡ marked (childMark F x) 0 (block g x)
         → children (via u j v ∷ F) x ≡ marked (childMark (via u j v ∷ F) x) 0 (block g x)
-    go (no n) ih = children-miss F j v n ∙ (ih ∙ marked-same (childMark F x) (childMark (via u j v ∷ F) x) 0 (block g x) (λ k c. sym (mark-other F u j v x k (λ e q. n e))))
+    go (no n) ih =
+        children-miss F j v n
+        ∙ (ih ∙ marked-same (childMark F x) (childMark (via u j v ∷ F) x) 0 (block g x)
+        (λ k c. sym (mark-other F u j v x k (λ e q. n e))))
     go (yes e) ih = children-hit F j v e ∙ (ap (λ l. l ++ (v ∷ [])) ih ∙ at-x e)

@@ -13,7 +13,8 @@ use Rattle.graph.specs.Search.{root, via, Forest}
 use Rattle.graph.specs.Forest.{parent, childMark, parentMark}
 use Rattle.graph.specs.Laws.Places.Basics.{clash, fails, or-cases, or-left, or-right, and-parts, and-both}
 use Rattle.graph.specs.Laws.Places.Pairing.{Balanced, balanced-sym, place-at, pair-place, pair-pair}
-use Rattle.graph.specs.Laws.Tree.Entries.{Entered, Entry, as-root, as-child, entry, via-root, Built, entry-once, entry-allowed}
+use Rattle.graph.specs.Laws.Tree.Entries.{Entered, Entry, as-root, as-child, entry, via-root, Built, entry-once}
+use Rattle.graph.specs.Laws.Tree.Entries.{entry-allowed}
 use Rattle.graph.specs.Laws.Tree.Climbs.{parent-root, parent-child, slot, child-entry}
 use Rattle.graph.specs.Laws.Joined.Spanning.{Spanning, tree-place, tree-position, tree-pair}
 
@@ -26,10 +27,13 @@ pub record Child (F : Forest) (u j : ℕ) : Type 0 where
 pub mark-child : (F : Forest) (u j : ℕ) → childMark F u j ≡ true → Child F u j
 unfolding childMark
 mark-child [] u j e = absurd (clash e refl)
-mark-child (root v ∷ F) u j e = let c = mark-child F u j e in record { vertex = c .vertex; entry-at = List·Memᴰ·tail (c .entry-at) }
+mark-child (root v ∷ F) u j e =
+    let c = mark-child F u j e in
+    record { vertex = c .vertex; entry-at = List·Memᴰ·tail (c .entry-at) }
 mark-child (via p i v ∷ F) u j e = go (λ h. mark-child F u j h) (or-cases (eqb u p && eqb j i) (childMark F u j) e)
   where
-    go : (childMark F u j ≡ true → Child F u j) → (eqb u p && eqb j i ≡ true) ⊎ (childMark F u j ≡ true) → Child (via p i v ∷ F) u j
+    go : (childMark F u j ≡ true → Child F u j) → (eqb u p && eqb j i ≡ true) ⊎ (childMark F u j ≡ true)
+        → Child (via p i v ∷ F) u j
     go rec (inl h) =
         let (a, b) = and-parts (eqb u p) (eqb j i) h in
         let x : u ≡ p = eqb-true u p a in
@@ -79,7 +83,8 @@ module _ {g h : Blocks} (bal : Balanced g h) {F : Forest} (b : Built (Place g) F
   pub marked-back : {v i u : ℕ} → Place h v i u → parentMark h g F v i ≡ true → Back g h F v i
   unfolding parentMark
   marked-back {v} {i} {u} p e =
-      back u (pair h g v i) (child-mark-entry b (pair-place (balanced-sym bal) p) .0 (rw (p .leads) at e)) (sym (pair-pair (balanced-sym bal) p))
+      back u (pair h g v i) (child-mark-entry b (pair-place (balanced-sym bal) p) .0 (rw (p .leads) at e))
+      (sym (pair-pair (balanced-sym bal) p))
 
   pub unmarked : {v i u : ℕ} → Place h v i u → (Back g h F v i → ⊥) → parentMark h g F v i ≡ false
   unmarked {v} {i} p n = fails (parentMark h g F v i) (λ e. n (marked-back p e))
@@ -97,20 +102,27 @@ module _ {g h : Blocks} (bal : Balanced g h) {F : Forest} (b : Built (Place g) F
       cc
 
   -- and none exactly at a root
-  pub root-unmarked : {v : ℕ} → Entered v F → (parent F v ≡ 0) ↔ ((i : ℕ) → i < length (block h v) → parentMark h g F v i ≡ false)
-  root-unmarked {v} k = (λ e i l. unmarked (place-at l) (λ r. let a = back-parent r in omega arith), λ f. go f (entry k))
+  pub root-unmarked : {v : ℕ} → Entered v F
+      → (parent F v ≡ 0) ↔ ((i : ℕ) → i < length (block h v) → parentMark h g F v i ≡ false)
+  root-unmarked {v} k =
+      (λ e i l. unmarked (place-at l) (λ r. let a = back-parent r in omega arith), λ f. go f (entry k))
     where
       go : ((i : ℕ) → i < length (block h v) → parentMark h g F v i ≡ false) → Entry F v → parent F v ≡ 0
       go f (as-root m) = parent-root b m
-      go f (as-child u j m) = let r = back u j m refl in absurd (clash (back-marked r) (f (pair g h u j) (back-place r)))
+      go f (as-child u j m) =
+          let r = back u j m refl in
+          absurd (clash (back-marked r) (f (pair g h u j) (back-place r)))
 
 -- ---- both marks stand at first mentions
 
 module _ {g : Blocks} {F : Forest} (span : Spanning g F) where
-  pub child-mark-first : {u j v : ℕ} → Place g u j v → (childMark F u j ≡ true) ↔ ((parent F v ≡ suc u) × (j ≡ position v (block g u) 0))
+  pub child-mark-first : {u j v : ℕ} → Place g u j v
+      → (childMark F u j ≡ true) ↔ ((parent F v ≡ suc u) × (j ≡ position v (block g u) 0))
   child-mark-first {u} {j} {v} p = (
     λ e. (let m = child-mark-entry (span .built) p .0 e in (parent-child (span .built) m, sym (tree-position span m))),
-    λ h. (let m = child-entry (span .built) (span .closed u j v p) (h .0) in subst (λ x. childMark F u x ≡ true) (sym (tree-position span m) ∙ sym (h .1)) (child-mark m)),
+    λ h.
+        (let m = child-entry (span .built) (span .closed u j v p) (h .0) in subst (λ x. childMark F u x ≡ true)
+        (sym (tree-position span m) ∙ sym (h .1)) (child-mark m)),
   )
 
   module _ {h : Blocks} (bal : Balanced g h) where
@@ -120,11 +132,19 @@ module _ {g : Blocks} {F : Forest} (span : Spanning g F) where
         rw a (e ∙ tree-pair span h m)
 
     pub first-back : {u v : ℕ} → v < length g → parent F v ≡ suc u → Back g h F v (position u (block h v) 0)
-    first-back {u} {v} l e = let m = child-entry (span .built) (span .whole v l) e in back u (slot F v) m (sym (tree-pair span h m))
+    first-back {u} {v} l e =
+        let m = child-entry (span .built) (span .whole v l) e in
+        back u (slot F v) m (sym (tree-pair span h m))
 
     pub parent-mark-first : {v i u : ℕ} → v < length g → Place h v i u
         → (parentMark h g F v i ≡ true) ↔ ((parent F v ≡ suc u) × (i ≡ position u (block h v) 0))
     parent-mark-first {v} {i} {u} l p = (
-      λ e. (let r = marked-back bal (span .built) p e in (back-parent bal (span .built) r ∙ ap suc (p .leads), back-first r ∙ ap (λ x. position x (block h v) 0) (p .leads))),
+      λ e.
+          (let r = marked-back bal
+          (span .built) p e in (
+            back-parent bal (span .built) r ∙ ap suc (p .leads),
+            back-first r
+                ∙ ap (λ x. position x (block h v) 0) (p .leads),
+          )),
       λ q. subst (λ x. parentMark h g F v x ≡ true) (sym (q .1)) (back-marked bal (span .built) (first-back l (q .0))),
     )

@@ -16,7 +16,8 @@ use Rattle.graph.specs.Laws.Tree.Entries.{Entered, entry-entered, Built,
 use Rattle.graph.specs.Laws.Tree.Numbers.{number-injective}
 use Rattle.graph.specs.Laws.Tree.Climbs.{climb-root, climb-child, root-itself, root-parent}
 use Rattle.graph.specs.Laws.Tree.Ancestors.{ancestor-first, root-ancestor, parent-not-below}
-use Rattle.graph.specs.Laws.Joined.Chains.{chain-trans, chain-one, chain-map, chain-sym, all-twinned, wire-or-not, without-same, without-twinned}
+use Rattle.graph.specs.Laws.Joined.Chains.{chain-trans, chain-one, chain-map, chain-sym, all-twinned, wire-or-not}
+use Rattle.graph.specs.Laws.Joined.Chains.{without-same, without-twinned}
 use Rattle.graph.specs.Laws.Joined.Spanning.{Spanning, tree-place}
 use Rattle.graph.specs.Laws.Joined.Roots.{chain-root, chain-beside}
 use Rattle.graph.specs.Laws.Bridges.Crossings.{bridge-joined, bridge-parts}
@@ -62,13 +63,15 @@ module _ {g : Blocks} (wf : WellFormed g) {F : Forest} (span : Spanning g F) whe
       go u j v m t (fail e) = rw (head-parent g (span .built) m e) t
 
   -- from the head down, where each place that is no bridge can be replaced
-  head-chain : (ok : PlaceTest) → ((u j v : ℕ) → Place g u j v → bridge g u j ≡ false → Chain g ok u v) → (v : ℕ) → Entered v F
+  head-chain : (ok : PlaceTest) → ((u j v : ℕ) → Place g u j v → bridge g u j ≡ false → Chain g ok u v) → (v : ℕ)
+      → Entered v F
       → Chain g ok (head g F v) v
   head-chain ok f = forest-ind (λ v. Chain g ok (head g F v) v) (span .built)
       (λ v m. rw (head-root g (span .built) m) here)
       (λ u j v m c. go u j v m c (told (bridge g u j)))
     where
-      go : (u j v : ℕ) → List·Memᴰ (via u j v) F → Chain g ok (head g F u) u → Told (bridge g u j) → Chain g ok (head g F v) v
+      go : (u j v : ℕ) → List·Memᴰ (via u j v) F → Chain g ok (head g F u) u → Told (bridge g u j)
+          → Chain g ok (head g F v) v
       go u j v m c (pass e) = rw (head-bridge g (span .built) m e) here
       go u j v m c (fail e) = rw (head-parent g (span .built) m e) (chain-trans c (f u j v (tree-place span m) e))
 
@@ -79,7 +82,8 @@ module _ {g : Blocks} (wf : WellFormed g) {F : Forest} (span : Spanning g F) whe
     joined-without = λ a b c w. head-chain (without g a b) (around w) v i;
   }
     where
-      around : {a b c : ℕ} → Place g a b c → (u j x : ℕ) → Place g u j x → bridge g u j ≡ false → Chain g (without g a b) u x
+      around : {a b c : ℕ} → Place g a b c → (u j x : ℕ) → Place g u j x → bridge g u j ≡ false
+          → Chain g (without g a b) u x
       around {a} {b} w u j x p e = elim (wire-or-not g a b u j) [
         | inl o ↦ chain-one p o
         | inr on ↦ chain-map (without-same wf w on) (bridge-joined (wf .in-range) p .0 e)
@@ -104,7 +108,9 @@ module _ {g : Blocks} (wf : WellFormed g) {F : Forest} (span : Spanning g F) whe
       let c₁ = chain-beside span wf m h i nh in
       let c₂ = chain-beside span wf m p (parent-entered (span .built) m) (parent-not-below (span .built) m) in
       let r : rootOf F h ≡ rootOf F p = chain-root span wf (f .joined-all) ∙ root-parent (span .built) m in
-      bridge-parts (wf .in-range) pl e (chain-trans (chain-sym wf (without-twinned wf pl) c₂) (chain-trans (rw r at c₁) (f .joined-without p j k pl)))
+      bridge-parts (wf .in-range) pl e
+      (chain-trans (chain-sym wf (without-twinned wf pl) c₂)
+      (chain-trans (rw r at c₁) (f .joined-without p j k pl)))
 
   same-top : {h k : ℕ} → Top g F h → Top g F k → DoublyJoined g h k → h ≡ k
   same-top {h} {k} s t d = go (decLt (number F h) (number F k)) (decLt (number F k) (number F h))
@@ -117,7 +123,8 @@ module _ {g : Blocks} (wf : WellFormed g) {F : Forest} (span : Spanning g F) whe
   pub same-head : (u v : ℕ) → u < length g → v < length g → (head g F u ≡ head g F v) ↔ DoublyJoined g u v
   same-head u v hu hv = (
     λ e. doubly-trans (doubly-sym wf (at u hu)) (rw e (at v hv)),
-    λ d. same-top (head-top u (span .whole u hu)) (head-top v (span .whole v hv)) (doubly-trans (at u hu) (doubly-trans d (doubly-sym wf (at v hv)))),
+    λ d. same-top (head-top u (span .whole u hu)) (head-top v (span .whole v hv))
+        (doubly-trans (at u hu) (doubly-trans d (doubly-sym wf (at v hv)))),
   )
     where
       at : (x : ℕ) → x < length g → DoublyJoined g (head g F x) x

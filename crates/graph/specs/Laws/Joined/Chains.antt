@@ -8,7 +8,8 @@ use borrow.Author.Tests.{eqb-true, eq-eqb}
 use Rattle.graph.specs.Graph.{Blocks, target, Place, twin, WellFormed}
 use Rattle.graph.specs.Search.{PlaceTest, all}
 use Rattle.graph.specs.Joined.{Chain, here, along, without}
-use Rattle.graph.specs.Laws.Places.Basics.{Told, pass, fail, told, clash, or-cases, or-left, or-right, and-parts, and-both}
+use Rattle.graph.specs.Laws.Places.Basics.{Told, pass, fail, told, clash, or-cases, or-left, or-right, and-parts}
+use Rattle.graph.specs.Laws.Places.Basics.{and-both}
 use Rattle.graph.specs.Laws.Places.Pairing.{twin-place, twin-twin}
 
 -- ---- chains
@@ -21,7 +22,8 @@ module _ {g : Blocks} {ok : PlaceTest} where
   pub chain-one : {u j v : ℕ} → Place g u j v → ok u j ≡ true → Chain g ok u v
   chain-one p o = along p o here
 
-pub chain-map : {g : Blocks} {ok ok′ : PlaceTest} {a b : ℕ} → ((u j : ℕ) → ok u j ≡ true → ok′ u j ≡ true) → Chain g ok a b → Chain g ok′ a b
+pub chain-map : {g : Blocks} {ok ok′ : PlaceTest} {a b : ℕ} → ((u j : ℕ) → ok u j ≡ true → ok′ u j ≡ true)
+    → Chain g ok a b → Chain g ok′ a b
 chain-map f here = here
 chain-map f (along {u = u} {j = j} p o r) = along p (f u j o) (chain-map f r)
 
@@ -29,9 +31,11 @@ chain-map f (along {u = u} {j = j} p o r) = along p (f u j o) (chain-map f r)
 abbrev pub Twinned : Blocks → PlaceTest → Type 0
 Twinned g ok = (u j v : ℕ) → Place g u j v → ok u j ≡ true → ok v (twin g u j) ≡ true
 
-pub chain-sym : {g : Blocks} → WellFormed g → {ok : PlaceTest} {a b : ℕ} → Twinned g ok → Chain g ok a b → Chain g ok b a
+pub chain-sym : {g : Blocks} → WellFormed g → {ok : PlaceTest} {a b : ℕ} → Twinned g ok → Chain g ok a b
+    → Chain g ok b a
 chain-sym wf t here = here
-chain-sym wf t (along {u = u} {j = j} {v = v} p o r) = chain-trans (chain-sym wf t r) (chain-one (twin-place wf p) (t u j v p o))
+chain-sym wf t (along {u = u} {j = j} {v = v} p o r) =
+    chain-trans (chain-sym wf t r) (chain-one (twin-place wf p) (t u j v p o))
 
 pub all-twinned : (g : Blocks) → Twinned g all
 all-twinned g u j v p o = refl
@@ -62,7 +66,9 @@ wire-or-not g a b u j = go (told (near || far))
 
     on : (near ≡ true) ⊎ (far ≡ true) → OnWire g a b u j
     on (inl e) = let (p, q) = and-parts (eqb u a) (eqb j b) e in this (eqb-true u a p) (eqb-true j b q)
-    on (inr e) = let (p, q) = and-parts (eqb u (target g a b)) (eqb j (twin g a b)) e in that (eqb-true u (target g a b) p) (eqb-true j (twin g a b) q)
+    on (inr e) =
+        let (p, q) = and-parts (eqb u (target g a b)) (eqb j (twin g a b)) e in
+        that (eqb-true u (target g a b) p) (eqb-true j (twin g a b) q)
 
     go : Told (near || far) → (not (near || far) ≡ true) ⊎ OnWire g a b u j
     go (pass e) = inr (on (or-cases near far e))

@@ -10,10 +10,12 @@ use Rattle.graph.specs.Search.{root, via, Forest, PlaceTest, search}
 use Rattle.graph.specs.Joined.{Chain, here, along, joined}
 use Rattle.graph.specs.Forest.{number, rootOf, Ancestor}
 use Rattle.graph.specs.Laws.Places.Pairing.{InRange}
-use Rattle.graph.specs.Laws.Tree.Entries.{Entered, entered-test, test-entered, none-entered, Built, built-nil, entry-allowed, forest-ind}
+use Rattle.graph.specs.Laws.Tree.Entries.{Entered, entered-test, test-entered, none-entered, Built, built-nil}
+use Rattle.graph.specs.Laws.Tree.Entries.{entry-allowed, forest-ind}
 use Rattle.graph.specs.Laws.Tree.Climbs.{root-itself, root-parent, root-is-root}
 use Rattle.graph.specs.Laws.Run.Arcs.{Step, arc-arcs}
-use Rattle.graph.specs.Laws.Run.Segments.{Segment, segment-aims, segment-closed, Start, start, start-goal, goal-start, search-segment}
+use Rattle.graph.specs.Laws.Run.Segments.{Segment, segment-aims, segment-closed, Start, start, start-goal}
+use Rattle.graph.specs.Laws.Run.Segments.{goal-start, search-segment}
 use Rattle.graph.specs.Laws.Run.Descent.{fit-start, segment-built, segment-roots, segment-down}
 use Rattle.graph.specs.Laws.Joined.Chains.{chain-trans, chain-one}
 
@@ -26,7 +28,8 @@ module _ {g : Blocks} {ok : PlaceTest} (starts : List ℕ) {F : Forest} (s : Seg
 
   -- a root is one of the starts
   pub searched-root : {v : ℕ} → List·Memᴰ (root v) F → List·Memᴰ v starts
-  searched-root {v} m = elim (segment-roots s m) [ inl x ↦ absurd (List·Memᴰ·not-nil x) | inr x ↦ is-start (start-goal starts x) ]
+  searched-root {v} m =
+      elim (segment-roots s m) [ inl x ↦ absurd (List·Memᴰ·not-nil x) | inr x ↦ is-start (start-goal starts x) ]
     where
       is-start : Start starts (root v) → List·Memᴰ v starts
       is-start (start k) = k
@@ -46,10 +49,12 @@ module _ {g : Blocks} {ok : PlaceTest} (starts : List ℕ) {F : Forest} (s : Seg
   pub chain-searched : (v : ℕ) → Entered v F → Chain g ok (rootOf F v) v
   chain-searched = forest-ind (λ v. Chain g ok (rootOf F v) v) searched-built
       (λ v m. rw (root-itself searched-built m) here)
-      (λ u j v m c. let o = entry-allowed searched-built m in rw (root-parent searched-built m) (chain-trans c (chain-one (o .place) (o .allowed))))
+      (λ u j v m c. let o = entry-allowed searched-built m in rw (root-parent searched-built m)
+      (chain-trans c (chain-one (o .place) (o .allowed))))
 
 -- the test is the relation
-pub joined-chain : {g : Blocks} → InRange g → (ok : PlaceTest) (u v : ℕ) → u < length g → (joined g ok u v ≡ true) ↔ Chain g ok u v
+pub joined-chain : {g : Blocks} → InRange g → (ok : PlaceTest) (u v : ℕ) → u < length g
+    → (joined g ok u v ≡ true) ↔ Chain g ok u v
 unfolding joined
 joined-chain {g} r ok u v h = (λ e. there seg (entered-test v (search g ok (u ∷ [])) e), λ c. test-entered (back seg c))
   where
@@ -58,7 +63,8 @@ joined-chain {g} r ok u v h = (λ e. there seg (entered-test v (search g ok (u �
 
     there : {F : Forest} → Segment g ok [] (map root (u ∷ [])) F → Entered v F → Chain g ok u v
     there {F} s i =
-        let e : rootOf F v ≡ u = List·Memᴰ·eq-of-singleton (searched-root (u ∷ []) s (root-is-root (searched-built (u ∷ []) s) v i)) in
+        let e : rootOf F v ≡ u =
+        List·Memᴰ·eq-of-singleton (searched-root (u ∷ []) s (root-is-root (searched-built (u ∷ []) s) v i)) in
         rw e at (chain-searched (u ∷ []) s v i)
 
     back : {F : Forest} → Segment g ok [] (map root (u ∷ [])) F → Chain g ok u v → Entered v F

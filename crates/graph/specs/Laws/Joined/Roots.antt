@@ -1,4 +1,5 @@
--- Theorem 4: two vertices have the same root exactly when they are joined. And the ways down the tree that avoid a wire.
+-- Theorem 4: two vertices have the same root exactly when they are joined. And the ways down the tree that avoid a
+-- wire.
 use Prim.Native.Nat.{ℕ, _<_}
 use mathlib.Core.Path.{_≡_, refl, sym, _∙_, ap}
 use mathlib.Core.Logic.{inl, inr, _↔_}
@@ -15,7 +16,8 @@ use Rattle.graph.specs.Laws.Tree.Entries.{Entered, forest-ind}
 use Rattle.graph.specs.Laws.Tree.Numbers.{parent-first}
 use Rattle.graph.specs.Laws.Tree.Climbs.{root-itself, root-parent}
 use Rattle.graph.specs.Laws.Tree.Ancestors.{ancestor-root, ancestor-same}
-use Rattle.graph.specs.Laws.Joined.Chains.{chain-trans, chain-one, chain-sym, all-twinned, OnWire, this, that, wire-stays}
+use Rattle.graph.specs.Laws.Joined.Chains.{chain-trans, chain-one, chain-sym, all-twinned, OnWire, this, that}
+use Rattle.graph.specs.Laws.Joined.Chains.{wire-stays}
 use Rattle.graph.specs.Laws.Joined.Spanning.{Spanning, tree-place, ends-related}
 
 module _ {g : Blocks} {F : Forest} (span : Spanning g F) where
@@ -24,22 +26,30 @@ module _ {g : Blocks} {F : Forest} (span : Spanning g F) where
       → (v : ℕ) → Entered v F → Q v → Chain g ok (rootOf F v) v
   tree-chain {ok} Q f = forest-ind (λ v. Q v → Chain g ok (rootOf F v) v) (span .built)
       (λ v m h. rw (root-itself (span .built) m) here)
-      (λ u j v m c h. let (a, o) = f u j v m h in rw (root-parent (span .built) m) (chain-trans (c a) (chain-one (tree-place span m) o)))
+      (λ u j v m c h. let (a, o) = f u j v m h in rw (root-parent (span .built) m)
+      (chain-trans (c a) (chain-one (tree-place span m) o)))
 
   -- where every tree place is allowed
-  pub tree-chain-all : {ok : PlaceTest} → ((u j v : ℕ) → List·Memᴰ (via u j v) F → ok u j ≡ true) → (v : ℕ) → Entered v F → Chain g ok (rootOf F v) v
+  pub tree-chain-all : {ok : PlaceTest} → ((u j v : ℕ) → List·Memᴰ (via u j v) F → ok u j ≡ true) → (v : ℕ)
+      → Entered v F → Chain g ok (rootOf F v) v
   tree-chain-all f v i = tree-chain (λ x. Unit {0}) (λ u j x m t. (tt, f u j x m)) v i tt
 
   module _ (wf : WellFormed g) where
     pub place-root : {u j v : ℕ} → Place g u j v → rootOf F u ≡ rootOf F v
-    place-root p = elim (ends-related span wf p) [ inl q ↦ sym (ancestor-root (span .built) q) | inr q ↦ ancestor-root (span .built) q ]
+    place-root p =
+        elim (ends-related span wf p) [
+          | inl q ↦ sym (ancestor-root (span .built) q)
+          | inr q ↦ ancestor-root
+              (span .built) q
+        ]
 
     pub chain-root : {ok : PlaceTest} {u v : ℕ} → Chain g ok u v → rootOf F u ≡ rootOf F v
     chain-root here = refl
     chain-root (along p o c) = place-root p ∙ chain-root c
 
     pub same-root-joined : (u v : ℕ) → u < length g → v < length g → (rootOf F u ≡ rootOf F v) ↔ Chain g all u v
-    same-root-joined u v hu hv = (λ e. chain-trans (chain-sym wf (all-twinned g) (down u hu)) (rw e (down v hv)), λ c. chain-root c)
+    same-root-joined u v hu hv =
+        (λ e. chain-trans (chain-sym wf (all-twinned g) (down u hu)) (rw e (down v hv)), λ c. chain-root c)
       where
         down : (x : ℕ) → x < length g → Chain g all (rootOf F x) x
         down x h = tree-chain-all (λ a j y m. refl) x (span .whole x h)
@@ -65,4 +75,6 @@ module _ {g : Blocks} {F : Forest} (span : Spanning g F) where
 
       -- so what does not descend from c has a way down without that wire
       pub chain-beside : (v : ℕ) → Entered v F → (Ancestor F c v → ⊥) → Chain g (without g p j) (rootOf F v) v
-      chain-beside = tree-chain (λ v. Ancestor F c v → ⊥) (λ u i v k h. (λ q. h (child k q), tree-without k (λ e. h (ancestor-same (sym e)))))
+      chain-beside =
+          tree-chain (λ v. Ancestor F c v → ⊥)
+          (λ u i v k h. (λ q. h (child k q), tree-without k (λ e. h (ancestor-same (sym e)))))

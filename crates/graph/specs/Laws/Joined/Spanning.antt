@@ -26,7 +26,12 @@ pub record Covers (g : Blocks) (starts : List ℕ) : Type 0 where
 count-every : (i n v : ℕ) → i ≤ v → v < i + n → List·Memᴰ v (countUp i n)
 unfolding countUp
 count-every i zero v h l = absurd (omega arith)
-count-every i (suc n) v h l = elim (ℕ-discrete v i) [ yes e ↦ List·Memᴰ·head e | no d ↦ List·Memᴰ·tail (count-every (suc i) n v (omega arith) (omega arith)) ]
+count-every i (suc n) v h l =
+    elim (ℕ-discrete v i) [
+      | yes e ↦ List·Memᴰ·head e
+      | no d ↦ List·Memᴰ·tail
+          (count-every (suc i) n v (omega arith) (omega arith))
+    ]
 
 count-inside : (i n v : ℕ) → List·Memᴰ v (countUp i n) → v < i + n
 unfolding countUp
@@ -72,9 +77,13 @@ search-spans {g} {starts} r c =
       built = built-map (λ u j v o. o .place) b;
       order = starts-order starts s;
       whole = λ v h. searched-start starts s (c .every v h);
-      within = forest-ind (λ v. v < length g) b (λ v m. c .inside v (searched-root starts s m)) (λ u j v m h. r u j v (entry-allowed b m .place));
+      within =
+          forest-ind (λ v. v < length g) b (λ v m. c .inside v (searched-root starts s m))
+          (λ u j v m h. r u j v (entry-allowed b m .place));
       closed = λ u j v p. searched-start starts s (c .every v (r u j v p));
-      down = λ u j v p l. searched-down starts s (searched-start starts s (c .every u (source p))) (record { place = p; allowed = refl }) l;
+      down =
+          λ u j v p l. searched-down starts s (searched-start starts s (c .every u (source p)))
+          (record { place = p; allowed = refl }) l;
     }
 
 module _ {g : Blocks} {F : Forest} (span : Spanning g F) where
@@ -99,7 +108,9 @@ module _ {g : Blocks} {F : Forest} (span : Spanning g F) where
   tree-first {u} {j} {v} m = none-before v (block g u) j bad
     where
       bad : (i : ℕ) → i < j → i < length (block g u) → target g u i ≡ v → ⊥
-      bad i l f e = order-first (span .built) (span .order) m l (record { place = record { fits = f; leads = e }; allowed = refl })
+      bad i l f e =
+          order-first (span .built) (span .order) m l
+          (record { place = record { fits = f; leads = e }; allowed = refl })
 
   pub tree-position : {u j v : ℕ} → List·Memᴰ (via u j v) F → position v (block g u) 0 ≡ j
   tree-position {u} {j} {v} m =

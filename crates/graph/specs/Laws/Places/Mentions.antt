@@ -45,7 +45,13 @@ pub record Mention (v : ℕ) (l : List ℕ) (k i : ℕ) : Type 0 where
   pub before : mentions v (take i l) ≡ k
 
 mention-later : {v x : ℕ} (l : List ℕ) {k i : ℕ} → Mention v l k i → (v ≡ x → ⊥) → Mention v (x ∷ l) k (suc i)
-mention-later l {i = i} r h = record { inside = let a = r .inside in omega arith; there = r .there; before = mentions-miss (take i l) h ∙ r .before }
+mention-later l {i = i} r h =
+    record {
+      inside = let a = r .inside in omega arith;
+      there = r .there;
+      before = mentions-miss (take i l) h
+          ∙ r .before;
+    }
 
 pub mention-at : (v : ℕ) (l : List ℕ) (k : ℕ) → k < mentions v l → Mention v l k (position v l k)
 mention-at v [] k h = absurd (omega (arith, mentions-nil v))
@@ -53,11 +59,18 @@ mention-at v (x ∷ l) k h = go (ℕ-discrete v x) k h (λ i. mention-at v l i)
   where
     go : Dec (v ≡ x) → (i : ℕ) → i < mentions v (x ∷ l) → ((m : ℕ) → m < mentions v l → Mention v l m (position v l m))
         → Mention v (x ∷ l) i (position v (x ∷ l) i)
-    go (yes e) zero h′ rec = rw (position-zero l e) (record { inside = omega arith; there = sym e; before = mentions-nil v })
+    go (yes e) zero h′ rec =
+        rw (position-zero l e) (record { inside = omega arith; there = sym e; before = mentions-nil v })
     go (yes e) (suc i) h′ rec =
         let r = rec i (omega (arith, mentions-hit l e)) in
         let a = r .inside in
-        rw (position-suc l i e) (record { inside = omega arith; there = r .there; before = mentions-hit (take (position v l i) l) e ∙ ap suc (r .before) })
+        rw (position-suc l i e)
+        (record {
+          inside = omega arith;
+          there = r .there;
+          before = mentions-hit (take (position v l i) l) e
+              ∙ ap suc (r .before);
+        })
     go (no d) i h′ rec = rw (position-miss l i d) (mention-later l (rec i (omega (arith, mentions-miss l d))) d)
 
 -- the other way: the mentions before it lead back to a position
@@ -77,15 +90,24 @@ mention-found v (x ∷ l) (suc j) h e = go (ℕ-discrete v x) (mention-found v l
     go (yes p) r =
         let a = mentions-hit (take j l) p in
         let b = mentions-hit l p in
-        record { counted = let c = r .counted in omega arith; found = rw a (position-suc l (mentions v (take j l)) p ∙ ap suc (r .found)) }
+        record {
+          counted = let c = r .counted in omega arith;
+          found = rw a
+              (position-suc l (mentions v (take j l)) p ∙ ap suc (r .found));
+        }
     go (no d) r =
         let a = mentions-miss (take j l) d in
         let b = mentions-miss l d in
-        record { counted = let c = r .counted in omega arith; found = rw a (position-miss l (mentions v (take j l)) d ∙ ap suc (r .found)) }
+        record {
+          counted = let c = r .counted in omega arith;
+          found = rw a
+              (position-miss l (mentions v (take j l)) d ∙ ap suc (r .found));
+        }
 
 -- ---- the first mention
 
-pub none-before : (v : ℕ) (l : List ℕ) (j : ℕ) → ((i : ℕ) → i < j → i < length l → getD l i 0 ≡ v → ⊥) → mentions v (take j l) ≡ 0
+pub none-before : (v : ℕ) (l : List ℕ) (j : ℕ) → ((i : ℕ) → i < j → i < length l → getD l i 0 ≡ v → ⊥)
+    → mentions v (take j l) ≡ 0
 none-before v l zero h = mentions-nil v
 none-before v [] (suc j) h = mentions-nil v
 none-before v (x ∷ l) (suc j) h =
@@ -97,13 +119,15 @@ unfolding position
 before-first v [] i h e = omega arith
 before-first v (x ∷ l) i h e = go (ℕ-discrete v x) i h e (λ k. before-first v l k)
   where
-    go : Dec (v ≡ x) → (i : ℕ) → i < position v (x ∷ l) 0 → getD (x ∷ l) i 0 ≡ v → ((k : ℕ) → k < position v l 0 → getD l k 0 ≡ v → ⊥) → ⊥
+    go : Dec (v ≡ x) → (i : ℕ) → i < position v (x ∷ l) 0 → getD (x ∷ l) i 0 ≡ v
+        → ((k : ℕ) → k < position v l 0 → getD l k 0 ≡ v → ⊥) → ⊥
     go (yes q) i h′ e′ rec = let a = position-zero l q in omega arith
     go (no n) zero h′ e′ rec = n (sym e′)
     go (no n) (suc i) h′ e′ rec = let a = position-miss l 0 n in rec i (omega arith) e′
 
 -- position 0 of v is where it stands and at no earlier place
-pub first-position : (v : ℕ) (l : List ℕ) (j : ℕ) → j < length l → getD l j 0 ≡ v → (position v l 0 ≡ j) ↔ ((i : ℕ) → i < j → getD l i 0 ≡ v → ⊥)
+pub first-position : (v : ℕ) (l : List ℕ) (j : ℕ) → j < length l → getD l j 0 ≡ v
+    → (position v l 0 ≡ j) ↔ ((i : ℕ) → i < j → getD l i 0 ≡ v → ⊥)
 first-position v l j h e = (
   λ q i c f. before-first v l i (omega arith) f,
   λ n. ap (position v l) (sym (none-before v l j (λ i c d. n i c))) ∙ mention-found v l j h e .found,

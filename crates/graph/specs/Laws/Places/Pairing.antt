@@ -42,9 +42,11 @@ pub balanced-at : {g h : Blocks}
     → ((u j v : ℕ) → Place g u j v → mentions v (block g u) ≡ mentions u (block h v))
     → ((v i u : ℕ) → Place h v i u → mentions v (block g u) ≡ mentions u (block h v))
     → Balanced g h
-balanced-at {g} {h} there back = record { same = λ u v. go u v (decLt 0 (mentions v (block g u))) (decLt 0 (mentions u (block h v))) }
+balanced-at {g} {h} there back =
+    record { same = λ u v. go u v (decLt 0 (mentions v (block g u))) (decLt 0 (mentions u (block h v))) }
   where
-    go : (u v : ℕ) → Dec (0 < mentions v (block g u)) → Dec (0 < mentions u (block h v)) → mentions v (block g u) ≡ mentions u (block h v)
+    go : (u v : ℕ) → Dec (0 < mentions v (block g u)) → Dec (0 < mentions u (block h v))
+        → mentions v (block g u) ≡ mentions u (block h v)
     go u v (yes a) d = there u (position v (block g u) 0) v (mention-place g u v 0 a)
     go u v (no a) (yes b) = back v (position u (block h v) 0) u (mention-place h v u 0 b)
     go u v (no a) (no b) = omega arith
@@ -63,7 +65,8 @@ module _ {g h : Blocks} (b : Balanced g h) where
   unfolding pair
   pair-mention {u} {j} {v} p =
       let f = mention-found v (block g u) j (p .fits) (p .leads) in
-      rw (p .leads) (mention-at u (block h v) (mentions v (take j (block g u))) (omega (arith, f .counted, b .same u v)))
+      rw (p .leads)
+      (mention-at u (block h v) (mentions v (take j (block g u))) (omega (arith, f .counted, b .same u v)))
 
   pub pair-place : {u j v : ℕ} → Place g u j v → Place h v (pair g h u j) u
   pair-place p = let r = pair-mention p in record { fits = r .inside; leads = r .there }
@@ -76,7 +79,8 @@ module _ {g h : Blocks} (b : Balanced g h) where
       go i r = rw (r .there, r .before) (mention-found v (block g u) j (p .fits) (p .leads) .found)
 
 -- the first mention is paired with the first
-pub pair-first : (g h : Blocks) {u j v : ℕ} → Place g u j v → mentions v (take j (block g u)) ≡ 0 → pair g h u j ≡ position u (block h v) 0
+pub pair-first : (g h : Blocks) {u j v : ℕ} → Place g u j v → mentions v (take j (block g u)) ≡ 0
+    → pair g h u j ≡ position u (block h v) 0
 unfolding pair
 pair-first g h p e = rw (p .leads, e)
 

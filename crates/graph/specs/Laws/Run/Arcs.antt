@@ -52,9 +52,12 @@ module _ (ok : PlaceTest) (u : ℕ) where
   arcs-out i (v ∷ l) {a} m = go (told (ok u i)) (λ k. arcs-out (suc i) l k)
     where
       first : ok u i ≡ true → a ≡ via u i v → Out ok u i (v ∷ l) a
-      first e p = let z : i + 0 ≡ i = omega arith in record { d = 0; within = omega arith; form = rw z p; allowed = rw z e }
+      first e p =
+          let z : i + 0 ≡ i = omega arith in
+          record { d = 0; within = omega arith; form = rw z p; allowed = rw z e }
 
-      cases : ok u i ≡ true → (List·Memᴰ a (arcs ok u (suc i) l) → Out ok u (suc i) l a) → (a ≡ via u i v) ⊎ List·Memᴰ a (arcs ok u (suc i) l)
+      cases : ok u i ≡ true → (List·Memᴰ a (arcs ok u (suc i) l) → Out ok u (suc i) l a)
+          → (a ≡ via u i v) ⊎ List·Memᴰ a (arcs ok u (suc i) l)
           → Out ok u i (v ∷ l) a
       cases e rec (inl p) = first e p
       cases e rec (inr k) = out-later v (rec k)
@@ -63,7 +66,8 @@ module _ (ok : PlaceTest) (u : ℕ) where
       go (pass e) rec = cases e rec (List·Memᴰ·cases-cons (subst (λ x. List·Memᴰ a x) (arcs-yes v l e) m))
       go (fail e) rec = out-later v (rec (subst (λ x. List·Memᴰ a x) (arcs-no v l e) m))
 
-  out-arcs : (i : ℕ) (l : List ℕ) (d : ℕ) → d < length l → ok u (i + d) ≡ true → List·Memᴰ (via u (i + d) (getD l d 0)) (arcs ok u i l)
+  out-arcs : (i : ℕ) (l : List ℕ) (d : ℕ) → d < length l → ok u (i + d) ≡ true
+      → List·Memᴰ (via u (i + d) (getD l d 0)) (arcs ok u i l)
   out-arcs i [] d h o = absurd (omega arith)
   out-arcs i (v ∷ l) zero h o =
       let z : i + 0 ≡ i = omega arith in
@@ -97,7 +101,8 @@ module _ (g : Blocks) (ok : PlaceTest) where
   arcs-arc {u} {a} m =
       let r = arcs-out ok u 0 (block g u) m in
       let z : 0 + r .d ≡ r .d = omega arith in
-      let p : Place g u (0 + r .d) (getD (block g u) (r .d) 0) = record { fits = let w = r .within in omega arith; leads = ap (λ x. getD (block g u) x 0) z } in
+      let p : Place g u (0 + r .d) (getD (block g u) (r .d) 0) =
+      record { fits = let w = r .within in omega arith; leads = ap (λ x. getD (block g u) x 0) z } in
       subst (λ x. Arc g ok u x) (sym (r .form)) (arc (record { place = p; allowed = r .allowed }))
 
   pub arc-arcs : {u j v : ℕ} → Step g ok u j v → List·Memᴰ (via u j v) (arcsOf g ok u)

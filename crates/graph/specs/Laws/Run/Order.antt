@@ -9,7 +9,8 @@ use lib.ListN.{length, getD}
 use Rattle.graph.specs.Graph.{Blocks, block, target}
 use Rattle.graph.specs.Search.{Goal, root, via, aim, Forest, PlaceTest, arcs}
 use Rattle.graph.specs.Laws.Places.Basics.{Told, pass, fail, told, clash}
-use Rattle.graph.specs.Laws.Tree.Entries.{Entered, now, old, entered-cast, Grows, same, more, entered-grows, Built, fresh, before}
+use Rattle.graph.specs.Laws.Tree.Entries.{Entered, now, old, entered-cast, Grows, same, more, entered-grows}
+use Rattle.graph.specs.Laws.Tree.Entries.{Built, fresh, before}
 use Rattle.graph.specs.Laws.Run.Arcs.{arcsOf, Step, arcs-yes, arcs-no}
 use Rattle.graph.specs.Laws.Run.Segments.{Segment, done, skip, enter, segment-grows}
 
@@ -35,7 +36,8 @@ record Taken (g : Blocks) (ok : PlaceTest) (F : Forest) (a : Goal) : Type 0 wher
   new : Entered (aim a) earlier → ⊥
   tried : Tried g ok earlier a
 
-cons-map : {F H : Forest} (a : Goal) → ((x : ℕ) → Entered x F → Entered x H) → (x : ℕ) → Entered x (a ∷ F) → Entered x (a ∷ H)
+cons-map : {F H : Forest} (a : Goal) → ((x : ℕ) → Entered x F → Entered x H) → (x : ℕ) → Entered x (a ∷ F)
+    → Entered x (a ∷ H)
 cons-map a f x (now e) = now e
 cons-map a f x (old i) = old (f x i)
 
@@ -44,7 +46,8 @@ module _ {g : Blocks} {ok : PlaceTest} where
   tried-map f tried-start = tried-start
   tried-map f (tried-via h) = tried-via (λ i x l s. f x (h i x l s))
 
-  queue-map : {F H : Forest} {xs : List Goal} → ((x : ℕ) → Entered x F → Entered x H) → Queue g ok F xs → Queue g ok H xs
+  queue-map : {F H : Forest} {xs : List Goal} → ((x : ℕ) → Entered x F → Entered x H) → Queue g ok F xs
+      → Queue g ok H xs
   queue-map f queue-nil = queue-nil
   queue-map f (queue-cons {a = a} h q) = queue-cons (tried-map f h) (queue-map (cons-map a f) q)
 
@@ -59,7 +62,10 @@ module _ {g : Blocks} {ok : PlaceTest} where
       later d c = let z : suc i + d ≡ i + suc d = omega arith in rw z (f (suc d) (omega arith))
 
       at-i : {w : ℕ} → Step g ok u i w → w ≡ v
-      at-i s = let z : i + 0 ≡ i = omega arith in let a : target g u i ≡ v = rw z at (f 0 (omega arith)) in sym (s .place .leads) ∙ a
+      at-i s =
+          let z : i + 0 ≡ i = omega arith in
+          let a : target g u i ≡ v = rw z at (f 0 (omega arith)) in
+          sym (s .place .leads) ∙ a
 
       taken : (k w : ℕ) → k < suc i → Step g ok u k w → Dec (k ≡ i) → Entered w (via u i v ∷ F)
       taken k w c s (yes e) = now (at-i (rw e at s))
@@ -69,19 +75,27 @@ module _ {g : Blocks} {ok : PlaceTest} where
       passed o k w c s (yes e) = absurd (clash (s .allowed) (ap (ok u) e ∙ o))
       passed o k w c s (no n) = h k w (omega arith) s
 
-      go : Told (ok u i) → ((H : Forest) → ((k w : ℕ) → k < suc i → Step g ok u k w → Entered w H) → Queue g ok H (arcs ok u (suc i) l))
+      go : Told (ok u i)
+          → ((H : Forest) → ((k w : ℕ) → k < suc i → Step g ok u k w → Entered w H)
+          → Queue g ok H (arcs ok u (suc i) l))
           → Queue g ok F (arcs ok u i (v ∷ l))
-      go (pass o) rec = rw (arcs-yes ok u v l o) (queue-cons (tried-via (λ k w c s. h k w c s)) (rec (via u i v ∷ F) (λ k w c s. taken k w c s (ℕ-discrete k i))))
+      go (pass o) rec =
+          rw (arcs-yes ok u v l o)
+          (queue-cons (tried-via (λ k w c s. h k w c s))
+          (rec (via u i v ∷ F) (λ k w c s. taken k w c s (ℕ-discrete k i))))
       go (fail o) rec = rw (arcs-no ok u v l o) (rec F (λ k w c s. passed o k w c s (ℕ-discrete k i)))
 
   queue-arcs-of : (u : ℕ) (F : Forest) → Queue g ok F (arcsOf g ok u)
-  queue-arcs-of u F = queue-arcs u 0 (block g u) F (λ d c. let z : 0 + d ≡ d = omega arith in ap (target g u) z) (λ k w c s. absurd (omega arith))
+  queue-arcs-of u F =
+      queue-arcs u 0 (block g u) F (λ d c. let z : 0 + d ≡ d = omega arith in ap (target g u) z)
+      (λ k w c s. absurd (omega arith))
 
   queue-starts : (starts : List ℕ) (F : Forest) → Queue g ok F (map root starts)
   queue-starts [] F = queue-nil
   queue-starts (v ∷ starts) F = queue-cons tried-start (queue-starts starts (root v ∷ F))
 
-  segment-order : {F H : Forest} {xs : List Goal} → Segment g ok F xs H → Queue g ok F xs → InOrder g ok F → InOrder g ok H
+  segment-order : {F H : Forest} {xs : List Goal} → Segment g ok F xs H → Queue g ok F xs → InOrder g ok F
+      → InOrder g ok H
   segment-order done q o = o
   segment-order (skip {F = F} {a = a} i t) (queue-cons h q) o = segment-order t (queue-map known q) o
     where
@@ -89,14 +103,16 @@ module _ {g : Blocks} {ok : PlaceTest} where
       known x (now e) = entered-cast e i
       known x (old k) = k
   segment-order (enter {F = F} {a = a} n k t) (queue-cons h q) o =
-      segment-order t (queue-map (λ x i. entered-grows (segment-grows k) i) q) (segment-order k (queue-arcs-of (aim a) (a ∷ F)) (order-cons h o))
+      segment-order t (queue-map (λ x i. entered-grows (segment-grows k) i) q)
+      (segment-order k (queue-arcs-of (aim a) (a ∷ F)) (order-cons h o))
 
   pub starts-order : (starts : List ℕ) {H : Forest} → Segment g ok [] (map root starts) H → InOrder g ok H
   starts-order starts s = segment-order s (queue-starts starts []) order-nil
 
   -- ---- what the order says of an entry
 
-  taken-entry : {Ok : ℕ → ℕ → ℕ → Type 0} {F : Forest} {a : Goal} → Built Ok F → InOrder g ok F → List·Memᴰ a F → Taken g ok F a
+  taken-entry : {Ok : ℕ → ℕ → ℕ → Type 0} {F : Forest} {a : Goal} → Built Ok F → InOrder g ok F → List·Memᴰ a F
+      → Taken g ok F a
   taken-entry b order-nil m = elim m [ ]
   taken-entry {F = c ∷ F} b (order-cons t o) (List·Memᴰ·head e) =
       subst (λ x. Taken g ok (c ∷ F) x) (sym e) (record { earlier = F; part = more same; new = fresh b; tried = t })

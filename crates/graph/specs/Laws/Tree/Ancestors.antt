@@ -10,7 +10,8 @@ use borrow.Author.Tests.{eqb-true, eq-eqb}
 use Rattle.graph.specs.Search.{root, via, Forest}
 use Rattle.graph.specs.Forest.{number, climb, rootOf, Ancestor, self, child}
 use Rattle.graph.specs.Laws.Places.Basics.{Told, pass, fail, told, clash, or-cases, or-left, or-right}
-use Rattle.graph.specs.Laws.Tree.Entries.{Entered, Grows, entry-grows, Built, entry-once, root-no-child, forest-ind}
+use Rattle.graph.specs.Laws.Tree.Entries.{Entered, Grows, entry-grows, Built, entry-once, root-no-child}
+use Rattle.graph.specs.Laws.Tree.Entries.{forest-ind}
 use Rattle.graph.specs.Laws.Tree.Numbers.{parent-first}
 use Rattle.graph.specs.Laws.Tree.Climbs.{climb-root, climb-child, root-itself, root-parent}
 
@@ -79,10 +80,20 @@ module _ {Ok : ℕ → ℕ → ℕ → Type 0} {F : Forest} (b : Built Ok F) whe
         λ q. ancestor-at-root x m ∙ eq-eqb x v (ancestor-of-root m q),
       )
 
-      on-child : (u j v : ℕ) → List·Memᴰ (via u j v) F → (ancestor F x u ≡ true) ↔ Ancestor F x u → (ancestor F x v ≡ true) ↔ Ancestor F x v
+      on-child : (u j v : ℕ) → List·Memᴰ (via u j v) F → (ancestor F x u ≡ true) ↔ Ancestor F x u
+          → (ancestor F x v ≡ true) ↔ Ancestor F x v
       on-child u j v m ih = (
-        λ e. elim (or-cases (eqb x v) (ancestor F x u) (sym (ancestor-at-child x m) ∙ e)) [ inl h ↦ ancestor-same (eqb-true x v h) | inr h ↦ child m (ih .0 h) ],
-        λ q. ancestor-at-child x m ∙ elim (ancestor-of-child m q) [ inl e ↦ or-left (ancestor F x u) (eq-eqb x v e) | inr k ↦ or-right (eqb x v) (ih .1 k) ],
+        λ e. elim (or-cases (eqb x v) (ancestor F x u) (sym (ancestor-at-child x m) ∙ e)) [
+          | inl h ↦ ancestor-same
+              (eqb-true x v h)
+          | inr h ↦ child m (ih .0 h)
+        ],
+        λ q. ancestor-at-child x m
+            ∙ elim (ancestor-of-child m q) [
+              | inl e ↦ or-left (ancestor F x u) (eq-eqb x v e)
+              | inr k ↦ or-right
+                  (eqb x v) (ih .1 k)
+            ],
       )
 
   pub dec-ancestor : (x v : ℕ) → Entered v F → Dec (Ancestor F x v)
@@ -93,13 +104,21 @@ module _ {Ok : ℕ → ℕ → ℕ → Type 0} {F : Forest} (b : Built Ok F) whe
       go (fail e) = no (λ q. clash (ancestor-test x v i .1 q) e)
 
   -- of two ancestors of one vertex the earlier is an ancestor of the later
-  pub ancestors-chain : {a c : ℕ} (x : ℕ) → Entered x F → Ancestor F a x → Ancestor F c x → number F c ≤ number F a → Ancestor F c a
-  ancestors-chain {a} {c} = forest-ind (λ x. Ancestor F a x → Ancestor F c x → number F c ≤ number F a → Ancestor F c a) b
+  pub ancestors-chain : {a c : ℕ} (x : ℕ) → Entered x F → Ancestor F a x → Ancestor F c x → number F c ≤ number F a
+      → Ancestor F c a
+  ancestors-chain {a} {c} =
+      forest-ind (λ x. Ancestor F a x → Ancestor F c x → number F c ≤ number F a → Ancestor F c a) b
       (λ v m p q l. rw (ancestor-of-root m p) q)
       (λ u j v m ih p q l. go m ih q l (ancestor-of-child m p) (ancestor-of-child m q))
     where
-      go : {u j v : ℕ} → List·Memᴰ (via u j v) F → (Ancestor F a u → Ancestor F c u → number F c ≤ number F a → Ancestor F c a)
-          → Ancestor F c v → number F c ≤ number F a → (a ≡ v) ⊎ Ancestor F a u → (c ≡ v) ⊎ Ancestor F c u → Ancestor F c a
+      go : {u j v : ℕ} → List·Memᴰ (via u j v) F
+          → (Ancestor F a u → Ancestor F c u → number F c ≤ number F a → Ancestor F c a)
+          → Ancestor F c v → number F c ≤ number F a → (a ≡ v) ⊎ Ancestor F a u → (c ≡ v) ⊎ Ancestor F c u
+          → Ancestor F c a
       go m ih q l (inl e) d = rw e q
-      go m ih q l (inr p) (inl e) = let h = parent-first b m in let k = ancestor-first p in let z = ap (number F) e in absurd (omega arith)
+      go m ih q l (inr p) (inl e) =
+          let h = parent-first b m in
+          let k = ancestor-first p in
+          let z = ap (number F) e in
+          absurd (omega arith)
       go m ih q l (inr p) (inr q′) = ih p q′ l

@@ -6,7 +6,8 @@ use native.Mathlib.Omega.{arith}
 use borrow.Author.Tests.{eq-eqb, ne-eqb}
 use Rattle.graph.specs.Search.{Goal, root, via, aim, Forest}
 use Rattle.graph.specs.Forest.{climb, parent, rootOf}
-use Rattle.graph.specs.Laws.Tree.Entries.{Entered, entry-entered, apart, Entry, as-root, as-child, entry, Built, fresh, before, parent-entered, forest-ind}
+use Rattle.graph.specs.Laws.Tree.Entries.{Entered, entry-entered, apart, Entry, as-root, as-child, entry, Built}
+use Rattle.graph.specs.Laws.Tree.Entries.{fresh, before, parent-entered, forest-ind}
 use Rattle.graph.specs.Laws.Tree.Numbers.{parent-apart}
 
 module _ {A : Type 0} (r : ℕ → A) (s : ℕ → ℕ → ℕ → A → A) where
@@ -27,16 +28,19 @@ module _ {A : Type 0} (r : ℕ → A) (s : ℕ → ℕ → ℕ → A → A) wher
     pub climb-root : {F : Forest} {v : ℕ} → Built Ok F → List·Memᴰ (root v) F → climb r s F v ≡ r v
     climb-root {F = []} b m = elim m [ ]
     climb-root {F = a ∷ F} {v = v} b (List·Memᴰ·head e) = rw (← e) (climb-new-root v F)
-    climb-root {F = a ∷ F} {v = v} b (List·Memᴰ·tail m) = climb-miss a F v (apart (entry-entered m) (fresh b)) ∙ climb-root (before b) m
+    climb-root {F = a ∷ F} {v = v} b (List·Memᴰ·tail m) =
+        climb-miss a F v (apart (entry-entered m) (fresh b)) ∙ climb-root (before b) m
 
-    pub climb-child : {F : Forest} {u j v : ℕ} → Built Ok F → List·Memᴰ (via u j v) F → climb r s F v ≡ s u j v (climb r s F u)
+    pub climb-child : {F : Forest} {u j v : ℕ} → Built Ok F → List·Memᴰ (via u j v) F
+        → climb r s F v ≡ s u j v (climb r s F u)
     climb-child {F = []} b m = elim m [ ]
     climb-child {F = a ∷ F} {u = u} {j = j} {v = v} b (List·Memᴰ·head e) =
         let d : u ≡ v → ⊥ = parent-apart b (List·Memᴰ·head e) in
         rw (← e) (climb-new-child u j v F ∙ ap (s u j v) (sym (climb-miss (via u j v) F u d)))
     climb-child {F = a ∷ F} {u = u} {j = j} {v = v} b (List·Memᴰ·tail m) =
         climb-miss a F v (apart (entry-entered m) (fresh b))
-        ∙ (climb-child (before b) m ∙ ap (s u j v) (sym (climb-miss a F u (apart (parent-entered (before b) m) (fresh b)))))
+        ∙ (climb-child (before b) m
+        ∙ ap (s u j v) (sym (climb-miss a F u (apart (parent-entered (before b) m) (fresh b)))))
 
 -- ---- parents, slots, roots
 
@@ -89,4 +93,6 @@ module _ {Ok : ℕ → ℕ → ℕ → Type 0} {F : Forest} (b : Built Ok F) whe
   root-parent m = climb-child (λ v. v) (λ u j v a. a) b m
 
   pub root-is-root : (v : ℕ) → Entered v F → List·Memᴰ (root (rootOf F v)) F
-  root-is-root = forest-ind (λ v. List·Memᴰ (root (rootOf F v)) F) b (λ v m. rw (root-itself m) m) (λ u j v m c. rw (root-parent m) c)
+  root-is-root =
+      forest-ind (λ v. List·Memᴰ (root (rootOf F v)) F) b (λ v m. rw (root-itself m) m)
+      (λ u j v m c. rw (root-parent m) c)

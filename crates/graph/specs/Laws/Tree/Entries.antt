@@ -1,4 +1,5 @@
--- The entries of a forest: who is entered, forests that grow, forests that are built goal by goal, and induction from the roots down.
+-- The entries of a forest: who is entered, forests that grow, forests that are built goal by goal, and induction from
+-- the roots down.
 use Prim.Native.Nat.{ℕ}
 use mathlib.Core.Path.{_≡_, refl, sym, _∙_, ap}
 use mathlib.Core.Logic.{_⊎_, inl, inr}
@@ -72,7 +73,8 @@ pub data Entry (F : Forest) (v : ℕ) : Type 0 where
 pub entry : {F : Forest} {v : ℕ} → Entered v F → Entry F v
 entry (now {a = root w} e) = as-root (List·Memᴰ·head (ap root e))
 entry (now {a = via u j w} e) = as-child u j (List·Memᴰ·head (ap (via u j) e))
-entry (old m) = elim (entry m) [ as-root k ↦ as-root (List·Memᴰ·tail k) | as-child u j k ↦ as-child u j (List·Memᴰ·tail k) ]
+entry (old m) =
+    elim (entry m) [ as-root k ↦ as-root (List·Memᴰ·tail k) | as-child u j k ↦ as-child u j (List·Memᴰ·tail k) ]
 
 pub via-root : {u j v w : ℕ} → via u j v ≡ root w → ⊥
 via-root e = let z : _≡_ {A = ℕ} 0 1 = cc in omega arith
@@ -100,9 +102,11 @@ entry-grows (more e) m = List·Memᴰ·tail (entry-grows e m)
 pub data Built (Ok : ℕ → ℕ → ℕ → Type 0) : Forest → Type 0 where
   built-nil : Built Ok []
   built-root : {v : ℕ} {F : Forest} → (Entered v F → ⊥) → Built Ok F → Built Ok (root v ∷ F)
-  built-via : {u j v : ℕ} {F : Forest} → (Entered v F → ⊥) → Entered u F → Ok u j v → Built Ok F → Built Ok (via u j v ∷ F)
+  built-via : {u j v : ℕ} {F : Forest} → (Entered v F → ⊥) → Entered u F → Ok u j v → Built Ok F
+      → Built Ok (via u j v ∷ F)
 
-pub built-map : {Ok Ok′ : ℕ → ℕ → ℕ → Type 0} {F : Forest} → ((u j v : ℕ) → Ok u j v → Ok′ u j v) → Built Ok F → Built Ok′ F
+pub built-map : {Ok Ok′ : ℕ → ℕ → ℕ → Type 0} {F : Forest} → ((u j v : ℕ) → Ok u j v → Ok′ u j v) → Built Ok F
+    → Built Ok′ F
 built-map f built-nil = built-nil
 built-map f (built-root h b) = built-root h (built-map f b)
 built-map f (built-via {u = u} {j = j} {v = v} h i o b) = built-via h i (f u j v o) (built-map f b)
@@ -123,8 +127,10 @@ module _ {Ok : ℕ → ℕ → ℕ → Type 0} where
   -- one entry for each vertex
   pub entry-once : {F : Forest} {a c : Goal} → Built Ok F → List·Memᴰ a F → List·Memᴰ c F → aim a ≡ aim c → a ≡ c
   entry-once {F = x ∷ F} b (List·Memᴰ·head p) (List·Memᴰ·head q) e = p ∙ sym q
-  entry-once {F = x ∷ F} b (List·Memᴰ·head p) (List·Memᴰ·tail q) e = absurd (fresh b (entered-cast (ap aim (sym p) ∙ e) (entry-entered q)))
-  entry-once {F = x ∷ F} b (List·Memᴰ·tail p) (List·Memᴰ·head q) e = absurd (fresh b (entered-cast (ap aim (sym q) ∙ sym e) (entry-entered p)))
+  entry-once {F = x ∷ F} b (List·Memᴰ·head p) (List·Memᴰ·tail q) e =
+      absurd (fresh b (entered-cast (ap aim (sym p) ∙ e) (entry-entered q)))
+  entry-once {F = x ∷ F} b (List·Memᴰ·tail p) (List·Memᴰ·head q) e =
+      absurd (fresh b (entered-cast (ap aim (sym q) ∙ sym e) (entry-entered p)))
   entry-once {F = x ∷ F} b (List·Memᴰ·tail p) (List·Memᴰ·tail q) e = entry-once (before b) p q e
 
   pub root-no-child : {F : Forest} {u j v : ℕ} → Built Ok F → List·Memᴰ (root v) F → List·Memᴰ (via u j v) F → ⊥
@@ -149,10 +155,12 @@ module _ {Ok : ℕ → ℕ → ℕ → Type 0} where
   entry-allowed (built-via h k o b) (List·Memᴰ·tail m) = entry-allowed b m
 
   -- what is read from a vertex's own entry stays when the forest grows
-  pub stays : {A : Type 0} (f : Forest → ℕ → A) → ((a : Goal) (F : Forest) (x : ℕ) → (x ≡ aim a → ⊥) → f (a ∷ F) x ≡ f F x)
+  pub stays : {A : Type 0} (f : Forest → ℕ → A)
+      → ((a : Goal) (F : Forest) (x : ℕ) → (x ≡ aim a → ⊥) → f (a ∷ F) x ≡ f F x)
       → {F H : Forest} {x : ℕ} → Grows F H → Built Ok H → Entered x F → f H x ≡ f F x
   stays f miss same b m = refl
-  stays f miss {x = x} (more {a = a} {H = H} e) b m = miss a H x (apart (entered-grows e m) (fresh b)) ∙ stays f miss e (before b) m
+  stays f miss {x = x} (more {a = a} {H = H} e) b m =
+      miss a H x (apart (entered-grows e m) (fresh b)) ∙ stays f miss e (before b) m
 
   -- induction from the roots down
   forest-ind-in : {F G : Forest} (Q : ℕ → Type 0) → Built Ok G → ((a : Goal) → List·Memᴰ a G → List·Memᴰ a F)
@@ -163,7 +171,9 @@ module _ {Ok : ℕ → ℕ → ℕ → Type 0} where
   forest-ind-in Q (built-root {v = w} h b) sub r s v (now e) = rw e (r w (sub (root w) (List·Memᴰ·head refl)))
   forest-ind-in Q (built-root h b) sub r s v (old m) = forest-ind-in Q b (λ a k. sub a (List·Memᴰ·tail k)) r s v m
   forest-ind-in Q (built-via {u = u} {j = j} {v = w} h k o b) sub r s v (now e) =
-      rw e (s u j w (sub (via u j w) (List·Memᴰ·head refl)) (forest-ind-in Q b (λ a k′. sub a (List·Memᴰ·tail k′)) r s u k))
+      rw e
+      (s u j w (sub (via u j w) (List·Memᴰ·head refl))
+      (forest-ind-in Q b (λ a k′. sub a (List·Memᴰ·tail k′)) r s u k))
   forest-ind-in Q (built-via h k o b) sub r s v (old m) = forest-ind-in Q b (λ a k′. sub a (List·Memᴰ·tail k′)) r s v m
 
   pub forest-ind : {F : Forest} (Q : ℕ → Type 0) → Built Ok F → ((v : ℕ) → List·Memᴰ (root v) F → Q v)

@@ -1,4 +1,5 @@
--- Theorem 1: visit numbers. A parent's is below its child's, numbers and vertices are inverse, and a forest of n vertices has n entries.
+-- Theorem 1: visit numbers. A parent's is below its child's, numbers and vertices are inverse, and a forest of n
+-- vertices has n entries.
 use Prim.Native.Nat.{ℕ, zero, suc, _+_, _≤_, _<_}
 use mathlib.Core.Path.{_≡_, refl, sym, _∙_, ap}
 use mathlib.Core.Bool.{true, false}
@@ -9,7 +10,10 @@ use lib.ListN.{length}
 use borrow.Author.Tests.{eq-eqb, ne-eqb}
 use Rattle.graph.specs.Search.{Goal, via, aim, Forest, entered}
 use Rattle.graph.specs.Forest.{number, vertexAt}
-use Rattle.graph.specs.Laws.Tree.Entries.{Entered, now, old, test-entered, test-new, dec-entered, entered-cast, none-entered, entered-rest, new-cons, apart, entry-entered, via-root, Grows, Built, built-root, built-via, fresh, before, parent-entered, stays}
+use Rattle.graph.specs.Laws.Tree.Entries.{Entered, now, old, test-entered, test-new, dec-entered, entered-cast}
+use Rattle.graph.specs.Laws.Tree.Entries.{none-entered, entered-rest, new-cons, apart, entry-entered, via-root}
+use Rattle.graph.specs.Laws.Tree.Entries.{Grows, Built, built-root, built-via, fresh, before, parent-entered}
+use Rattle.graph.specs.Laws.Tree.Entries.{stays}
 
 -- ---- the clauses as equations
 
@@ -84,7 +88,11 @@ module _ {Ok : ℕ → ℕ → ℕ → Type 0} where
   pub parent-first : {F : Forest} {u j v : ℕ} → Built Ok F → List·Memᴰ (via u j v) F → number F u < number F v
   parent-first {F = []} b m = elim m [ ]
   parent-first {F = a ∷ F} {u = u} {j = j} {v = v} b (List·Memᴰ·tail m) =
-      rw (number-miss a F (apart (parent-entered (before b) m) (fresh b)), number-miss a F (apart (entry-entered m) (fresh b))) (parent-first (before b) m)
+      rw (
+        number-miss a F (apart (parent-entered (before b) m) (fresh b)),
+        number-miss a F
+            (apart (entry-entered m) (fresh b)),
+      ) (parent-first (before b) m)
   parent-first {F = a ∷ F} {u = u} {j = j} {v = v} b (List·Memᴰ·head e) =
       let k = above b e in
       rw (number-miss a F (apart k (fresh b)), number-hit a F (ap aim e)) (number-bound k)
@@ -123,7 +131,8 @@ module _ (w : ℕ → ℕ) where
           rw (left-new (a ∷ F) (new-cons d k), left-new F k, ih)
 
   -- a new entry takes its weight away
-  pub left-enter : (a : Goal) (F : Forest) (n : ℕ) → aim a < n → (Entered (aim a) F → ⊥) → w (aim a) + left w (a ∷ F) n ≡ left w F n
+  pub left-enter : (a : Goal) (F : Forest) (n : ℕ) → aim a < n → (Entered (aim a) F → ⊥)
+      → w (aim a) + left w (a ∷ F) n ≡ left w F n
   left-enter a F zero h k = absurd (omega arith)
   left-enter a F (suc n) h k = go (ℕ-discrete n (aim a)) (dec-entered n F) (λ l. left-enter a F n l k)
     where
@@ -169,5 +178,6 @@ module _ {Ok : ℕ → ℕ → ℕ → Type 0} where
   pub count-most : {F : Forest} (n : ℕ) → Built Ok F → ((v : ℕ) → Entered v F → v < n) → length F ≤ n
   count-most n b h = let c = count n b h in omega arith
 
-  pub count-whole : {F : Forest} (n : ℕ) → Built Ok F → ((v : ℕ) → Entered v F → v < n) → ((v : ℕ) → v < n → Entered v F) → length F ≡ n
+  pub count-whole : {F : Forest} (n : ℕ) → Built Ok F → ((v : ℕ) → Entered v F → v < n)
+      → ((v : ℕ) → v < n → Entered v F) → length F ≡ n
   count-whole {F = F} n b h w = let c = count n b h in let e = left-none F n w in omega arith

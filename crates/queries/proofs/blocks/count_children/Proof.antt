@@ -4,9 +4,6 @@ use Rattle.queries.proofs.Laws.Marked.{ones-told}
 use Rattle.queries.proofs.blocks.count_children.Statement.{statement}
 use Rattle.queries.proofs.blocks.count_children.Tie as tie
 
-rank-requires : tie.Need-rank-requires
-rank-requires c κs = search needs
-
 returns : tie.Need-returns
 returns c =
     let args = c .before .before .args in
@@ -14,4 +11,5 @@ returns c =
     ones-told (pre .0) (args .from) (args .k) (pre .1) (c .rank .ensures)
 
 pub count-children-spec : {M : Type 1} → statement M
-count-children-spec = tie.close (tie.spec rank-requires returns)
+count-children-spec = tie.close
+    (tie.spec (λ c κs. search needs) returns)

@@ -4,15 +4,6 @@ use Rattle.queries.proofs.Laws.Marked.{marks-after, lone-told}
 use Rattle.queries.proofs.blocks.lone_parent.Statement.{statement}
 use Rattle.queries.proofs.blocks.lone_parent.Tie as tie
 
-mark-bytes-requires : tie.Need-mark-bytes-requires
-mark-bytes-requires c κs = search needs
-
-mul-lone-from : tie.Need-mul-lone-from
-mul-lone-from c = search needs
-
-add-lone-from : tie.Need-add-lone-from
-add-lone-from c = search needs
-
 lone-from-requires : tie.Need-lone-from-requires
 lone-from-requires c κs =
     let args = c .before .before .args in
@@ -28,4 +19,5 @@ returns c =
     lone-told (pre .0) (args .from) (args .k) (pre .1) e (c .lone-from .result) (c .lone-from .ensures)
 
 pub lone-parent-spec : {M : Type 1} → statement M
-lone-parent-spec = tie.close (tie.spec mark-bytes-requires mul-lone-from add-lone-from lone-from-requires returns)
+lone-parent-spec = tie.close
+    (tie.spec (λ c κs. search needs) (λ c. search needs) (λ c. search needs) lone-from-requires returns)

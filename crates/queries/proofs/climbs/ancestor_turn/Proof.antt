@@ -23,9 +23,6 @@ get-requires c κs =
     let h = pre .2 in
     omega arith
 
-add-get : tie.Need-add-get
-add-get c = search needs
-
 get-requires-2 : tie.Need-get-requires-2
 get-requires-2 c κs =
     let pre = c .before .before .before .before .before .pre in
@@ -39,15 +36,6 @@ step-up-requires c κs =
     let gb = c .get2 .ensures .0 in
     let pre = c .before .before .before .before .before .before .pre in
     (pre .0, pre .2, block-from (pre .0) (pre .1) (pre .2) ga gb, block-to (pre .0) (pre .1) (pre .2) ga gb)
-
-enum-told : tie.Need-enum-told
-enum-told c = search needs
-
-enum-told-2 : tie.Need-enum-told-2
-enum-told-2 c = search needs
-
-enum-known-r : tie.Need-enum-known-r
-enum-known-r c = search needs
 
 -- x is not u, so the step up tells
 abbrev start : tie.After-get2 → tie.Start
@@ -75,15 +63,5 @@ returns-4 c =
 pub ancestor-turn-spec : {M : Type 1} → statement M
 ancestor-turn-spec =
     tie.close
-    (tie.spec
-    returns
-    get-requires
-    add-get
-    get-requires-2
-    step-up-requires
-    enum-told
-    enum-told-2
-    enum-known-r
-    returns-2
-    returns-3
-    returns-4)
+    (tie.spec returns get-requires (λ c. search needs) get-requires-2 step-up-requires (λ c. search needs)
+    (λ c. search needs) (λ c. search needs) returns-2 returns-3 returns-4)

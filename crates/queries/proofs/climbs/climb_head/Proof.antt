@@ -67,14 +67,8 @@ head-move-requires c κs =
     let pre = begin (c .before) .pre in
     (pre .0, pre .1, c .before .loop .inv .0)
 
-enum-told : tie.Need-enum-told Inv-loop μ-loop
-enum-told c = search needs
-
 returns : tie.Need-returns Inv-loop μ-loop
 returns c = stop (c .before .before) (told (c .before .before) (c .enum-told .given .1))
-
-enum-told-2 : tie.Need-enum-told-2 Inv-loop μ-loop
-enum-told-2 c = search needs
 
 add-t13 : tie.Need-add-t13 Inv-loop μ-loop
 add-t13 c =
@@ -87,15 +81,6 @@ returns-2 : tie.Need-returns-2 Inv-loop μ-loop
 returns-2 c =
     let moved = c .before .before in
     ap answered (add-one (place moved .loop .u)) ∙ stop moved (told moved (c .enum-told2 .given .1))
-
-enum-known-p : tie.Need-enum-known-p Inv-loop μ-loop
-enum-known-p c = search needs
-
-sub-left : tie.Need-sub-left Inv-loop μ-loop
-sub-left c = omega arith
-
-loop-less : tie.Need-loop-less Inv-loop μ-loop
-loop-less c = omega arith
 
 loop-again : tie.Need-loop-again Inv-loop μ-loop
 loop-again c =
@@ -116,18 +101,5 @@ returns-3 c =
 pub climb-head-spec : {M : Type 1} → statement M
 climb-head-spec =
     tie.close
-    (tie.spec
-    Inv-loop
-    μ-loop
-    loop-holds
-    head-move-requires
-    enum-told
-    returns
-    enum-told-2
-    add-t13
-    returns-2
-    enum-known-p
-    sub-left
-    loop-less
-    loop-again
-    returns-3)
+    (tie.spec Inv-loop μ-loop loop-holds head-move-requires (λ c. search needs) returns (λ c. search needs) add-t13
+    returns-2 (λ c. search needs) (λ c. omega arith) (λ c. omega arith) loop-again returns-3)

@@ -18,9 +18,6 @@ get-requires c κs =
     let h = pre .2 in
     omega arith
 
-add-get : tie.Need-add-get
-add-get c = search needs
-
 get-requires-2 : tie.Need-get-requires-2
 get-requires-2 c κs =
     let pre = c .before .before .before .before .pre in
@@ -34,21 +31,6 @@ step-up-requires c κs =
     let gb = c .get2 .ensures .0 in
     let ga = c .before .get .ensures .0 in
     (pre .0, pre .2, block-from (pre .0) (pre .1) (pre .2) ga gb, block-to (pre .0) (pre .1) (pre .2) ga gb)
-
-enum-told : tie.Need-enum-told
-enum-told c = search needs
-
-enum-told-2 : tie.Need-enum-told-2
-enum-told-2 c = search needs
-
-enum-known-r : tie.Need-enum-known-r
-enum-known-r c = search needs
-
-add-bridge-mark : tie.Need-add-bridge-mark
-add-bridge-mark c = search needs
-
-add-bridge-mark-2 : tie.Need-add-bridge-mark-2
-add-bridge-mark-2 c = search needs
 
 -- the marked position is one of the section's
 abbrev start : tie.After-get2 → tie.Start
@@ -114,19 +96,6 @@ returns-3 c =
 pub head-move-spec : {M : Type 1} → statement M
 head-move-spec =
     tie.close
-    (tie.spec
-    get-requires
-    add-get
-    get-requires-2
-    step-up-requires
-    enum-told
-    enum-told-2
-    enum-known-r
-    add-bridge-mark
-    add-bridge-mark-2
-    add-bridge-mark-3
-    bridge-mark-requires
-    returns
-    returns-2
-    returns-3
-    returns-4)
+    (tie.spec get-requires (λ c. search needs) get-requires-2 step-up-requires (λ c. search needs) (λ c. search needs)
+    (λ c. search needs) (λ c. search needs) (λ c. search needs) add-bridge-mark-3 bridge-mark-requires returns
+    returns-2 returns-3 returns-4)

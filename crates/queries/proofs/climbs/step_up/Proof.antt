@@ -34,15 +34,6 @@ sub-k c = fits c .0
 lone-parent-requires : tie.Need-lone-parent-requires
 lone-parent-requires c κs = (start c .pre .0 .framed, fits c .1)
 
-enum-told : tie.Need-enum-told
-enum-told c = search needs
-
-enum-told-2 : tie.Need-enum-told-2
-enum-told-2 c = search needs
-
-enum-known-p : tie.Need-enum-known-p
-enum-known-p c = search needs
-
 -- P's section
 abbrev section : tie.Start → List Bool
 section s = sectionOf (s .args .n) (s .args .m) (s .args .index .now) 1
@@ -98,17 +89,5 @@ returns-4 c =
 pub step-up-spec : {M : Type 1} → statement M
 step-up-spec =
     tie.close
-    (tie.spec
-    add-from
-    add-from-2
-    sub-k
-    lone-parent-requires
-    enum-told
-    enum-told-2
-    enum-known-p
-    add-field
-    field-requires
-    returns
-    returns-2
-    returns-3
-    returns-4)
+    (tie.spec add-from add-from-2 sub-k lone-parent-requires (λ c. search needs) (λ c. search needs)
+    (λ c. search needs) add-field field-requires returns returns-2 returns-3 returns-4)

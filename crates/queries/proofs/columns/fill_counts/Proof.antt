@@ -15,26 +15,40 @@ use Rattle.queries.proofs.columns.fill_counts.Statement.{statement}
 use Rattle.queries.proofs.columns.fill_counts.Tie as tie
 
 abbrev Inv-loop : tie.InvT-loop
-Inv-loop bytes index n m starts counts₀ v₀ counts v = Cells (λ u. u) (λ u. length (children (forest (blocks bytes)) u)) n v counts
+Inv-loop bytes index n m starts counts₀ v₀ counts v =
+    Cells (λ u. u) (λ u. length (children (forest (blocks bytes)) u)) n v counts
 
 abbrev μ-loop : tie.MeasureT-loop
 μ-loop bytes index n m starts counts₀ v₀ counts v = n - v
 
 loop-holds : tie.Need-loop-holds Inv-loop μ-loop
-loop-holds c = cells-begin (c .before .before .before .before .pre .2)
+loop-holds c =
+    let start = c .before .before .before .before in
+    cells-begin (start .pre .2)
 
 get-requires : tie.Need-get-requires Inv-loop μ-loop
-get-requires c κs = let l = starts-long (ready-beside (c .before .before .before .before .before .before .pre .0) .sound) (c .before .before .before .before .before .before .pre .1) in let t = c .loop-test .taken in omega arith
+get-requires c κs =
+    let start = c .before .before .before .before .before .before in
+    let l = starts-long (ready-beside (start .pre .0) .sound) (start .pre .1) in
+    let t = c .loop-test .taken in
+    omega arith
 
 add-get : tie.Need-add-get Inv-loop μ-loop
-add-get c = let f = ready-beside (c .before .before .before .before .before .before .before .pre .0) .framed .n-fits in let t = c .before .loop-test .taken in omega arith
+add-get c =
+    let start = c .before .before .before .before .before .before .before in
+    let f = ready-beside (start .pre .0) .framed .n-fits in let t = c .before .loop-test .taken in omega arith
 
 get-requires-2 : tie.Need-get-requires-2 Inv-loop μ-loop
-get-requires-2 c κs = let l = starts-long (ready-beside (c .before .before .before .before .before .before .before .pre .0) .sound) (c .before .before .before .before .before .before .before .pre .1) in let t = c .before .loop-test .taken in omega arith
+get-requires-2 c κs =
+    let start = c .before .before .before .before .before .before .before in
+    let l = starts-long (ready-beside (start .pre .0) .sound) (start .pre .1) in
+    let t = c .before .loop-test .taken in
+    omega arith
 
 add-count-children : tie.Need-add-count-children Inv-loop μ-loop
 add-count-children c =
-    let pre = c .before .before .before .before .before .before .before .before .before .pre in
+    let start = c .before .before .before .before .before .before .before .before .before in
+    let pre = start .pre in
     let t = c .before .before .before .loop-test .taken in
     let (p, q) = block-span (pre .0) (pre .1) t (c .before .before .get .ensures .0) (c .before .get2 .ensures .0) in
     let f = ready-beside (pre .0) .framed in
@@ -44,7 +58,8 @@ add-count-children c =
 
 add-count-children-2 : tie.Need-add-count-children-2 Inv-loop μ-loop
 add-count-children-2 c =
-    let pre = c .before .before .before .before .before .before .before .before .before .pre in
+    let start = c .before .before .before .before .before .before .before .before .before in
+    let pre = start .pre in
     let t = c .before .before .before .loop-test .taken in
     let (p, q) = block-span (pre .0) (pre .1) t (c .before .before .get .ensures .0) (c .before .get2 .ensures .0) in
     let f = ready-beside (pre .0) .framed in
@@ -54,38 +69,60 @@ add-count-children-2 c =
 
 sub-count-children : tie.Need-sub-count-children Inv-loop μ-loop
 sub-count-children c =
-    let pre = c .before .before .before .before .before .before .before .before .before .pre in
-    block-span (pre .0) (pre .1) (c .before .before .before .loop-test .taken) (c .before .before .get .ensures .0) (c .before .get2 .ensures .0) .0
+    let start = c .before .before .before .before .before .before .before .before .before in
+    let pre = start .pre in
+    block-span (pre .0) (pre .1) (c .before .before .before .loop-test .taken) (c .before .before .get .ensures .0)
+    (c .before .get2 .ensures .0) .0
 
 count-children-requires : tie.Need-count-children-requires Inv-loop μ-loop
 count-children-requires c κs =
-    let pre = c .before .before .before .before .before .before .before .before .before .pre in
+    let start = c .before .before .before .before .before .before .before .before .before in
+    let pre = start .pre in
     let t = c .before .before .before .loop-test .taken in
     let (p, q) = block-span (pre .0) (pre .1) t (c .before .before .get .ensures .0) (c .before .get2 .ensures .0) in
     (ready-beside (pre .0) .framed, omega arith)
 
 put-requires : tie.Need-put-requires Inv-loop μ-loop
 put-requires c κs =
-    let pre = c .before .before .before .before .before .before .before .before .before .before .pre in
-    let t = c .before .before .before .before .loop-test .taken in
-    let s = c .before .before .before .before .before .loop .inv .size in
-    (omega arith, count-small (pre .0) (pre .1) t (c .before .before .before .get .ensures .0) (c .before .before .get2 .ensures .0) (c .count-children .ensures))
+    let at-test = c .before .before .before .before in
+    let at-loop = at-test .before in
+    let start = at-loop .before .before .before .before .before in
+    let pre = start .pre in
+    let t = at-test .loop-test .taken in
+    let s = at-loop .loop .inv .size in (
+      omega arith,
+      count-small (pre .0) (pre .1) t (c .before .before .before .get .ensures .0)
+          (c .before .before .get2 .ensures .0) (c .count-children .ensures),
+    )
 
 add-v : tie.Need-add-v Inv-loop μ-loop
-add-v c = let f = ready-beside (c .before .before .before .before .before .before .before .before .before .before .before .before .before .pre .0) .framed .n-fits in let t = c .before .before .before .before .before .before .before .loop-test .taken in omega arith
+add-v c =
+    let at-test = c .before .before .before .before .before .before .before in
+    let start = at-test .before .before .before .before .before .before in
+    let f = ready-beside (start .pre .0) .framed .n-fits in let t = at-test .loop-test .taken in omega arith
 
 loop-less : tie.Need-loop-less Inv-loop μ-loop
-loop-less c = let t = c .before .before .before .before .before .before .before .loop-test .taken in omega arith
+loop-less c =
+    let at-test = c .before .before .before .before .before .before .before in
+    let t = at-test .loop-test .taken in omega arith
 
 loop-again : tie.Need-loop-again Inv-loop μ-loop
 loop-again c =
-    let pre = c .before .before .before .before .before .before .before .before .before .before .before .before .before .pre in
-    let t = c .before .before .before .before .before .before .before .loop-test .taken in
-    let e = count-cell (pre .0) (pre .1) t (c .before .before .before .before .before .before .get .ensures .0) (c .before .before .before .before .before .get2 .ensures .0) (c .before .before .before .count-children .ensures) in
-    cells-put (c .before .before .before .before .before .before .before .before .loop .inv) apart-self refl t e (c .before .before .put .ensures)
+    let at-get2 = c .before .before .before .before .before in
+    let at-get = at-get2 .before in
+    let at-test = at-get .before in
+    let at-loop = at-test .before in
+    let start = at-loop .before .before .before .before .before in
+    let pre = start .pre in
+    let t = at-test .loop-test .taken in
+    let e = count-cell (pre .0) (pre .1) t (at-get .get .ensures .0) (at-get2 .get2 .ensures .0)
+    (c .before .before .before .count-children .ensures) in
+    cells-put (at-loop .loop .inv) apart-self refl t e (c .before .before .put .ensures)
 
 same-length : tie.Need-same-length Inv-loop μ-loop
-same-length c = c .before .loop .inv .size ∙ sym (c .before .before .before .before .before .before .pre .2)
+same-length c =
+    let start = c .before .before .before .before .before .before in
+    c .before .loop .inv .size ∙ sym (start .pre .2)
 
 returns : tie.Need-returns Inv-loop μ-loop
 returns c = cells-end (c .loop-test .left) (c .before .loop .inv)

@@ -18,42 +18,64 @@ abbrev μ-loop : tie.MeasureT-loop
 μ-loop bytes index n m visits order₀ v₀ order v = n - v
 
 loop-holds : tie.Need-loop-holds Inv-loop μ-loop
-loop-holds c = cells-begin (c .before .before .before .before .pre .2)
+loop-holds c =
+    let start = c .before .before .before .before in
+    cells-begin (start .pre .2)
 
 get-requires : tie.Need-get-requires Inv-loop μ-loop
-get-requires c κs = let s = c .before .before .before .before .before .before .before .pre .1 .size in let t = c .before .loop-test .taken in omega arith
+get-requires c κs =
+    let start = c .before .before .before .before .before .before .before in
+    let s = start .pre .1 .size in let t = c .before .loop-test .taken in omega arith
 
 sub-put : tie.Need-sub-put Inv-loop μ-loop
-sub-put c = let e = c .get .ensures .0 in let q = c .before .before .before .before .before .before .before .before .pre .1 .cells (c .before .before .before .loop .v) (c .before .before .loop-test .taken) in omega arith
+sub-put c =
+    let start = c .before .before .before .before .before .before .before .before in
+    let e = c .get .ensures .0 in
+    let q = start .pre .1 .cells (c .before .before .before .loop .v) (c .before .before .loop-test .taken) in
+    omega arith
 
 put-requires : tie.Need-put-requires Inv-loop μ-loop
 put-requires c κs =
+    let start = c .before .before .before .before .before .before .before .before in
     let e = c .get .ensures .0 in
     let t = c .before .before .loop-test .taken in
-    let q = c .before .before .before .before .before .before .before .before .pre .1 .cells (c .before .before .before .loop .v) t in
-    let i = visit-inside (c .before .before .before .before .before .before .before .before .pre .0) t in
+    let q = start .pre .1 .cells (c .before .before .before .loop .v) t in
+    let i = visit-inside (start .pre .0) t in
     let s = c .before .before .before .loop .inv .size in
-    let f = ready-beside (c .before .before .before .before .before .before .before .before .pre .0) .framed .n-fits in
+    let f = ready-beside (start .pre .0) .framed .n-fits in
     (omega arith, omega arith)
 
 add-v : tie.Need-add-v Inv-loop μ-loop
-add-v c = let f = ready-beside (c .before .before .before .before .before .before .before .before .before .before .before .pre .0) .framed .n-fits in let t = c .before .before .before .before .before .loop-test .taken in omega arith
+add-v c =
+    let at-test = c .before .before .before .before .before in
+    let start = at-test .before .before .before .before .before .before in
+    let f = ready-beside (start .pre .0) .framed .n-fits in let t = at-test .loop-test .taken in omega arith
 
 loop-less : tie.Need-loop-less Inv-loop μ-loop
-loop-less c = let t = c .before .before .before .before .before .loop-test .taken in omega arith
+loop-less c =
+    let at-test = c .before .before .before .before .before in
+    let t = at-test .loop-test .taken in omega arith
 
 loop-again : tie.Need-loop-again Inv-loop μ-loop
 loop-again c =
-    let t = c .before .before .before .before .before .loop-test .taken in
+    let at-test = c .before .before .before .before .before in
+    let at-loop = at-test .before in
+    let start = at-loop .before .before .before .before .before in
+    let t = at-test .loop-test .taken in
     let e = c .before .before .before .get .ensures .0 in
-    let q = c .before .before .before .before .before .before .before .before .before .before .before .pre .1 .cells (c .before .before .before .before .before .before .loop .v) t in
-    cells-put (c .before .before .before .before .before .before .loop .inv) (numbers-apart (c .before .before .before .before .before .before .before .before .before .before .before .pre .0) t) (omega arith) (visit-inside (c .before .before .before .before .before .before .before .before .before .before .before .pre .0) t) refl (c .before .before .put .ensures)
+    let q = start .pre .1 .cells (at-loop .loop .v) t in
+    cells-put (at-loop .loop .inv) (numbers-apart (start .pre .0) t) (omega arith) (visit-inside (start .pre .0) t) refl
+    (c .before .before .put .ensures)
 
 same-length : tie.Need-same-length Inv-loop μ-loop
-same-length c = c .before .loop .inv .size ∙ sym (c .before .before .before .before .before .before .pre .2)
+same-length c =
+    let start = c .before .before .before .before .before .before in
+    c .before .loop .inv .size ∙ sym (start .pre .2)
 
 returns : tie.Need-returns Inv-loop μ-loop
-returns c = order-filled (c .before .before .before .before .before .before .pre .0) (c .loop-test .left) (c .before .loop .inv)
+returns c =
+    let start = c .before .before .before .before .before .before in
+    order-filled (start .pre .0) (c .loop-test .left) (c .before .loop .inv)
 
 pub fill-order-spec : {M : Type 1} → statement M
 fill-order-spec =

@@ -21,22 +21,36 @@ loop-holds : tie.Need-loop-holds Inv-loop μ-loop
 loop-holds c = cells-begin (c .before .before .before .pre .1)
 
 stored-requires : tie.Need-stored-requires Inv-loop μ-loop
-stored-requires c κs = (ready-beside (c .before .before .before .before .before .before .pre .0) .framed, c .before .loop-test .taken)
+stored-requires c κs =
+    (ready-beside (c .before .before .before .before .before .before .pre .0) .framed, c .before .loop-test .taken)
 
 add-put : tie.Need-add-put Inv-loop μ-loop
 add-put c = let b = c .stored .ensures .1 in omega arith
 
 put-requires : tie.Need-put-requires Inv-loop μ-loop
-put-requires c κs = let b = c .stored .ensures .1 in let l = c .before .before .before .loop .inv .size in let t = c .before .before .loop-test .taken in (omega arith, omega arith)
+put-requires c κs =
+    let b = c .stored .ensures .1 in
+    let l = c .before .before .before .loop .inv .size in
+    let t = c .before .before .loop-test .taken in
+    (omega arith, omega arith)
 
 add-v : tie.Need-add-v Inv-loop μ-loop
-add-v c = let f = ready-beside (c .before .before .before .before .before .before .before .before .before .before .pre .0) .framed .n-fits in let t = c .before .before .before .before .before .loop-test .taken in omega arith
+add-v c =
+    let f = ready-beside
+    (c .before .before .before .before .before .before .before .before .before .before .pre .0) .framed .n-fits in
+    let t = c .before .before .before .before .before .loop-test .taken in
+    omega arith
 
 loop-less : tie.Need-loop-less Inv-loop μ-loop
 loop-less c = let t = c .before .before .before .before .before .loop-test .taken in omega arith
 
 loop-again : tie.Need-loop-again Inv-loop μ-loop
-loop-again c = cells-put (c .before .before .before .before .before .before .loop .inv) apart-self refl (c .before .before .before .before .before .loop-test .taken) (visit-cell (c .before .before .before .before .before .before .before .before .before .before .pre .0) (c .before .before .before .before .before .loop-test .taken) (c .before .before .before .stored .ensures .0)) (c .before .before .put .ensures)
+loop-again c =
+    cells-put (c .before .before .before .before .before .before .loop .inv) apart-self refl
+    (c .before .before .before .before .before .loop-test .taken)
+    (visit-cell (c .before .before .before .before .before .before .before .before .before .before .pre .0)
+    (c .before .before .before .before .before .loop-test .taken) (c .before .before .before .stored .ensures .0))
+    (c .before .before .put .ensures)
 
 same-length : tie.Need-same-length Inv-loop μ-loop
 same-length c = c .before .loop .inv .size ∙ sym (c .before .before .before .before .before .pre .1)

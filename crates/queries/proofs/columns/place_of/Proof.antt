@@ -11,135 +11,186 @@ use Rattle.queries.proofs.columns.place_of.Statement.{statement}
 use Rattle.queries.proofs.columns.place_of.Tie as tie
 
 get-requires : tie.Need-get-requires
-get-requires c κs = let l = starts-long (ready-beside (c .before .before .before .before .pre .0) .sound) (c .before .before .before .before .pre .1) in let h = at-inside (c .before .before .before .before .pre .0) (c .before .before .before .before .pre .2) (c .before .before .before .before .pre .3) in omega arith
+get-requires c κs =
+    let start = c .before .before .before .before in
+    let l = starts-long (ready-beside (start .pre .0) .sound) (start .pre .1) in
+    let h = at-inside (start .pre .0) (start .pre .2) (start .pre .3) in
+    omega arith
 
 add-get : tie.Need-add-get
-add-get c = let f = ready-beside (c .before .before .before .before .before .pre .0) .framed .n-fits in let h = at-inside (c .before .before .before .before .before .pre .0) (c .before .before .before .before .before .pre .2) (c .before .before .before .before .before .pre .3) in omega arith
+add-get c =
+    let start = c .before .before .before .before .before in
+    let f = ready-beside (start .pre .0) .framed .n-fits in
+    let h = at-inside (start .pre .0) (start .pre .2) (start .pre .3) in
+    omega arith
 
 get-requires-2 : tie.Need-get-requires-2
-get-requires-2 c κs = let l = starts-long (ready-beside (c .before .before .before .before .before .pre .0) .sound) (c .before .before .before .before .before .pre .1) in let h = at-inside (c .before .before .before .before .before .pre .0) (c .before .before .before .before .before .pre .2) (c .before .before .before .before .before .pre .3) in omega arith
+get-requires-2 c κs =
+    let start = c .before .before .before .before .before in
+    let l = starts-long (ready-beside (start .pre .0) .sound) (start .pre .1) in
+    let h = at-inside (start .pre .0) (start .pre .2) (start .pre .3) in
+    omega arith
 
 step-up-requires : tie.Need-step-up-requires
 step-up-requires c κs =
-    let b = ready-beside (c .before .before .before .before .before .before .pre .0) in
-    let h = at-inside (c .before .before .before .before .before .before .pre .0) (c .before .before .before .before .before .before .pre .2) (c .before .before .before .before .before .before .pre .3) in
-    (b, h, block-from b (c .before .before .before .before .before .before .pre .1) h (c .before .get .ensures .0) (c .get2 .ensures .0), block-to b (c .before .before .before .before .before .before .pre .1) h (c .before .get .ensures .0) (c .get2 .ensures .0))
-
-enum-told : tie.Need-enum-told
-enum-told c = search needs
-
-enum-told-2 : tie.Need-enum-told-2
-enum-told-2 c = search needs
+    let start = c .before .before .before .before .before .before in
+    let b = ready-beside (start .pre .0) in
+    let h = at-inside (start .pre .0) (start .pre .2) (start .pre .3) in (
+      b,
+      h,
+      block-from b (start .pre .1) h (c .before .get .ensures .0) (c .get2 .ensures .0),
+      block-to b
+          (start .pre .1) h (c .before .get .ensures .0) (c .get2 .ensures .0),
+    )
 
 add-t17 : tie.Need-add-t17
-add-t17 c = let f = ready-beside (c .before .before .before .before .before .before .before .before .before .pre .0) .framed .n-fits in let h = at-inside (c .before .before .before .before .before .before .before .before .before .pre .0) (c .before .before .before .before .before .before .before .before .before .pre .2) (c .before .before .before .before .before .before .before .before .before .pre .3) in omega arith
-
-enum-known-r : tie.Need-enum-known-r
-enum-known-r c = search needs
+add-t17 c =
+    let start = c .before .before .before .before .before .before .before .before .before in
+    let f = ready-beside (start .pre .0) .framed .n-fits in
+    let h = at-inside (start .pre .0) (start .pre .2) (start .pre .3) in
+    omega arith
 
 add-bridge-mark : tie.Need-add-bridge-mark
-add-bridge-mark c = let f = ready-beside (c .before .before .before .before .before .before .before .before .before .before .pre .0) .framed .n-fits in let h = at-inside (c .before .before .before .before .before .before .before .before .before .before .pre .0) (c .before .before .before .before .before .before .before .before .before .before .pre .2) (c .before .before .before .before .before .before .before .before .before .before .pre .3) in let g = c .before .before .before .before .before .get .ensures .1 in omega arith
+add-bridge-mark c =
+    let at-get = c .before .before .before .before .before in
+    let start = at-get .before .before .before .before .before in
+    let f = ready-beside (start .pre .0) .framed .n-fits in
+    let h = at-inside (start .pre .0) (start .pre .2) (start .pre .3) in
+    let g = at-get .get .ensures .1 in
+    omega arith
 
 add-bridge-mark-2 : tie.Need-add-bridge-mark-2
-add-bridge-mark-2 c = let f = ready-beside (c .before .before .before .before .before .before .before .before .before .before .pre .0) .framed .n-fits in let h = at-inside (c .before .before .before .before .before .before .before .before .before .before .pre .0) (c .before .before .before .before .before .before .before .before .before .before .pre .2) (c .before .before .before .before .before .before .before .before .before .before .pre .3) in let g = c .before .before .before .before .before .get .ensures .1 in omega arith
+add-bridge-mark-2 c =
+    let at-get = c .before .before .before .before .before in
+    let start = at-get .before .before .before .before .before in
+    let f = ready-beside (start .pre .0) .framed .n-fits in
+    let h = at-inside (start .pre .0) (start .pre .2) (start .pre .3) in
+    let g = at-get .get .ensures .1 in
+    omega arith
 
 add-bridge-mark-3 : tie.Need-add-bridge-mark-3
 add-bridge-mark-3 c =
-    let b = ready-beside (c .before .before .before .before .before .before .before .before .before .before .pre .0) in
-    let h = at-inside (c .before .before .before .before .before .before .before .before .before .before .pre .0) (c .before .before .before .before .before .before .before .before .before .before .pre .2) (c .before .before .before .before .before .before .before .before .before .before .pre .3) in
+    let at-get2 = c .before .before .before .before in
+    let at-get = at-get2 .before in
+    let start = at-get .before .before .before .before .before in
+    let b = ready-beside (start .pre .0) in
+    let h = at-inside (start .pre .0) (start .pre .2) (start .pre .3) in
     let e = sym (ap stepOf (c .before .r .given .1)) ∙ c .before .before .before .step-up .ensures in
-    let q = rise-room b (c .before .before .before .before .before .before .before .before .before .before .pre .1) h (c .before .before .before .before .before .get .ensures .0) (c .before .before .before .before .get2 .ensures .0) e in
+    let q = rise-room b (start .pre .1) h (at-get .get .ensures .0) (at-get2 .get2 .ensures .0) e in
     let x = b .framed .n-fits in
     let y = b .framed .m-fits in
     omega arith
 
 bridge-mark-requires : tie.Need-bridge-mark-requires
 bridge-mark-requires c κs =
-    let b = ready-beside (c .before .before .before .before .before .before .before .before .before .before .pre .0) in
-    let h = at-inside (c .before .before .before .before .before .before .before .before .before .before .pre .0) (c .before .before .before .before .before .before .before .before .before .before .pre .2) (c .before .before .before .before .before .before .before .before .before .before .pre .3) in
+    let at-get2 = c .before .before .before .before in
+    let at-get = at-get2 .before in
+    let start = at-get .before .before .before .before .before in
+    let b = ready-beside (start .pre .0) in
+    let h = at-inside (start .pre .0) (start .pre .2) (start .pre .3) in
     let e = sym (ap stepOf (c .before .r .given .1)) ∙ c .before .before .before .step-up .ensures in
-    (b .framed, rise-room b (c .before .before .before .before .before .before .before .before .before .before .pre .1) h (c .before .before .before .before .before .get .ensures .0) (c .before .before .before .before .get2 .ensures .0) e)
+    (b .framed, rise-room b (start .pre .1) h (at-get .get .ensures .0) (at-get2 .get2 .ensures .0) e)
 
 add-t22 : tie.Need-add-t22
 add-t22 c =
-    let h = at-inside (c .before .before .before .before .before .before .before .before .before .before .before .before .pre .0) (c .before .before .before .before .before .before .before .before .before .before .before .before .pre .2) (c .before .before .before .before .before .before .before .before .before .before .before .before .pre .3) in
-    let e = sym (ap stepOf (c .before .before .before .r .given .1)) ∙ c .before .before .before .before .before .step-up .ensures in
-    let l = risen-to (c .before .before .before .before .before .before .before .before .before .before .before .before .pre .0) h (c .before .before .before .before .before .before .before .before .before .before .before .before .pre .1) (c .before .before .before .before .before .before .before .get .ensures .0) (c .before .before .before .before .before .before .get2 .ensures .0) e in
-    let f = ready-beside (c .before .before .before .before .before .before .before .before .before .before .before .before .pre .0) .framed .n-fits in
+    let at-step-up = c .before .before .before .before .before in
+    let at-get2 = at-step-up .before in
+    let at-get = at-get2 .before in
+    let start = at-get .before .before .before .before .before in
+    let h = at-inside (start .pre .0) (start .pre .2) (start .pre .3) in
+    let e = sym (ap stepOf (c .before .before .before .r .given .1)) ∙ at-step-up .step-up .ensures in
+    let l = risen-to (start .pre .0) h (start .pre .1) (at-get .get .ensures .0) (at-get2 .get2 .ensures .0) e in
+    let f = ready-beside (start .pre .0) .framed .n-fits in
     omega arith
 
 add-t23 : tie.Need-add-t23
-add-t23 c = let f = ready-beside (c .before .before .before .before .before .before .before .before .before .before .before .before .pre .0) .framed .n-fits in let h = at-inside (c .before .before .before .before .before .before .before .before .before .before .before .before .pre .0) (c .before .before .before .before .before .before .before .before .before .before .before .before .pre .2) (c .before .before .before .before .before .before .before .before .before .before .before .before .pre .3) in omega arith
+add-t23 c =
+    let start = c .before .before .before .before .before .before .before .before .before .before .before .before in
+    let f = ready-beside (start .pre .0) .framed .n-fits in
+    let h = at-inside (start .pre .0) (start .pre .2) (start .pre .3) in
+    omega arith
 
 returns : tie.Need-returns
 returns c =
-    let b = ready-beside (c .before .before .before .before .before .before .before .before .before .before .before .before .pre .0) in
-    let h = at-inside (c .before .before .before .before .before .before .before .before .before .before .before .before .pre .0) (c .before .before .before .before .before .before .before .before .before .before .before .before .pre .2) (c .before .before .before .before .before .before .before .before .before .before .before .before .pre .3) in
-    let e = sym (ap stepOf (c .before .before .before .r .given .1)) ∙ c .before .before .before .before .before .step-up .ensures in
-    let l = risen-to (c .before .before .before .before .before .before .before .before .before .before .before .before .pre .0) h (c .before .before .before .before .before .before .before .before .before .before .before .before .pre .1) (c .before .before .before .before .before .before .before .get .ensures .0) (c .before .before .before .before .before .before .get2 .ensures .0) e in
-    let f = b .framed .n-fits in
-    (risen-parent (c .before .before .before .before .before .before .before .before .before .before .before .before .pre .0) h e, stopped (c .before .before .before .before .before .before .before .before .before .before .before .before .pre .0) h (head-stops b (c .before .before .before .before .before .before .before .before .before .before .before .before .pre .1) h (c .before .before .before .before .before .before .before .get .ensures .0) (c .before .before .before .before .before .before .get2 .ensures .0) e (c .before .bridge-mark .ensures) (c .if1 .taken)), omega arith, omega arith)
+    let at-step-up = c .before .before .before .before .before in
+    let at-get2 = at-step-up .before in
+    let at-get = at-get2 .before in
+    let start = at-get .before .before .before .before .before in
+    let b = ready-beside (start .pre .0) in
+    let h = at-inside (start .pre .0) (start .pre .2) (start .pre .3) in
+    let e = sym (ap stepOf (c .before .before .before .r .given .1)) ∙ at-step-up .step-up .ensures in
+    let l = risen-to (start .pre .0) h (start .pre .1) (at-get .get .ensures .0) (at-get2 .get2 .ensures .0) e in
+    let f = b .framed .n-fits in (
+      risen-parent (start .pre .0) h e,
+      stopped (start .pre .0) h
+          (head-stops b (start .pre .1) h (at-get .get .ensures .0) (at-get2 .get2 .ensures .0) e
+          (c .before .bridge-mark .ensures) (c .if1 .taken)),
+      omega arith,
+      omega arith,
+    )
 
 add-t19 : tie.Need-add-t19
 add-t19 c =
-    let h = at-inside (c .before .before .before .before .before .before .before .before .before .before .before .before .pre .0) (c .before .before .before .before .before .before .before .before .before .before .before .before .pre .2) (c .before .before .before .before .before .before .before .before .before .before .before .before .pre .3) in
-    let e = sym (ap stepOf (c .before .before .before .r .given .1)) ∙ c .before .before .before .before .before .step-up .ensures in
-    let l = risen-to (c .before .before .before .before .before .before .before .before .before .before .before .before .pre .0) h (c .before .before .before .before .before .before .before .before .before .before .before .before .pre .1) (c .before .before .before .before .before .before .before .get .ensures .0) (c .before .before .before .before .before .before .get2 .ensures .0) e in
-    let f = ready-beside (c .before .before .before .before .before .before .before .before .before .before .before .before .pre .0) .framed .n-fits in
+    let at-step-up = c .before .before .before .before .before in
+    let at-get2 = at-step-up .before in
+    let at-get = at-get2 .before in
+    let start = at-get .before .before .before .before .before in
+    let h = at-inside (start .pre .0) (start .pre .2) (start .pre .3) in
+    let e = sym (ap stepOf (c .before .before .before .r .given .1)) ∙ at-step-up .step-up .ensures in
+    let l = risen-to (start .pre .0) h (start .pre .1) (at-get .get .ensures .0) (at-get2 .get2 .ensures .0) e in
+    let f = ready-beside (start .pre .0) .framed .n-fits in
     omega arith
 
 get-requires-3 : tie.Need-get-requires-3
 get-requires-3 c κs =
-    let h = at-inside (c .before .before .before .before .before .before .before .before .before .before .before .before .pre .0) (c .before .before .before .before .before .before .before .before .before .before .before .before .pre .2) (c .before .before .before .before .before .before .before .before .before .before .before .before .pre .3) in
-    let e = sym (ap stepOf (c .before .before .before .r .given .1)) ∙ c .before .before .before .before .before .step-up .ensures in
-    let l = risen-to (c .before .before .before .before .before .before .before .before .before .before .before .before .pre .0) h (c .before .before .before .before .before .before .before .before .before .before .before .before .pre .1) (c .before .before .before .before .before .before .before .get .ensures .0) (c .before .before .before .before .before .before .get2 .ensures .0) e in
-    let s = c .before .before .before .before .before .before .before .before .before .before .before .before .pre .4 .hold .size in
+    let at-step-up = c .before .before .before .before .before in
+    let at-get2 = at-step-up .before in
+    let at-get = at-get2 .before in
+    let start = at-get .before .before .before .before .before in
+    let h = at-inside (start .pre .0) (start .pre .2) (start .pre .3) in
+    let e = sym (ap stepOf (c .before .before .before .r .given .1)) ∙ at-step-up .step-up .ensures in
+    let l = risen-to (start .pre .0) h (start .pre .1) (at-get .get .ensures .0) (at-get2 .get2 .ensures .0) e in
+    let s = start .pre .4 .hold .size in
     omega arith
 
 returns-2 : tie.Need-returns-2
 returns-2 c =
-    let h = at-inside (c .before .before .before .before .before .before .before .before .before .pre .0) (c .before .before .before .before .before .before .before .before .before .pre .2) (c .before .before .before .before .before .before .before .before .before .pre .3) in
-    never-stuck (c .before .before .before .before .before .before .before .before .before .pre .0) h (sym (ap stepOf (c .enum-told .given .1)) ∙ c .before .before .step-up .ensures)
+    let start = c .before .before .before .before .before .before .before .before .before in
+    let h = at-inside (start .pre .0) (start .pre .2) (start .pre .3) in
+    never-stuck (start .pre .0) h (sym (ap stepOf (c .enum-told .given .1)) ∙ c .before .before .step-up .ensures)
 
 returns-3 : tie.Need-returns-3
 returns-3 c =
-    let f = ready-beside (c .before .before .before .before .before .before .before .before .before .pre .0) .framed .n-fits in
-    let h = at-inside (c .before .before .before .before .before .before .before .before .before .pre .0) (c .before .before .before .before .before .before .before .before .before .pre .2) (c .before .before .before .before .before .before .before .before .before .pre .3) in
+    let start = c .before .before .before .before .before .before .before .before .before in
+    let f = ready-beside (start .pre .0) .framed .n-fits in
+    let h = at-inside (start .pre .0) (start .pre .2) (start .pre .3) in
     let e = sym (ap stepOf (c .enum-told2 .given .1)) ∙ c .before .before .step-up .ensures in
-    (root-parent (c .before .before .before .before .before .before .before .before .before .pre .0) h e, root-head (c .before .before .before .before .before .before .before .before .before .pre .0) h e, omega arith, omega arith)
+    (root-parent (start .pre .0) h e, root-head (start .pre .0) h e, omega arith, omega arith)
 
 returns-4 : tie.Need-returns-4
 returns-4 c =
-    let b = ready-beside (c .before .before .before .before .before .before .before .before .before .before .before .before .before .pre .0) in
-    let h = at-inside (c .before .before .before .before .before .before .before .before .before .before .before .before .before .pre .0) (c .before .before .before .before .before .before .before .before .before .before .before .before .before .pre .2) (c .before .before .before .before .before .before .before .before .before .before .before .before .before .pre .3) in
-    let e = sym (ap stepOf (c .before .before .before .before .r .given .1)) ∙ c .before .before .before .before .before .before .step-up .ensures in
-    let l = risen-to (c .before .before .before .before .before .before .before .before .before .before .before .before .before .pre .0) h (c .before .before .before .before .before .before .before .before .before .before .before .before .before .pre .1) (c .before .before .before .before .before .before .before .before .get .ensures .0) (c .before .before .before .before .before .before .before .get2 .ensures .0) e in
-    let up = head-rises b (c .before .before .before .before .before .before .before .before .before .before .before .before .before .pre .1) h (c .before .before .before .before .before .before .before .before .get .ensures .0) (c .before .before .before .before .before .before .before .get2 .ensures .0) e (c .before .before .bridge-mark .ensures) (c .before .if1 .left) in
-    let p = risen-parent (c .before .before .before .before .before .before .before .before .before .before .before .before .before .pre .0) h e in
-    let f = b .framed .n-fits in
-    (p, risen-head (c .before .before .before .before .before .before .before .before .before .before .before .before .before .pre .0) h l (sym p) up (c .before .before .before .before .before .before .before .before .before .before .before .before .before .pre .3) (c .before .before .before .before .before .before .before .before .before .before .before .before .before .pre .2) (c .before .before .before .before .before .before .before .before .before .before .before .before .before .pre .4) (c .get3 .ensures .0), omega arith, c .get3 .ensures .1)
+    let at-r = c .before .before .before .before in
+    let at-step-up = at-r .before .before in
+    let at-get2 = at-step-up .before in
+    let at-get = at-get2 .before in
+    let start = at-get .before .before .before .before .before in
+    let b = ready-beside (start .pre .0) in
+    let h = at-inside (start .pre .0) (start .pre .2) (start .pre .3) in
+    let e = sym (ap stepOf (at-r .r .given .1)) ∙ at-step-up .step-up .ensures in
+    let l = risen-to (start .pre .0) h (start .pre .1) (at-get .get .ensures .0) (at-get2 .get2 .ensures .0) e in
+    let up = head-rises b (start .pre .1) h (at-get .get .ensures .0) (at-get2 .get2 .ensures .0) e
+    (c .before .before .bridge-mark .ensures) (c .before .if1 .left) in
+    let p = risen-parent (start .pre .0) h e in
+    let f = b .framed .n-fits in (
+      p,
+      risen-head (start .pre .0) h l (sym p) up (start .pre .3) (start .pre .2) (start .pre .4) (c .get3 .ensures .0),
+      omega arith,
+      c .get3 .ensures .1,
+    )
 
 pub place-of-spec : {M : Type 1} → statement M
 place-of-spec =
     tie.close
-    (tie.spec
-    get-requires
-    add-get
-    get-requires-2
-    step-up-requires
-    enum-told
-    enum-told-2
-    add-t17
-    enum-known-r
-    add-bridge-mark
-    add-bridge-mark-2
-    add-bridge-mark-3
-    bridge-mark-requires
-    add-t22
-    add-t23
-    returns
-    add-t19
-    get-requires-3
-    returns-2
-    returns-3
-    returns-4)
+    (tie.spec get-requires add-get get-requires-2 step-up-requires (λ c. search needs) (λ c. search needs) add-t17
+    (λ c. search needs) add-bridge-mark add-bridge-mark-2 add-bridge-mark-3 bridge-mark-requires add-t22 add-t23
+    returns add-t19 get-requires-3 returns-2 returns-3 returns-4)

@@ -6,19 +6,13 @@ use borrow.Author.Needs.{needs}
 use Rattle.queries.proofs.marks.mark.Statement.{statement}
 use Rattle.queries.proofs.marks.mark.Tie as tie
 
-mul-read-bit : tie.Need-mul-read-bit
-mul-read-bit c = search needs
-
-add-read-bit : tie.Need-add-read-bit
-add-read-bit c = search needs
-
-read-bit-requires : tie.Need-read-bit-requires
-read-bit-requires c κs = search needs
-
 returns : tie.Need-returns
 returns c =
     let pre = c .before .before .pre in
-    c .read-bit .ensures ∙ sym (bit-held (c .before .before .args .index .now) (8 * c .before .before .args .at) (c .before .before .args .n + 2 * c .before .before .args .m) (pre .3) (c .before .before .args .bit) (pre .4))
+    c .read-bit .ensures
+    ∙ sym (bit-held (c .before .before .args .index .now) (8 * c .before .before .args .at)
+    (c .before .before .args .n + 2 * c .before .before .args .m) (pre .3) (c .before .before .args .bit) (pre .4))
 
 pub mark-spec : {M : Type 1} → statement M
-mark-spec = tie.close (tie.spec mul-read-bit add-read-bit read-bit-requires returns)
+mark-spec = tie.close
+    (tie.spec (λ c. search needs) (λ c. search needs) (λ c κs. search needs) returns)

@@ -11,21 +11,6 @@ use borrow.Author.Needs.{needs}
 use Rattle.queries.proofs.marks.stored.Statement.{statement}
 use Rattle.queries.proofs.marks.stored.Tie as tie
 
-mark-bytes-requires : tie.Need-mark-bytes-requires
-mark-bytes-requires c κs = search needs
-
-mul-read12 : tie.Need-mul-read12
-mul-read12 c = search needs
-
-mul-read12-2 : tie.Need-mul-read12-2
-mul-read12-2 c = search needs
-
-mul-read12-3 : tie.Need-mul-read12-3
-mul-read12-3 c = search needs
-
-add-read12 : tie.Need-add-read12
-add-read12 c = search needs
-
 read12-requires : tie.Need-read12-requires
 read12-requires c κs =
     let pre = c .before .before .pre in
@@ -49,11 +34,5 @@ returns c =
 pub stored-spec : {M : Type 1} → statement M
 stored-spec =
     tie.close
-    (tie.spec
-    mark-bytes-requires
-    mul-read12
-    mul-read12-2
-    mul-read12-3
-    add-read12
-    read12-requires
-    returns)
+    (tie.spec (λ c κs. search needs) (λ c. search needs) (λ c. search needs) (λ c. search needs) (λ c. search needs)
+    read12-requires returns)

@@ -4,15 +4,6 @@ use borrow.Author.Needs.{needs}
 use Rattle.queries.proofs.order.order_q.Statement.{statement}
 use Rattle.queries.proofs.order.order_q.Tie as tie
 
-order-r-requires : tie.Need-order-r-requires
-order-r-requires c κs = search needs
-
-enum-known-r : tie.Need-enum-known-r
-enum-known-r c = search needs
-
-enum-known-s : tie.Need-enum-known-s
-enum-known-s c = search needs
-
 index-length-requires : tie.Need-index-length-requires
 index-length-requires c κs =
     let args = c .before .before .before .before .before .before .args in
@@ -28,9 +19,6 @@ returns c =
     (c .before .before .before .before .before .order-r .ensures) (c .before .before .before .s .given .1)
     (c .before .index-length .ensures)
     (c .if1 .taken)
-
-out-of-range-requires : tie.Need-out-of-range-requires
-out-of-range-requires c κs = search needs
 
 returns-2 : tie.Need-returns-2
 returns-2 c =
@@ -57,13 +45,5 @@ returns-4 c =
 pub order-q-spec : {M : Type 1} → statement M
 order-q-spec =
     tie.close
-    (tie.spec
-    order-r-requires
-    enum-known-r
-    enum-known-s
-    index-length-requires
-    returns
-    out-of-range-requires
-    returns-2
-    returns-3
-    returns-4)
+    (tie.spec (λ c κs. search needs) (λ c. search needs) (λ c. search needs) index-length-requires returns
+    (λ c κs. search needs) returns-2 returns-3 returns-4)

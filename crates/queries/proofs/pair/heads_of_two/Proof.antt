@@ -5,21 +5,6 @@ use borrow.Author.Needs.{needs}
 use Rattle.queries.proofs.pair.heads_of_two.Statement.{statement}
 use Rattle.queries.proofs.pair.heads_of_two.Tie as tie
 
-build-requires : tie.Need-build-requires
-build-requires c κs = search needs
-
-head-requires : tie.Need-head-requires
-head-requires c κs = search needs
-
-head-requires-2 : tie.Need-head-requires-2
-head-requires-2 c κs = search needs
-
-same-length : tie.Need-same-length
-same-length c = search needs
-
-same-length-2 : tie.Need-same-length-2
-same-length-2 c = search needs
-
 returns : tie.Need-returns
 returns c =
     let after-build = c .before .before .before .before .before .before .before .before in
@@ -33,4 +18,5 @@ returns c =
 pub heads-of-two-spec : {M : Type 1} → statement M
 heads-of-two-spec =
     tie.close
-    (tie.spec build-requires head-requires head-requires-2 same-length same-length-2 returns)
+    (tie.spec (λ c κs. search needs) (λ c κs. search needs) (λ c κs. search needs) (λ c. search needs)
+    (λ c. search needs) returns)

@@ -15,12 +15,6 @@ returns c =
     let w = viewBy (args .n) (args .m) (args .bytes .now) (args .index .now) in
     no-first w (args .v .0 - 1) (args .j) (c .if1 .taken)
 
-sub-u : tie.Need-sub-u
-sub-u c = search needs
-
-fields-of-requires : tie.Need-fields-of-requires
-fields-of-requires c κs = search needs
-
 abbrev start : tie.After-fields-of → tie.Start
 start c = c .before .before .before .before .before
 
@@ -63,18 +57,12 @@ chosen c = record {
 returns-2 : tie.Need-returns-2
 returns-2 c = few-told (chosen (c .before)) (c .if2 .taken)
 
-sub-field : tie.Need-sub-field
-sub-field c = search needs
-
 add-field : tie.Need-add-field
 add-field c = let (l, m) = child-room (chosen (c .before)) (c .if2 .left) in omega arith
 
 field-requires : tie.Need-field-requires
 field-requires c κs =
     (start (read (c .before)) .pre .0 .sound, child-room (chosen (c .before)) (c .if2 .left) .0)
-
-add-t18 : tie.Need-add-t18
-add-t18 c = search needs
 
 returns-3 : tie.Need-returns-3
 returns-3 c =
@@ -89,18 +77,5 @@ returns-4 c =
 pub child-in-spec : {M : Type 1} → statement M
 child-in-spec =
     tie.close
-    (tie.spec
-    returns
-    sub-u
-    fields-of-requires
-    add-nth-child
-    add-nth-child-2
-    sub-nth-child
-    nth-child-requires
-    returns-2
-    sub-field
-    add-field
-    field-requires
-    add-t18
-    returns-3
-    returns-4)
+    (tie.spec returns (λ c. search needs) (λ c κs. search needs) add-nth-child add-nth-child-2 sub-nth-child
+    nth-child-requires returns-2 (λ c. search needs) add-field field-requires (λ c. search needs) returns-3 returns-4)

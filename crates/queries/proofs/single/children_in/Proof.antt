@@ -15,12 +15,6 @@ room : (c : tie.After-fields-of)
     (c .fields-of .result .to)
 room c = block-room (start c .pre .0) (start c .pre .1) (c .fields-of .ensures)
 
-sub-u : tie.Need-sub-u
-sub-u c = search needs
-
-fields-of-requires : tie.Need-fields-of-requires
-fields-of-requires c κs = search needs
-
 add-count-children : tie.Need-add-count-children
 add-count-children c = let r = room (c .before) in omega arith
 
@@ -46,11 +40,5 @@ returns c =
 pub children-in-spec : {M : Type 1} → statement M
 children-in-spec =
     tie.close
-    (tie.spec
-    sub-u
-    fields-of-requires
-    add-count-children
-    add-count-children-2
-    sub-count-children
-    count-children-requires
-    returns)
+    (tie.spec (λ c. search needs) (λ c κs. search needs) add-count-children add-count-children-2 sub-count-children
+    count-children-requires returns)

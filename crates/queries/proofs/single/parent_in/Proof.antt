@@ -15,12 +15,6 @@ use Rattle.queries.proofs.Laws.Climbing.{rise-to}
 use Rattle.queries.proofs.single.parent_in.Statement.{statement}
 use Rattle.queries.proofs.single.parent_in.Tie as tie
 
-sub-u : tie.Need-sub-u
-sub-u c = search needs
-
-fields-of-requires : tie.Need-fields-of-requires
-fields-of-requires c κs = search needs
-
 abbrev start : tie.After-fields-of → tie.Start
 start c = c .before .before .before .before
 
@@ -28,15 +22,6 @@ step-up-requires : tie.Need-step-up-requires
 step-up-requires c κs =
     let f = c .fields-of .ensures in
     (start c .pre .0, vertex-in (start c .pre .1), f .from, f .to)
-
-enum-told : tie.Need-enum-told
-enum-told c = search needs
-
-enum-told-2 : tie.Need-enum-told-2
-enum-told-2 c = search needs
-
-enum-known-r : tie.Need-enum-known-r
-enum-known-r c = search needs
 
 add-p : tie.Need-add-p
 add-p c =
@@ -69,14 +54,5 @@ returns-3 c =
 pub parent-in-spec : {M : Type 1} → statement M
 parent-in-spec =
     tie.close
-    (tie.spec
-    sub-u
-    fields-of-requires
-    step-up-requires
-    enum-told
-    enum-told-2
-    enum-known-r
-    add-p
-    returns
-    returns-2
-    returns-3)
+    (tie.spec (λ c. search needs) (λ c κs. search needs) step-up-requires (λ c. search needs) (λ c. search needs)
+    (λ c. search needs) add-p returns returns-2 returns-3)

@@ -11,9 +11,6 @@ use Rattle.queries.proofs.tables.fill_lists.Tie as tie
 few : (s : tie.Start) → s .args .n ≤ 4096
 few s = ready-beside (s .pre .0) .framed .n-fits
 
-add-blocks : tie.Need-add-blocks
-add-blocks c = search needs
-
 array-borrow-prefix-starts : tie.Need-array-borrow-prefix-starts
 array-borrow-prefix-starts c = let f = few (c .before .before .before .before .before .before) in omega arith
 
@@ -38,33 +35,9 @@ fill-requires c κs =
     let (ready, v, p, k, h) = s .pre in
     (ready, part-zeros 4097 (s .args .n + 1) (omega arith), part-zeros 4096 (s .args .n) f, v, p, k, h)
 
-same-length : tie.Need-same-length
-same-length c = search needs
-
-same-length-2 : tie.Need-same-length-2
-same-length-2 c = search needs
-
-same-length-3 : tie.Need-same-length-3
-same-length-3 c = search needs
-
-same-length-4 : tie.Need-same-length-4
-same-length-4 c = search needs
-
-returns : tie.Need-returns
-returns c = search needs
-
 pub fill-lists-spec : {M : Type 1} → statement M
 fill-lists-spec =
     tie.close
-    (tie.spec
-    add-blocks
-    array-borrow-prefix-starts
-    slice-aggregate-fill
-    array-borrow-prefix-order
-    slice-aggregate-fill-2
-    fill-requires
-    same-length
-    same-length-2
-    same-length-3
-    same-length-4
-    returns)
+    (tie.spec (λ c. search needs) array-borrow-prefix-starts slice-aggregate-fill array-borrow-prefix-order
+    slice-aggregate-fill-2 fill-requires (λ c. search needs) (λ c. search needs) (λ c. search needs)
+    (λ c. search needs) (λ c. search needs))

@@ -1,25 +1,12 @@
 -- `tables::table_by` meets its contract: Build's rules first, then the lengths of the lists, then the lists.
-use Rattle.record.specs.Answers.{verdict}
+use Rattle.record.specs.Answers.{verdict, answered}
 use Rattle.forest.specs.Operations.{build}
-use Rattle.record.specs.Answers.{answered}
 use mathlib.Core.Path.{_≡_, sym, ap, _∙_}
 use borrow.Author.Needs.{needs}
 use Rattle.queries.specs.Table.{Columns, columns}
 use Rattle.queries.proofs.Laws.TableRules.{table-refused, table-ready, table-misfit, table-done, lists-fit}
 use Rattle.queries.proofs.tables.table_by.Statement.{statement}
 use Rattle.queries.proofs.tables.table_by.Tie as tie
-
-build-requires : tie.Need-build-requires
-build-requires c κs = search needs
-
-enum-known-r : tie.Need-enum-known-r
-enum-known-r c = search needs
-
-enum-told : tie.Need-enum-told
-enum-told c = search needs
-
-some-misfit-requires : tie.Need-some-misfit-requires
-some-misfit-requires c κs = search needs
 
 -- the call of Build, and where it began
 abbrev start : tie.After-build → tie.Start
@@ -38,24 +25,6 @@ told c = c .before .before .before .before .before
 written : (c : tie.After-enum-told)
     → let s = start (called c) .args in answered tt ≡ build (s .bytes .now) (s .work .now) (s .index .now)
 written c = sym (ap verdict (c .enum-told .given .1)) ∙ called c .build .ensures .0
-
-same-length : tie.Need-same-length
-same-length c = search needs
-
-same-length-2 : tie.Need-same-length-2
-same-length-2 c = search needs
-
-same-length-3 : tie.Need-same-length-3
-same-length-3 c = search needs
-
-same-length-4 : tie.Need-same-length-4
-same-length-4 c = search needs
-
-same-length-5 : tie.Need-same-length-5
-same-length-5 c = search needs
-
-same-length-6 : tie.Need-same-length-6
-same-length-6 c = search needs
 
 returns : tie.Need-returns
 returns c =
@@ -78,36 +47,12 @@ fill-lists-requires c κs =
     (sym (e .before .some-misfit .ensures) ∙ e .if1 .left) in
     (ready, v, p, k, h)
 
-same-length-7 : tie.Need-same-length-7
-same-length-7 c = search needs
-
-same-length-8 : tie.Need-same-length-8
-same-length-8 c = search needs
-
 returns-2 : tie.Need-returns-2
 returns-2 c =
     let b = c .before .before .before .before .before .before .before in
     let s = start b in
     table-refused (s .args .bytes .now) (s .args .work .now) (lent s) (s .pre .0) (s .args .index .now) (s .pre .1)
     (sym (ap verdict (c .before .r .given .1)) ∙ b .build .ensures .0)
-
-same-length-9 : tie.Need-same-length-9
-same-length-9 c = search needs
-
-same-length-10 : tie.Need-same-length-10
-same-length-10 c = search needs
-
-same-length-11 : tie.Need-same-length-11
-same-length-11 c = search needs
-
-same-length-12 : tie.Need-same-length-12
-same-length-12 c = search needs
-
-same-length-13 : tie.Need-same-length-13
-same-length-13 c = search needs
-
-same-length-14 : tie.Need-same-length-14
-same-length-14 c = search needs
 
 returns-3 : tie.Need-returns-3
 returns-3 c =
@@ -121,26 +66,7 @@ returns-3 c =
 pub table-by-spec : {M : Type 1} → statement M
 table-by-spec =
     tie.close
-    (tie.spec
-    build-requires
-    enum-known-r
-    enum-told
-    some-misfit-requires
-    same-length
-    same-length-2
-    same-length-3
-    same-length-4
-    same-length-5
-    same-length-6
-    returns
-    fill-lists-requires
-    same-length-7
-    same-length-8
-    returns-2
-    same-length-9
-    same-length-10
-    same-length-11
-    same-length-12
-    same-length-13
-    same-length-14
-    returns-3)
+    (tie.spec (λ c κs. search needs) (λ c. search needs) (λ c. search needs) (λ c κs. search needs) (λ c. search needs)
+    (λ c. search needs) (λ c. search needs) (λ c. search needs) (λ c. search needs) (λ c. search needs) returns
+    fill-lists-requires (λ c. search needs) (λ c. search needs) returns-2 (λ c. search needs) (λ c. search needs)
+    (λ c. search needs) (λ c. search needs) (λ c. search needs) (λ c. search needs) returns-3)

@@ -8,9 +8,6 @@ use Rattle.queries.proofs.Laws.Rooms.{index-short}
 use Rattle.queries.proofs.tables.table_in.Statement.{statement}
 use Rattle.queries.proofs.tables.table_in.Tie as tie
 
-index-length-requires : tie.Need-index-length-requires
-index-length-requires c κs = search needs
-
 -- the index has room
 abbrev start : tie.After-index-length → tie.Start
 start c = c .before .before .before .before .before .before .before
@@ -32,35 +29,9 @@ table-by-requires c κs =
     let i = c .before .before .before .before .before .before in
     (start i .pre, part-zeros 19968 _ (short i) ∙ i .index-length .ensures)
 
-same-length : tie.Need-same-length
-same-length c = search needs
-
-same-length-2 : tie.Need-same-length-2
-same-length-2 c = search needs
-
-same-length-3 : tie.Need-same-length-3
-same-length-3 c = search needs
-
-same-length-4 : tie.Need-same-length-4
-same-length-4 c = search needs
-
-same-length-5 : tie.Need-same-length-5
-same-length-5 c = search needs
-
-returns : tie.Need-returns
-returns c = search needs
-
 pub table-in-spec : {M : Type 1} → statement M
 table-in-spec =
     tie.close
-    (tie.spec
-    index-length-requires
-    array-borrow-prefix-index
-    slice-aggregate-table-by
-    table-by-requires
-    same-length
-    same-length-2
-    same-length-3
-    same-length-4
-    same-length-5
-    returns)
+    (tie.spec (λ c κs. search needs) array-borrow-prefix-index slice-aggregate-table-by table-by-requires
+    (λ c. search needs) (λ c. search needs) (λ c. search needs) (λ c. search needs) (λ c. search needs)
+    (λ c. search needs))

@@ -15,9 +15,6 @@ sub-stored c = let z = c .before .before .before .pre .1 .some in omega arith
 stored-requires : tie.Need-stored-requires
 stored-requires c κs = (c .before .before .before .pre .0 .framed, vertex-in (c .before .before .before .pre .1))
 
-add-t9 : tie.Need-add-t9
-add-t9 c = search needs
-
 returns : tie.Need-returns
 returns c =
     let pre = c .before .before .before .before .before .pre in
@@ -37,4 +34,5 @@ returns-2 c =
     visit-stray w {u = args .v .0 - 1} (stored .ensures .0) (omega arith)
 
 pub visit-in-spec : {M : Type 1} → statement M
-visit-in-spec = tie.close (tie.spec sub-stored stored-requires add-t9 returns returns-2)
+visit-in-spec = tie.close
+    (tie.spec sub-stored stored-requires (λ c. search needs) returns returns-2)

@@ -20,12 +20,6 @@ begin c = c .before .before .before .before .before
 sub-k : tie.Need-sub-k Inv-loop μ-loop
 sub-k c = let z = c .before .before .before .pre .1 .some in omega arith
 
-mark-bytes-requires : tie.Need-mark-bytes-requires Inv-loop μ-loop
-mark-bytes-requires c κs = search needs
-
-mul-at : tie.Need-mul-at Inv-loop μ-loop
-mul-at c = search needs
-
 loop-holds : tie.Need-loop-holds Inv-loop μ-loop
 loop-holds c =
     let args = c .before .before .before .before .args in
@@ -69,9 +63,6 @@ add-at c =
     let (l, n) = two-fit (begin at .pre .0) (at .loop .inv) more in
     omega arith
 
-loop-less : tie.Need-loop-less Inv-loop μ-loop
-loop-less c = omega arith
-
 loop-again : tie.Need-loop-again Inv-loop μ-loop
 loop-again c =
     let at = c .before .before .before .before .before .before in
@@ -103,25 +94,6 @@ returns-5 c = none-met (begin (c .before .before) .pre .0) (c .before .before .l
 pub visited-in-spec : {M : Type 1} → statement M
 visited-in-spec =
     tie.close
-    (tie.spec
-    Inv-loop
-    μ-loop
-    sub-k
-    mark-bytes-requires
-    mul-at
-    loop-holds
-    add-loop
-    read-two-requires
-    add-t13
-    returns
-    add-t15
-    returns-2
-    add-u
-    add-at
-    loop-less
-    loop-again
-    stored-requires
-    add-t20
-    returns-3
-    returns-4
-    returns-5)
+    (tie.spec Inv-loop μ-loop sub-k (λ c κs. search needs) (λ c. search needs) loop-holds add-loop read-two-requires
+    add-t13 returns add-t15 returns-2 add-u add-at (λ c. omega arith) loop-again stored-requires add-t20 returns-3
+    returns-4 returns-5)
