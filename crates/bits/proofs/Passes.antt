@@ -215,12 +215,8 @@ module _ {s : List Bool} {a at width w h : ℕ} (places : ℕ) (t : Topped s a (
         let x = rw end at (between-zero s (at + width - h) h (sym rest ∙ z)) in
         lone-one s a places (t .held) o (omega arith) (omega arith)
 
-  pub lone-further : {q : ℕ} → NextAt s (at + width) (a + places) q → q < a + places
+  pub lone-further : {c : ℕ} → onesBetween s (at + width) (a + places) ≡ c → (c ≡ 0 → ⊥)
       → LoneOf (take places (drop a s)) Lone.More
-  lone-further {q} n l =
-      let e = sum in
-      let z = n .none in
-      let o : OneAt s (at + width) q 1 = record { after = n .after; one = n .one l; rank = omega arith } in
-      let x = one-past o (omega arith) in
-      let y = between-add s (at + width) (q + 1) (a + places) (omega arith) (omega arith) in
+  lone-further e n =
+      let x = sum in
       lone-more s a places (t .held) (omega arith)

@@ -6,6 +6,7 @@ ghost use lib.Count.{ones};
 ghost use lib.ListN.{length, take, drop};
 ghost use Rattle.bits.specs.Bits.{toBits, bits, count, select as selectOf};
 ghost use Rattle.bits.specs.Spans.{SpanOf, LoneOf, onesBetween, NextAt, PartOf, WindowOf, Narrowed};
+use super::counts::ones_from;
 use super::fields::read_long;
 use super::ones::top;
 use super::ones::without;
@@ -249,14 +250,10 @@ pub fn lone_from(bytes: &[u8], start: usize, places: usize) -> Lone
             if without(part.bits, h) != 0 {
                 return Lone::More;
             }
-            let place = next - 1 - h - start;
-            if end <= next {
-                return Lone::At(place);
-            }
-            if next_from(bytes, next, end) < end {
+            if ones_from(bytes, next, end - next) != 0 {
                 return Lone::More;
             }
-            return Lone::At(place);
+            return Lone::At(next - 1 - h - start);
         }
         at = next;
     }

@@ -1,5 +1,6 @@
 -- The ones between two bits, the k-th one from a bit on, and the spans that these give.
 --   between-count   the ones between two bits are those of the bits from the one to the other
+--   between-told    the same, by the two bits
 --   between-past    no ones stand in no bits
 --   between-none    nor from a bit on and before it
 --   between-add     the ones up to a bit, and those from it on
@@ -13,7 +14,6 @@
 --   top-first       the highest one of a field's number is the field's first
 --   next-first      the first one of a part is the next
 --   next-later      as is the first one after zeros
---   next-none       where the next is the end, there is none
 --   next-end        where there is none, the end is
 --   spanned         what lies between a one and the next
 --   lone-none       a string without a one
@@ -46,6 +46,10 @@ module _ (s : List Bool) where
   between-count a n =
       let e : a + n - a ≡ n = omega arith in
       ap (λ (m : ℕ). count (take m (drop a s))) e
+
+  pub between-told : (a b : ℕ) {c : ℕ} → c ≡ count (take (b - a) (drop a s)) → onesBetween s a b ≡ c
+  unfolding onesBetween
+  between-told a b e = sym e
 
   pub between-past : (a b : ℕ) → b ≤ a → onesBetween s a b ≡ 0
   unfolding onesBetween count
@@ -210,13 +214,6 @@ next-later {s} {c} {b} {q} a h z n =
     let y = n .none in
     let e = between-add s a c q h f in
     record { after = omega arith; upto = n .upto; none = omega arith; one = n .one }
-
--- where it is the end, there are no ones
-pub next-none : {s : List Bool} {a b q : ℕ} → NextAt s a b q → b ≤ q → onesBetween s a b ≡ 0
-next-none {s} {a} {b} {q} n h =
-    let u = n .upto in
-    let d : b ≡ q = omega arith in
-    ap (onesBetween s a) d ∙ n .none
 
 pub next-end : {s : List Bool} (a b : ℕ) → a ≤ b → onesBetween s a b ≡ 0 → NextAt s a b b
 next-end a b h z = record { after = h; upto = omega arith; none = z; one = λ k. absurd (omega arith) }

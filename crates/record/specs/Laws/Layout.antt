@@ -47,19 +47,9 @@ module _ {bytes : List ℕ} (s : Shaped bytes) where
   unfolding recordLength
   used-held = omega (arith, s .sized)
 
-  -- less than a byte is spare
-  pub spare-few : 8 * length bytes < usedBits (terminals bytes) (wires bytes) + 8
-  unfolding recordLength
-  spare-few = omega (arith, s .sized)
-
   pub unary-held : 28 + (terminals bytes + 2 * wires bytes) ≤ 8 * length bytes
   unfolding usedBits
   unary-held = omega (arith, used-held)
-
-  pub field-held : (p : ℕ) → p < 2 * wires bytes
-      → 28 + (terminals bytes + 2 * wires bytes) + 12 * p + 12 ≤ 8 * length bytes
-  unfolding usedBits
-  field-held p h = omega (arith, used-held)
 
   -- ---- D
 

@@ -1,10 +1,11 @@
 -- `spans::lone_from` meets its contract: no one stands in the parts passed.
+use mathlib.Core.Path.{_≡_, _∙_}
 use Prim.Native.Nat.{_+_, _-_}
 use native.Mathlib.Omega.{arith}
 use Rattle.bits.specs.Bits.{bits}
-use Rattle.bits.specs.Spans.{Cleared}
+use Rattle.bits.specs.Spans.{Cleared, onesBetween}
 use Rattle.bits.specs.Laws.Bytes.{length-bits}
-use Rattle.bits.specs.Laws.Spans.{between-past, next-none, lone-none}
+use Rattle.bits.specs.Laws.Spans.{between-told, lone-none}
 use Rattle.bits.proofs.Passes.{cleared-start, cleared-more, cleared-end}
 use Rattle.bits.proofs.Passes.{Topped, topped-one, lone-second, lone-further, lone-only}
 use Rattle.bits.proofs.spans.lone_from.Statement.{statement}
@@ -57,45 +58,42 @@ returns c =
     let t = c .before .before in
     lone-second (begun (read t) .args .places) (topped t) (c .before .without .ensures) (c .if2 .taken)
 
-sub-place : tie.Need-sub-place Inv-loop μ-loop
-sub-place c = let l = topped-one (topped (c .before .before)) .0 in omega arith
-
-sub-place-2 : tie.Need-sub-place-2 Inv-loop μ-loop
-sub-place-2 c = let l = topped-one (topped (c .before .before)) .0 in omega arith
-
-sub-place-3 : tie.Need-sub-place-3 Inv-loop μ-loop
-sub-place-3 c = let l = topped-one (topped (c .before .before)) .0 in omega arith
+-- the ones after it
+later : (c : tie.After-ones-from Inv-loop μ-loop)
+    → let t = c .before .before .before in
+    onesBetween (bits (begun (read t) .args .bytes .now)) (passed (read t) .loop .at + read t .part-from .result .width)
+    (begun (read t) .args .start + begun (read t) .args .places)
+    ≡ c .ones-from .result
+later c = between-told (bits (begun (read (c .before .before .before)) .args .bytes .now)) _ _ (c .ones-from .ensures)
 
 returns-2 : tie.Need-returns-2 Inv-loop μ-loop
 returns-2 c =
-    let w = c .before .before in
-    let t = w .before in
-    let none = between-past (bits (begun (read t) .args .bytes .now)) _ _ (c .if3 .taken) in
-    lone-only (begun (read t) .args .places) (topped t) (w .without .ensures) (c .before .if2 .left) none
+    let t = c .before .before .before .before in
+    lone-further (begun (read t) .args .places) (topped t) (later (c .before)) (c .if3 .taken)
 
-next-from-requires : tie.Need-next-from-requires Inv-loop μ-loop
-next-from-requires c κs = (omega arith, λ h. omega arith, omega arith)
+sub-t12 : tie.Need-sub-t12 Inv-loop μ-loop
+sub-t12 c = let l = topped-one (topped (c .before .before .before .before)) .0 in omega arith
+
+sub-t13 : tie.Need-sub-t13 Inv-loop μ-loop
+sub-t13 c = let l = topped-one (topped (c .before .before .before .before)) .0 in omega arith
+
+sub-t14 : tie.Need-sub-t14 Inv-loop μ-loop
+sub-t14 c = let l = topped-one (topped (c .before .before .before .before)) .0 in omega arith
 
 returns-3 : tie.Need-returns-3 Inv-loop μ-loop
 returns-3 c =
-    let t = c .before .before .before .before .before in
-    lone-further (begun (read t) .args .places) (topped t) (c .before .next-from .ensures) (c .if4 .taken)
-
-returns-4 : tie.Need-returns-4 Inv-loop μ-loop
-returns-4 c =
-    let w = c .before .before .before .before in
+    let w = c .before .before .before in
     let t = w .before in
-    let z = c .before .before .before .if2 .left in
-    let none = next-none (c .before .next-from .ensures) (c .if4 .left) in
-    lone-only (begun (read t) .args .places) (topped t) (w .without .ensures) z none
+    let none = later (c .before) ∙ c .if3 .left in
+    lone-only (begun (read t) .args .places) (topped t) (w .without .ensures) (c .before .before .if2 .left) none
 
 loop-again : tie.Need-loop-again Inv-loop μ-loop
 loop-again c =
     let r = c .before .before .before in
     cleared-more (passed r .loop .inv) (omega arith) (r .part-from .ensures) (c .if1 .left)
 
-returns-5 : tie.Need-returns-5 Inv-loop μ-loop
-returns-5 c =
+returns-4 : tie.Need-returns-4 Inv-loop μ-loop
+returns-4 c =
     let a = c .before .before .before .args in
     let n = length-bits (a .bytes .now) in
     let none = cleared-end (c .before .loop .inv) (omega arith) in
@@ -105,5 +103,5 @@ pub lone-from-spec : {M : Type 1} → statement M
 lone-from-spec =
     tie.close
     (tie.spec Inv-loop μ-loop (λ c. omega arith) loop-holds (λ c κs. omega arith) (λ c. omega arith) top-requires
-    without-requires returns sub-place sub-place-2 sub-place-3 returns-2 next-from-requires returns-3 returns-4
-    (λ c. omega arith) loop-again returns-5)
+    without-requires returns (λ c. omega arith) (λ c κs. omega arith) returns-2 sub-t12 sub-t13 sub-t14 returns-3
+    (λ c. omega arith) loop-again returns-4)
