@@ -17,7 +17,7 @@
  *   - a pointer to uint16_t is aligned for it;
  *   - a buffer that is written overlaps no other slice of the call (a record and an index that are only read may
  *     overlap);
- *   - the stack has room: 264 KiB for celduga_table, 224 KiB for celduga_build, celduga_check, celduga_unpack and
+ *   - the stack has room: 192 KiB for celduga_table, 152 KiB for celduga_build, celduga_check, celduga_unpack and
  *     celduga_loop_figure, 16 KiB for others.
  *
  * Threads. There is no state, and no pointer is kept after a call. Calls may run at once where none writes what another

@@ -64,9 +64,9 @@
 //!
 //! | call | stack |
 //! |---|---|
-//! | [`table`](fn@table), [`Record::table`], [`Record::sections`] | 264 KiB |
-//! | [`check`], [`unpack`], [`loop_figure`], [`Record::new`], [`Record::unpack`], [`Record::loop_figure`] | 224 KiB |
-//! | [`build`], [`Record::index`] | 224 KiB |
+//! | [`table`](fn@table), [`Record::table`], [`Record::sections`] | 192 KiB |
+//! | [`check`], [`unpack`], [`loop_figure`], [`Record::new`], [`Record::unpack`], [`Record::loop_figure`] | 152 KiB |
+//! | [`build`], [`Record::index`] | 152 KiB |
 //! | all others | 16 KiB |
 //!
 //! The calls of the first three lines take time linear in the record's bits.
