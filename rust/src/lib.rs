@@ -56,9 +56,9 @@
 //!
 //! The build script links `target/staticlib/libcelduga.a` in the project's root. Where it is missing, or older than the
 //! crates that it is made from, `rt staticlib celduga` proves and makes it first, which takes minutes
-//! (`cargo build -vv` shows it at work); `rt` is the toolchain of Rattle, the language that the library is written in. Where the
-//! environment variable `CELDUGA_ARCHIVE` names an archive (a relative path counts from the package's folder), that one
-//! is linked, and `rt` is not needed. The archive is for x86-64 Linux.
+//! (`cargo build -vv` shows it at work); `rt` is the toolchain of Rattle, the language that the library is written in.
+//! Where the environment variable `CELDUGA_ARCHIVE` names an archive (a relative path counts from the package's folder),
+//! that one is linked, and `rt` is not needed. The archive is for x86-64 Linux.
 //!
 //! A call has no state and may run on any thread. So much stack is taken at most:
 //!
