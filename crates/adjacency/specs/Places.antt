@@ -11,7 +11,7 @@ unfoldable pub anyIn : (ℕ → Bool) → List ℕ → Bool
 anyIn test [] = false
 anyIn test (v ∷ l) = test v || anyIn test l
 
--- a test of a terminal u and a neighbour v holds at some place of the blocks; the first block is terminal u's
+-- a test of a vertex u and a neighbour v holds at some place of the blocks; the first block is vertex u's
 unfoldable pub anyFrom : (ℕ → ℕ → Bool) → ℕ → Blocks → Bool
 anyFrom test u [] = false
 anyFrom test u (b ∷ g) = anyIn (test u) b || anyFrom test (suc u) g
@@ -19,7 +19,7 @@ anyFrom test u (b ∷ g) = anyIn (test u) b || anyFrom test (suc u) g
 abbrev pub anyPlace : (ℕ → ℕ → Bool) → Blocks → Bool
 anyPlace test g = anyFrom test 0 g
 
--- a neighbour that is no terminal, or the terminal itself
+-- a neighbour that is no vertex, or the vertex itself
 unfoldable pub stray : Blocks → ℕ → ℕ → Bool
 stray g u v = leb (length g) v || eqb v u
 

@@ -1,4 +1,4 @@
--- The blocks turned round: a second row, cut by the same starts, whose part v lists the terminals whose blocks have v,
+-- The blocks turned round: a second row, cut by the same starts, whose part v lists the vertices whose blocks have v,
 -- in order.
 use Prim.Native.Nat.{ℕ, _+_, _≤_, _<_}
 use mathlib.Core.Path.{_≡_}
@@ -9,7 +9,7 @@ use Rattle.graph.specs.Graph.{Blocks, block, mentions}
 use Rattle.adjacency.specs.Arrays.{cut, Divided, Holds, upTo}
 use Rattle.adjacency.specs.Places.{anyPlace, stray, doubled, oneSided}
 
--- `next` has for each terminal the place of its part that comes next: part v up to there has w as often as w's block up
+-- `next` has for each vertex the place of its part that comes next: part v up to there has w as often as w's block up
 -- to place p has v
 pub record Turned (starts nbrs reverse next : List ℕ) (p : ℕ) : Type 0 where
   pub divided : Divided starts nbrs
@@ -20,7 +20,7 @@ pub record Turned (starts nbrs reverse next : List ℕ) (p : ℕ) : Type 0 where
   pub same : (v w : ℕ) → v + 1 < length starts
       → mentions w (upTo starts reverse v (getD next v 0)) ≡ mentions v (upTo starts nbrs w p)
 
--- the same at a place p of u's block: what stands before it is a terminal other than the block's own, and each part
+-- the same at a place p of u's block: what stands before it is a vertex other than the block's own, and each part
 -- rises up to u at most
 pub record Turning (starts nbrs reverse next : List ℕ) (u p : ℕ) : Type 0 where
   pub turned : Turned starts nbrs reverse next p
@@ -41,7 +41,7 @@ pub record AtStarts (starts next : List ℕ) : Type 0 where
 pub record AtEnds (starts next : List ℕ) : Type 0 where
   pub ends : (v : ℕ) → v + 1 < length starts → getD next v 0 ≡ getD starts (v + 1) 0
 
--- the parts before u's, turned round once more, are found in the parts again, and none of them has a terminal twice
+-- the parts before u's, turned round once more, are found in the parts again, and none of them has a vertex twice
 pub record Matching (starts reverse next : List ℕ) (u : ℕ) : Type 0 where
   pub turned : Turned starts reverse reverse next (getD starts u 0)
   pub single : (w : ℕ) → w < u → (v : ℕ) → mentions v (block (cut starts reverse) w) ≤ 1
@@ -52,7 +52,7 @@ pub record Kept (g : Blocks) : Type 0 where
   pub no-double : anyPlace (doubled g) g ≡ false
   pub no-one-sided : anyPlace (oneSided g) g ≡ false
 
--- what the parts of such a graph are: each two terminals stand equally often in each other's part, and each part rises
+-- what the parts of such a graph are: each two vertices stand equally often in each other's part, and each part rises
 -- from place to place
 pub record Orderly (starts reverse : List ℕ) : Type 0 where
   pub balanced : (v w : ℕ) → v + 1 < length starts

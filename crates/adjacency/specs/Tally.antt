@@ -1,7 +1,7 @@
 -- What the passes over the places tell: what contracts inside this crate cite.
 --   Tells                   a yes brings one thing, and a no rules another out
---   Stray                   rule 6: a neighbour that is no terminal, or the block's own
---   Fresh, Twice, Repeats   rule 7: for each terminal a mark, 1 + the last block that has it
+--   Stray                   rule 6: a neighbour that is no vertex, or the block's own
+--   Fresh, Twice, Repeats   rule 7: for each vertex a mark, 1 + the last block that has it
 use Prim.Native.Nat.{ℕ, _+_, _≤_, _<_}
 use mathlib.Core.Path.{_≡_}
 use mathlib.Core.Bool.{Bool, true, false}
@@ -26,12 +26,12 @@ pub record Fresh (starts : List ℕ) (mark : ℕ) (last : List ℕ) : Type 0 whe
   pub size : length last + 1 ≡ length starts
   pub below : (v : ℕ) → getD last v 0 < mark
 
--- a terminal that a block mentions twice
+-- a vertex that a block mentions twice
 pub record Twice (b : List ℕ) : Type 0 where
   pub who : ℕ
   pub twice : 1 < mentions who b
 
--- r tells whether u's block mentions some terminal twice; after a no, no mark is above u + 1
+-- r tells whether u's block mentions some vertex twice; after a no, no mark is above u + 1
 pub record Repeats (starts nbrs : List ℕ) (u : ℕ) (last : List ℕ) (r : Bool) : Type 0 where
   pub found : r ≡ true → Twice (block (cut starts nbrs) u)
   pub none : r ≡ false → (v : ℕ) → mentions v (block (cut starts nbrs) u) ≤ 1

@@ -1,4 +1,4 @@
-// Rule 7 in one pass over the places: each terminal is marked with the last block that has it, and a mark of this block
+// Rule 7 in one pass over the places: each vertex is marked with the last block that has it, and a mark of this block
 // is a repeat.
 ghost use mathlib.Core.Path.{_≡_};
 ghost use Prim.Native.Nat.{_+_};
@@ -30,7 +30,7 @@ fn repeats(starts: &[u16], nbrs: &[u16], u: usize, last: &mut [u16]) -> bool
     false
 }
 
-// Rule 7: a neighbour stands twice in one block. The marks have room for a number for each terminal.
+// Rule 7: a neighbour stands twice in one block. The marks have room for a number for each vertex.
 pub fn some_doubled(starts: &[u16], nbrs: &[u16], last: &mut [u16]) -> bool
     ghost { Blocks }
     requires { λ g. ⌜ cut (now starts) (now nbrs) ≡ g ⌝ }

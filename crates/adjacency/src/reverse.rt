@@ -1,7 +1,7 @@
 // Whether rules 6 to 8 are kept, in two passes over the places. The blocks are turned round: in a second row, cut by
-// the same starts, part v lists the terminals whose blocks have v, in order. The parts turned round once more must be
-// the parts themselves, which is found by reading on in each of them. Then every two terminals mention each other
-// equally often. Where the rules are kept, the parts are their own: both list the same terminals, and both rise.
+// the same starts, part v lists the vertices whose blocks have v, in order. The parts turned round once more must be
+// the parts themselves, which is found by reading on in each of them. Then every two vertices mention each other
+// equally often. Where the rules are kept, the parts are their own: both list the same vertices, and both rise.
 ghost use mathlib.Core.Path.{_≡_};
 ghost use Prim.Native.Nat.{_+_, _-_, _<_};
 ghost use lib.ListN.{length, getD};
@@ -45,7 +45,7 @@ fn all_full(starts: &[u16], next: &[u16]) -> bool
     true
 }
 
-// The neighbour at place p of block u gets u in its part. A no where it is no terminal, or u itself, or its part is
+// The neighbour at place p of block u gets u in its part. A no where it is no vertex, or u itself, or its part is
 // full.
 fn turn_place(
     starts: &[u16],
@@ -119,7 +119,7 @@ fn turn_all(starts: &[u16], nbrs: &[u16], reverse: &mut [u16], next: &mut [u16])
     true
 }
 
-// For the terminal at place p of part u its own part is read on by one, and must have u there.
+// For the vertex at place p of part u its own part is read on by one, and must have u there.
 fn match_place(starts: &[u16], reverse: &[u16], u: usize, p: usize, next: &mut [u16]) -> bool
     requires { ⌜ (Turned (now starts) (now reverse) (now reverse) (now next) p) × (Holds (now starts) u p) ⌝ }
     ensures { λ r. ⌜
@@ -142,7 +142,7 @@ fn match_place(starts: &[u16], reverse: &[u16], u: usize, p: usize, next: &mut [
     true
 }
 
-// The same for all places of part u. Its terminals rise, so none stands in it twice.
+// The same for all places of part u. Its vertices rise, so none stands in it twice.
 fn match_block(starts: &[u16], reverse: &[u16], u: usize, next: &mut [u16]) -> bool
     requires { ⌜ (Matching (now starts) (now reverse) (now next) u) × (u + 1 < length (now starts)) ⌝ }
     ensures { λ r. ⌜

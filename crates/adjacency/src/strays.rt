@@ -1,4 +1,4 @@
-// Rule 6: a neighbour that is no terminal, or the terminal itself.
+// Rule 6: a neighbour that is no vertex, or the vertex itself.
 ghost use mathlib.Core.Path.{_≡_};
 ghost use Prim.Native.Nat.{_+_, _<_};
 ghost use lib.ListN.{length};

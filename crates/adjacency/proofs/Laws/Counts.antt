@@ -1,4 +1,4 @@
--- How often a terminal stands in a block before a place.
+-- How often a vertex stands in a block before a place.
 use Prim.Native.Nat.{ℕ, zero, suc, _+_, _-_, _≤_, _<_}
 use mathlib.Core.Path.{_≡_, sym, _∙_, ap}
 use mathlib.Core.List.{List, [], _∷_}

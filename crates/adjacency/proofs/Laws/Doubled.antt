@@ -1,4 +1,4 @@
--- Rule 7, all blocks: no terminal stands twice in the blocks so far.
+-- Rule 7, all blocks: no vertex stands twice in the blocks so far.
 use Prim.Native.Nat.{ℕ, _+_, _-_, _≤_, _<_}
 use mathlib.Core.Path.{_≡_, sym}
 use mathlib.Core.Bool.{Bool, true, false}
@@ -18,7 +18,7 @@ use Rattle.adjacency.specs.Laws.Stores.{cell-zero}
 use Rattle.adjacency.specs.Laws.Rows.{length-cut}
 use Rattle.adjacency.proofs.Laws.Loops.{Sized, sized-start}
 
--- the marks are of blocks before u, in which no terminal stands twice
+-- the marks are of blocks before u, in which no vertex stands twice
 pub record Single (starts nbrs : List ℕ) (n u : ℕ) (last : List ℕ) : Type 0 where
   pub sized : Sized starts nbrs n
   pub fresh : Fresh starts (u + 1) last

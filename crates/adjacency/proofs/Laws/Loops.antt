@@ -1,4 +1,4 @@
--- What a loop over all terminals knows, and a loop over the places of one block: how the counts of the part passed go
+-- What a loop over all vertices knows, and a loop over the places of one block: how the counts of the part passed go
 -- on from place to place.
 use Prim.Native.Nat.{ℕ, _+_, _-_, _≤_, _<_}
 use mathlib.Core.Path.{_≡_, sym, _∙_, ap}
@@ -11,9 +11,9 @@ use Rattle.adjacency.specs.Laws.Rows.{starts-fit}
 use Rattle.adjacency.proofs.Laws.Parts.{upto-past}
 use Rattle.adjacency.proofs.Laws.Counts.{count-hit, count-miss}
 
--- ---- all terminals
+-- ---- all vertices
 
--- u is one of n terminals, or n
+-- u is one of n vertices, or n
 pub record Round (starts : List ℕ) (n u : ℕ) : Type 0 where
   pub number : n + 1 ≡ length starts
   pub upto : u ≤ n
@@ -32,7 +32,7 @@ module _ {starts : List ℕ} {n u : ℕ} where
     pub round-end : n ≤ u → u ≡ length starts - 1
     round-end l = let e = r .number in let h = r .upto in omega arith
 
--- there are n terminals
+-- there are n vertices
 pub record Sized (starts nbrs : List ℕ) (n : ℕ) : Type 0 where
   pub arrays : Arrays starts nbrs
   pub number : n + 1 ≡ length starts
@@ -72,7 +72,7 @@ module _ {starts : List ℕ} {u end p : ℕ} where
     pub along-end : end ≤ p → p ≡ getD starts (u + 1) 0
     along-end l = omega arith
 
--- the same, in arrays whose neighbours are terminals
+-- the same, in arrays whose neighbours are vertices
 pub record Span (starts nbrs : List ℕ) (u end p : ℕ) : Type 0 where
   pub at : At starts nbrs u
   pub along : Along starts u end p

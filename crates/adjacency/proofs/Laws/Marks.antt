@@ -1,4 +1,4 @@
--- Rule 7, one block: a terminal has the block's mark where it stood in the block before.
+-- Rule 7, one block: a vertex has the block's mark where it stood in the block before.
 use Prim.Native.Nat.{ℕ, _+_, _≤_, _<_}
 use mathlib.Core.Path.{_≡_, refl, sym, _∙_, ap}
 use mathlib.Core.Bool.{true, false, true≢false}
@@ -13,12 +13,12 @@ use Rattle.adjacency.specs.Laws.Stores.{cell-same, cell-other}
 use Rattle.adjacency.proofs.Laws.Counts.{count-start, count-part}
 use Rattle.adjacency.proofs.Laws.Loops.{Span, span-start, span-whole, span-known, span-hit, span-miss, span-more}
 
--- the mark x of a terminal that stood in the block so many times
+-- the mark x of a vertex that stood in the block so many times
 pub data Seen (times mark x : ℕ) : Type 0 where
   never : times ≡ 0 → x < mark → Seen times mark x
   once : times ≡ 1 → x ≡ mark → Seen times mark x
 
--- the terminals at the places of u's block before p are marked, and none stood there twice
+-- the vertices at the places of u's block before p are marked, and none stood there twice
 pub record Marked (starts nbrs : List ℕ) (u end p : ℕ) (last : List ℕ) : Type 0 where
   pub span : Span starts nbrs u end p
   pub size : length last + 1 ≡ length starts

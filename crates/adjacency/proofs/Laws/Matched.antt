@@ -1,4 +1,4 @@
--- The parts turned round once more and found again; no part has a terminal twice.
+-- The parts turned round once more and found again; no part has a vertex twice.
 use Prim.Native.Nat.{ℕ, _+_, _-_, _≤_, _<_}
 use mathlib.Core.Path.{_≡_, refl, sym, _∙_, ap}
 use mathlib.Core.List.{List}

@@ -23,7 +23,7 @@ module _ {starts nbrs reverse next : List ℕ} (done : TurnedBefore starts nbrs 
   pub turned-end : Turning starts nbrs reverse next (length starts - 1) (length nbrs)
   turned-end = rw (done .turned .divided .last) at done
 
-  -- a part has w as often as w's block has the part's terminal
+  -- a part has w as often as w's block has the part's vertex
   pub turned-whole : AtEnds starts next → (v : ℕ) → v + 1 < length starts → (w : ℕ)
       → mentions w (block (cut starts reverse) v) ≡ mentions v (block (cut starts nbrs) w)
   turned-whole f v k w =
@@ -43,7 +43,7 @@ module _ {starts nbrs reverse next next′ : List ℕ} (t : TurnedBefore starts 
       let c = count-part starts reverse v (getD next′ v 0) w in
       omega arith
 
-  -- a neighbour of u is a terminal, and u's block has it once
+  -- a neighbour of u is a vertex, and u's block has it once
   module _ {u j v : ℕ} (p : Place (cut starts nbrs) u j v) where
     from : u + 1 < length starts
     from = let a = length-cut starts nbrs in let b = source p in omega arith

@@ -44,15 +44,15 @@ module _ {g : Blocks} (k : Kept g) where
 -- place p of block u
 module _ {starts nbrs : List ℕ} (i : Divided starts nbrs) {u p : ℕ} (h : Holds starts u p) {v : ℕ}
     (is-v : v ≡ getD nbrs p 0) where
-  pub no-terminal : Kept (cut starts nbrs) → length starts - 1 ≤ v → ⊥
-  no-terminal k l = let a = well k .in-range u _ v (place-at i h is-v) in let b = length-cut starts nbrs in omega arith
+  pub no-vertex : Kept (cut starts nbrs) → length starts - 1 ≤ v → ⊥
+  no-vertex k l = let a = well k .in-range u _ v (place-at i h is-v) in let b = length-cut starts nbrs in omega arith
 
   pub no-own : Kept (cut starts nbrs) → v ≡ u → ⊥
   no-own k e = well k .no-loop u (p - getD starts u 0) (rw e at (place-at i h is-v))
 
--- ---- parts and blocks in which two terminals stand equally often
+-- ---- parts and blocks in which two vertices stand equally often
 
--- a part that is full has no terminal to come
+-- a part that is full has no vertex to come
 module _ {starts nbrs reverse next : List ℕ} {p : ℕ} (t : Turned starts nbrs reverse next p) {u : ℕ}
     (h : Holds starts u p) {v : ℕ}
     (is-v : v ≡ getD nbrs p 0) (k : v + 1 < length starts) where
@@ -111,7 +111,7 @@ module _ {starts nbrs reverse next : List ℕ} (done : TurnedBefore starts nbrs 
           let n = t .near v h in
           omega (arith, length-take (getD next v 0 - getD starts v 0) (block (cut starts reverse) v))
 
-  -- the parts are balanced as the blocks are; a terminal that a part has twice would be twice in a block
+  -- the parts are balanced as the blocks are; a vertex that a part has twice would be twice in a block
   pub orderly : Orderly starts reverse
   orderly = record { balanced = balanced; rising = rising }
     where
@@ -150,9 +150,9 @@ module _ {starts reverse next : List ℕ} {p : ℕ} (t : Turned starts reverse r
   more : mentions w (upTo starts reverse u p) + 1 ≤ mentions w (block (cut starts reverse) u)
   more = let a = count-hit (t .divided) u p w h is-w in let b = count-part starts reverse u (p + 1) w in omega arith
 
-  pub all-terminals : length starts - 1 ≤ w → ⊥
+  pub all-vertices : length starts - 1 ≤ w → ⊥
   unfolding mentions
-  all-terminals l =
+  all-vertices l =
       let a = length-cut starts reverse in
       let b = o .balanced u w (h .inside) in
       let e = ap (mentions u)
@@ -168,7 +168,7 @@ module _ {starts reverse next : List ℕ} {p : ℕ} (t : Turned starts reverse r
       at : Holds starts w q
       at = let n = t .near w k in record { inside = k; low = omega arith; high = omega arith }
 
-      -- a terminal before u is passed wherever it stands
+      -- a vertex before u is passed wherever it stands
       not-before : getD reverse q 0 < u → ⊥
       not-before l =
           let x : ℕ = getD reverse q 0 in
@@ -182,7 +182,7 @@ module _ {starts reverse next : List ℕ} {p : ℕ} (t : Turned starts reverse r
           let f = o .balanced w x k in
           omega arith
 
-      -- past a greater terminal u is not found again
+      -- past a greater vertex u is not found again
       beyond : u < getD reverse q 0 → (d : ℕ) → Holds starts w (q + d)
           → (u < getD reverse (q + d) 0)
           × (mentions u (upTo starts reverse w (q + d + 1)) ≡ mentions u (upTo starts reverse w q))

@@ -22,7 +22,7 @@ module _ (starts nbrs : List ℕ) (u p : ℕ) where
   unfolding upTo
   upto-whole h = take-all (p - getD starts u 0) (block (cut starts nbrs) u) h
 
-  -- u is no terminal
+  -- u is no vertex
   upto-none : length starts ≤ u + 1 → upTo starts nbrs u p ≡ block (cut starts nbrs) u
   upto-none h =
       let l = length-cut starts nbrs in

@@ -51,9 +51,9 @@ module _ {starts nbrs : List ℕ} {u end p : ℕ} where
             yea (record
             { place = p; held = along-holds (s .along) h; stands = ap (stray (cut starts nbrs) u) (sym is-v) ∙ e })
 
-        pub no-terminal : length starts - 1 ≤ v → Tells (Stray starts nbrs u) (Stray starts nbrs u) true
+        pub no-vertex : length starts - 1 ≤ v → Tells (Stray starts nbrs u) (Stray starts nbrs u) true
         unfolding stray
-        no-terminal k = let l = length-cut starts nbrs in found (rw (le-leb (length (cut starts nbrs)) v (omega arith)))
+        no-vertex k = let l = length-cut starts nbrs in found (rw (le-leb (length (cut starts nbrs)) v (omega arith)))
 
         module _ (k : v < length starts - 1) where
           pub own-neighbour : v ≡ u → Tells (Stray starts nbrs u) (Stray starts nbrs u) true

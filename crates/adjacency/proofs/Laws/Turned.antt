@@ -147,7 +147,7 @@ module _ {starts nbrs reverse next : List ℕ} {u p : ℕ} (t : Turning starts n
       go (yes e) (yes f) = (omega arith, λ d. o (sym e ∙ d ∙ f))
 
   module _ (k : v + 1 < length starts) {q : ℕ} (is-q : q ≡ getD next v 0) (free : q ≡ getD starts (v + 1) 0 → ⊥) where
-    -- past the store, part v has one terminal more, and the others what they had
+    -- past the store, part v has one vertex more, and the others what they had
     data Grown (x r : ℕ) : Type 0 where
       last : r ≡ q → x ≡ v → Grown x r
       old : r < getD next x 0 → Grown x r

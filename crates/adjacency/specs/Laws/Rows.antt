@@ -117,7 +117,7 @@ module _ {starts nbrs : List ℕ} (i : Divided starts nbrs) where
       let b = row-size i u k in
       (record { inside = k; low = omega arith; high = omega arith }, sym (p .leads) ∙ row-neighbour i u k j a)
 
--- what a block mentions is a terminal
+-- what a block mentions is a vertex
 pub place-known : {starts nbrs : List ℕ} {u j v : ℕ} → At starts nbrs u → Place (cut starts nbrs) u j v
     → v + 1 < length starts
 place-known {starts} {nbrs} {u} {j} at p =

@@ -1,4 +1,4 @@
--- `doubles::repeats` meets its contract: the terminals at the places passed are marked.
+-- `doubles::repeats` meets its contract: the vertices at the places passed are marked.
 use mathlib.Core.Path.{sym, _∙_}
 use Prim.Native.Nat.{_-_}
 use native.Mathlib.Omega.{arith}

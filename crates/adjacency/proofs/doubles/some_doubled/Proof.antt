@@ -1,4 +1,4 @@
--- `doubles::some_doubled` meets its contract: the blocks passed mention no terminal twice.
+-- `doubles::some_doubled` meets its contract: the blocks passed mention no vertex twice.
 use mathlib.Core.Path.{refl}
 use Prim.Native.Nat.{ℕ, _-_}
 use native.Mathlib.Omega.{arith}

@@ -1,9 +1,9 @@
--- `reverse::match_place` meets its contract: the part of the terminal at p has u next.
+-- `reverse::match_place` meets its contract: the part of the vertex at p has u next.
 use mathlib.Core.Path.{sym, _∙_}
 use native.Mathlib.Omega.{arith}
 use Rattle.adjacency.specs.Tally.{yea, nay}
 use Rattle.adjacency.proofs.Laws.Turned.{turned-place, next-place, turned-more}
-use Rattle.adjacency.proofs.Laws.Orderly.{all-terminals, never-full, next-is}
+use Rattle.adjacency.proofs.Laws.Orderly.{all-vertices, never-full, next-is}
 use borrow.Author.Needs.{needs}
 use Rattle.adjacency.proofs.reverse.match_place.Statement.{statement}
 use Rattle.adjacency.proofs.reverse.match_place.Tie as tie
@@ -17,7 +17,7 @@ returns : tie.Need-returns
 returns c =
     let at-get = c .before in
     let start = at-get .before .before .before .before in
-    nay (λ o. all-terminals (start .pre .0) o (start .pre .1) (at-get .get .ensures .0) (c .if1 .taken))
+    nay (λ o. all-vertices (start .pre .0) o (start .pre .1) (at-get .get .ensures .0) (c .if1 .taken))
 
 returns-2 : tie.Need-returns-2
 returns-2 c =

@@ -3,7 +3,7 @@ use mathlib.Core.Path.{sym, _∙_}
 use native.Mathlib.Omega.{arith}
 use Rattle.adjacency.specs.Tally.{yea, nay}
 use Rattle.adjacency.proofs.Laws.Turned.{turned-place, next-place, turning-more}
-use Rattle.adjacency.proofs.Laws.Orderly.{no-terminal, no-own, full-refused}
+use Rattle.adjacency.proofs.Laws.Orderly.{no-vertex, no-own, full-refused}
 use borrow.Author.Needs.{needs}
 use Rattle.adjacency.proofs.reverse.turn_place.Statement.{statement}
 use Rattle.adjacency.proofs.reverse.turn_place.Tie as tie
@@ -17,7 +17,7 @@ returns : tie.Need-returns
 returns c =
     let at-get = c .before in
     let start = at-get .before .before .before .before .before in
-    nay (λ k. no-terminal (start .pre .0 .turned .divided) (start .pre .1) (at-get .get .ensures .0) k (c .if1 .taken))
+    nay (λ k. no-vertex (start .pre .0 .turned .divided) (start .pre .1) (at-get .get .ensures .0) k (c .if1 .taken))
 
 returns-2 : tie.Need-returns-2
 returns-2 c =

@@ -7,7 +7,7 @@ use Rattle.adjacency.proofs.Laws.Strays.{
   strayless-place,
   strayless-more,
   strayless-end,
-  no-terminal,
+  no-vertex,
   own-neighbour,
 }
 use Rattle.adjacency.proofs.strays.stray_in.Statement.{statement}
@@ -40,7 +40,7 @@ returns c =
     let at-get3 = c .before in
     let at-loop-test = at-get3 .before in
     let at-loop = at-loop-test .before in
-    no-terminal (at-loop .loop .inv) (at-loop-test .loop-test .taken) (at-get3 .get3 .ensures .0) (c .if1 .taken)
+    no-vertex (at-loop .loop .inv) (at-loop-test .loop-test .taken) (at-get3 .get3 .ensures .0) (c .if1 .taken)
 
 returns-2 : tie.Need-returns-2 Inv-loop μ-loop
 returns-2 c =
