@@ -16,8 +16,8 @@
 //!
 //! // 1: 3 2; 2: 1 3; 3: 2 4 1; 4: 3; 5: 6; 6: 5
 //! let bytes = [
-//!     0x00, 0x30, 0x00, 0x59, 0x22, 0xA0, 0x02, 0x00, 0x10, 0x00, 0x00, 0x20, 0x01, 0x00, 0x30, 0x00, 0x00, 0x20, 0x05,
-//!     0x00, 0x40,
+//!     0x00, 0x30, 0x00, 0x59, 0x22, 0xA0, 0x02, 0x00, 0x10, 0x00, 0x00, 0x20, 0x01, 0x00, 0x30, 0x00, 0x00, 0x20,
+//!     0x05, 0x00, 0x40,
 //! ];
 //! let record = Record::new(&bytes)?;
 //! let sections: Vec<Vec<Vertex>> = record.sections().map(|section| section.terminals).collect();
@@ -57,8 +57,8 @@
 //! The build script links `target/staticlib/libcelduga.a` in the project's root. Where it is missing, or older than the
 //! crates that it is made from, `rt staticlib celduga` proves and makes it first, which takes minutes
 //! (`cargo build -vv` shows it at work); `rt` is the toolchain of Rattle, the language that the library is written in.
-//! Where the environment variable `CELDUGA_ARCHIVE` names an archive (a relative path counts from the package's folder),
-//! that one is linked, and `rt` is not needed. The archive is for x86-64 Linux.
+//! Where the environment variable `CELDUGA_ARCHIVE` names an archive (a relative path counts from the package's
+//! folder), that one is linked, and `rt` is not needed. The archive is for x86-64 Linux.
 //!
 //! A call has no state and may run on any thread. So much stack is taken at most:
 //!

@@ -1,4 +1,5 @@
--- Rules 6 to 8 of a graph, at once and in turn.
+-- The first broken one of rules 6 to 8 of a graph: none after a yes of the quick test, and else 6, 7 or, where both are
+-- kept, 8.
 use mathlib.Core.Path.{_≡_, refl, sym, _∙_}
 use mathlib.Core.Bool.{Bool, true, false}
 use mathlib.Core.List.{List, [], _∷_}
