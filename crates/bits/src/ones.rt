@@ -10,10 +10,10 @@ pub fn top(x: u64) -> usize
     63 - u64::leading_zeros(x) as usize
 }
 
-// x without its one at place h.
+// x without its highest one, at place h. The bit is turned, which takes the machine one step.
 pub fn without(x: u64, h: usize) -> u64
-    requires { ⌜ (h < 64) × (2 ^ h ≤ x) ⌝ }
+    requires { ⌜ (h < 64) × (2 ^ h ≤ x) × (x < 2 ^ (h + 1)) ⌝ }
     ensures { λ r. ⌜ r ≡ x - 2 ^ h ⌝ }
 {
-    x - (1 << h)
+    x ^ (1 << h)
 }

@@ -91,6 +91,17 @@ fn in_word(x: u64, k: usize) -> usize
     in_eight(c.bits, c.left, c.before)
 }
 
+// The same. The first one is found at once.
+fn nth_in_word(x: u64, k: usize) -> usize
+    requires { ⌜ (1 ≤ k) × (k ≤ ones x) ⌝ }
+    ensures { λ r. ⌜ (r ≡ selectOf (toBits 64 x) k) × (1 ≤ r) × (r ≤ 64) ⌝ }
+{
+    if k == 1 {
+        return 64 - top(x);
+    }
+    in_word(x, k)
+}
+
 fn lesser(a: usize, b: usize) -> usize
     ensures { λ r. ⌜ r ≡ min a b ⌝ }
 {
@@ -220,7 +231,7 @@ pub fn nth_from(bytes: &[u8], start: usize, places: usize, k: usize) -> usize
         let part = part_from(bytes, at, end);
         let c = ones_of(part.bits);
         if left <= c {
-            return at + part.width + in_word(part.bits, left) - 64 - start;
+            return at + part.width + nth_in_word(part.bits, left) - 64 - start;
         }
         left -= c;
         at += part.width;

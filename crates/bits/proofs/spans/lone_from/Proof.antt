@@ -51,7 +51,7 @@ top-requires : tie.Need-top-requires Inv-loop μ-loop
 top-requires c κs = let h = c .if1 .taken in omega arith
 
 without-requires : tie.Need-without-requires Inv-loop μ-loop
-without-requires c κs = (c .top .ensures .0, c .top .ensures .1)
+without-requires c κs = c .top .ensures
 
 returns : tie.Need-returns Inv-loop μ-loop
 returns c =

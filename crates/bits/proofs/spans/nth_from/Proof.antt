@@ -25,18 +25,18 @@ abbrev passed : tie.After-part-from Inv-loop μ-loop → tie.At-loop Inv-loop μ
 passed c = c .before .before
 
 -- the part in which the one stands, and its end, counted on by the place in the part's word
-abbrev read : tie.After-in-word Inv-loop μ-loop → tie.After-part-from Inv-loop μ-loop
+abbrev read : tie.After-nth-in-word Inv-loop μ-loop → tie.After-part-from Inv-loop μ-loop
 read c = c .before .before .before .before
 
-abbrev string : tie.After-in-word Inv-loop μ-loop → List Bool
+abbrev string : tie.After-nth-in-word Inv-loop μ-loop → List Bool
 string c =
     let a = begun (read c) .args in
     take (a .places) (drop (a .start) (bits (a .bytes .now)))
 
-abbrev to : tie.After-in-word Inv-loop μ-loop → ℕ
-to c = passed (read c) .loop .at + read c .part-from .result .width + c .in-word .result
+abbrev to : tie.After-nth-in-word Inv-loop μ-loop → ℕ
+to c = passed (read c) .loop .at + read c .part-from .result .width + c .nth-in-word .result
 
-found : (c : tie.After-in-word Inv-loop μ-loop)
+found : (c : tie.After-nth-in-word Inv-loop μ-loop)
     → (64 ≤ to c) × (begun (read c) .args .start ≤ to c - 64)
     × (to c - 64 - begun (read c) .args .start ≡ select (string c) (begun (read c) .args .k))
 found c =
@@ -44,7 +44,7 @@ found c =
     let l = length-bits (a .bytes .now) in
     let n = c .before .before .before .ones-of .ensures .0 in
     let inv = passed (read c) .loop .inv in
-    let p = c .in-word in
+    let p = c .nth-in-word in
     nth-found (a .places) inv (omega arith) (read c .part-from .ensures) (p .result) (omega arith) (omega arith)
     (p .ensures .0)
 

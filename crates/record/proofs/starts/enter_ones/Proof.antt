@@ -37,9 +37,7 @@ put-requires : tie.Need-put-requires Inv-loop μ-loop
 put-requires c κs = let b = bounds (c .before) in omega arith
 
 without-requires : tie.Need-without-requires Inv-loop μ-loop
-without-requires c κs =
-    let top = c .before .before .before .before .top in
-    (top .ensures .0, top .ensures .1)
+without-requires c κs = c .before .before .before .before .top .ensures
 
 add-next : tie.Need-add-next Inv-loop μ-loop
 add-next c = let b = bounds (c .before .before .before .before .before) in omega arith
