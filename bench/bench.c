@@ -1,15 +1,17 @@
 /* Compares the product with plain C on records of several shapes and sizes, first by answers and written buffers, then
    by time.
 
-   bench                           the tables, as Markdown
-   bench compare                   the answers alone
+   bench compare                   compares the answers
+   bench measure FILE              times both sides; FILE keeps the least time of each, of this run and of those before
+   bench print FILE                the tables of these times, as Markdown
    bench once SIDE OP SHAPE SIZE   what is counted: one call on a record, or for a query one for each argument.
                                    SIDE is product or plain, OP an operation, SIZE 0 to 3
    bench record SHAPE SIZE         that record's bytes
    bench sizes SHAPE SIZE          its n and m
 
    Both sides run in turn, many times, and the least time of each counts. No buffer is cleared between two timed
-   calls. */
+   calls. Where the linker puts the code changes its time: bench/run measures with programs that differ in nothing
+   else. */
 #define _POSIX_C_SOURCE 200809L
 #include "celduga.h"
 #include "plain.h"
@@ -21,8 +23,8 @@
 #include <strings.h>
 #include <time.h>
 
-enum { MOST_N = 4096, MOST_M = 16384, MOST_INDEX = 3 * 4608 + 6144, ARGUMENTS = 1024, ROUNDS = 40, QUERY_ROUNDS = 100,
-       STRING_ROUNDS = 400, LENGTHS = 7, COLUMNS = 4, SHOWN = 3 };
+enum { MOST_N = 4096, MOST_M = 16384, MOST_INDEX = 3 * 4608 + 6144, ARGUMENTS = 1024, ROUNDS = 20, QUERY_ROUNDS = 50,
+       STRING_ROUNDS = 200, LENGTHS = 7, COLUMNS = 4, SHOWN = 3 };
 
 /* The records of the smallest size, and of all: each size has a quarter as many as the one before, so that they make up
    one volume. */
@@ -345,10 +347,18 @@ struct times {
     double product, plain;
 };
 
+/* The least times. */
+static struct {
+    struct times whole[SHAPES][SIZES][WHOLE], queries[SHAPES][SHOWN][RANK], strings[LENGTHS][2];
+} least;
+
 /* The sizes at which queries are timed, and whose ratios are told. Dense and clique have fewer terminals, and records
    of like length. */
 static const int shown[SHOWN] = { 0, 1, SIZES - 1 };
 static const char *const shown_names[SHOWN] = { "n = 64", "n = 256", "largest" };
+
+/* The places of the strings that are timed. */
+static const size_t lengths[LENGTHS] = { 20, 60, 250, 1000, 4000, 36864, 430000 };
 
 /* The least and the greatest ratio of each operation, by size; of Rank and Select over all lengths, at 0. */
 static struct {
@@ -424,34 +434,34 @@ static void try_records(struct times *t, enum op op, const struct record *first,
 /* One shape: Check, Build, Unpack, Loop figure and Table at all sizes, in turn. At each size there are as many records
    as make up the same volume, since the processor learns the branches of a small record that it meets again and again.
    */
-static void print_shape(int shape)
+static void measure_shape(int shape)
 {
-    static const struct times nothing;
-    struct times t[WHOLE][SIZES];
     const struct record *first[SIZES];
-    double bits[SIZES];
     int size, op, round, i, made = 0;
     for (size = 0; size < SIZES; size++) {
         first[size] = &records[made];
-        bits[size] = 0;
-        for (i = 0; i < copies(size); i++) {
-            make_record(shape, size, i, &records[made]);
-            bits[size] += 8 * (double)records[made++].len;
-        }
-        for (op = 0; op < WHOLE; op++)
-            t[op][size] = nothing;
+        for (i = 0; i < copies(size); i++)
+            make_record(shape, size, i, &records[made++]);
     }
     for (round = 0; round < ROUNDS; round++)
         for (op = 0; op < WHOLE; op++)
             for (size = 0; size < SIZES; size++)
-                try_records(&t[op][size], (enum op)op, first[size], copies(size));
+                try_records(&least.whole[shape][size][op], (enum op)op, first[size], copies(size));
+}
+
+static void print_shape(int shape)
+{
+    const struct record *r = &records[0];
+    int size, op;
     for (size = 0; size < SIZES; size++) {
-        printf("| %s | %zu | %zu | %zu |", shape_names[shape], first[size]->n, first[size]->m, 8 * first[size]->len);
-        for (op = 0; op < WHOLE; op++)
-            printf(" %.2f | %.2f |", t[op][size].product / bits[size], noted((enum op)op, size, t[op][size]));
+        make_record(shape, size, 0, &records[0]);
+        printf("| %s | %zu | %zu | %zu |", shape_names[shape], r->n, r->m, 8 * r->len);
+        for (op = 0; op < WHOLE; op++) {
+            struct times t = least.whole[shape][size][op];
+            printf(" %.2f | %.2f |", t.product / (8 * (double)r->len * copies(size)), noted((enum op)op, size, t));
+        }
         printf("\n");
     }
-    fflush(stdout);
 }
 
 static void print_whole(void)
@@ -503,25 +513,30 @@ static void prepare_queries(void)
 }
 
 /* The queries on one record, in turn. */
-static void print_record_queries(int shape, int size)
+static void measure_queries(int shape, int i)
 {
-    struct times t[RANK];
     size_t count[RANK];
     int op, round;
-    make_record(shape, size, 0, &records[0]);
+    make_record(shape, shown[i], 0, &records[0]);
     ask(&records[0]);
     prepare_queries();
-    memset(t, 0, sizeof t);
     for (op = DEGREE; op < RANK; op++)
         count[op] = enough((enum op)op, (const size_t(*)[2])arguments[op]);
     for (round = 0; round < QUERY_ROUNDS; round++)
         for (op = DEGREE; op < RANK; op++)
-            try_both(&t[op], (enum op)op, (const size_t(*)[2])arguments[op], count[op]);
+            try_both(&least.queries[shape][i][op], (enum op)op, (const size_t(*)[2])arguments[op], count[op]);
+}
+
+static void print_record_queries(int shape, int i)
+{
+    int op;
+    make_record(shape, shown[i], 0, &records[0]);
     printf("| %s | %zu | %zu |", shape_names[shape], records[0].n, records[0].m);
-    for (op = DEGREE; op < RANK; op++)
-        printf(" %.0f | %.2f |", t[op].product, noted((enum op)op, size, t[op]));
+    for (op = DEGREE; op < RANK; op++) {
+        struct times t = least.queries[shape][i][op];
+        printf(" %.0f | %.2f |", t.product, noted((enum op)op, shown[i], t));
+    }
     printf("\n");
-    fflush(stdout);
 }
 
 static void print_queries(void)
@@ -536,16 +551,14 @@ static void print_queries(void)
     printf("\n");
     for (shape = 0; shape < SHAPES; shape++)
         for (i = 0; i < SHOWN; i++)
-            print_record_queries(shape, shown[i]);
+            print_record_queries(shape, i);
 }
 
 /* Rank and select in strings of drawn bytes that start inside a byte. Half the bits are ones, and on average half the
    string is read. */
-static void print_strings(void)
+static void measure_strings(void)
 {
-    static const size_t lengths[LENGTHS] = { 20, 60, 250, 1000, 4000, 36864, 430000 };
     static uint8_t bytes[MOST_RECORD_BYTES];
-    struct times t[LENGTHS][2];
     size_t count[LENGTHS][2], i, j, all;
     uint64_t state = 13;
     int round, o;
@@ -554,7 +567,6 @@ static void print_strings(void)
     string = bytes;
     string_len = sizeof bytes;
     string_start = 28;
-    memset(t, 0, sizeof t);
     for (i = 0; i < LENGTHS; i++) {
         string_places = lengths[i];
         all = plain_rank(string, string_len, string_start, string_places, string_places);
@@ -569,16 +581,24 @@ static void print_strings(void)
         for (i = 0; i < LENGTHS; i++) {
             string_places = lengths[i];
             for (o = 0; o < 2; o++)
-                try_both(&t[i][o], (enum op)(RANK + o), (const size_t(*)[2])string_arguments[i][o], count[i][o]);
+                try_both(&least.strings[i][o], (enum op)(RANK + o), (const size_t(*)[2])string_arguments[i][o],
+                    count[i][o]);
         }
     }
+}
+
+static void print_strings(void)
+{
+    size_t i;
+    int o;
     printf("| places | Rank | a word | ratio | Select | a word | ratio |\n|--:|--:|--:|--:|--:|--:|--:|\n");
     for (i = 0; i < LENGTHS; i++) {
         double words = (double)lengths[i] / 2 / 64;
         printf("| %zu |", lengths[i]);
-        for (o = 0; o < 2; o++)
-            printf(" %.1f | %.2f | %.2f |", t[i][o].product, t[i][o].product / words,
-                noted((enum op)(RANK + o), 0, t[i][o]));
+        for (o = 0; o < 2; o++) {
+            struct times t = least.strings[i][o];
+            printf(" %.1f | %.2f | %.2f |", t.product, t.product / words, noted((enum op)(RANK + o), 0, t));
+        }
         printf("\n");
     }
 }
@@ -658,22 +678,51 @@ static int tell(const char *what, const char *shape, const char *size)
     return 2;
 }
 
-int main(int argc, char **argv)
+static int compare(void)
 {
     int i;
-    if (argc == 6 && strcmp(argv[1], "once") == 0)
-        return once(argv[2], argv[3], argv[4], argv[5]);
-    if (argc == 4)
-        return tell(argv[1], argv[2], argv[3]);
-    if (argc > 2 || (argc == 2 && strcmp(argv[1], "compare") != 0))
-        return 2;
     compare_all();
     printf("The two sides gave %zu equal answers. Refusals among them:", answers);
     for (i = 1; i < 14; i++)
         printf(" %zu of %d%s", refusals[i], i, i < 13 ? "," : ".\n");
-    if (argc == 2)
-        return 0;
-    printf("\n### Whole records: nanoseconds of the product per bit of the record, and product / plain\n\n");
+    return 0;
+}
+
+/* The times that a file holds; 0 where it holds none. */
+static int read_times(const char *path)
+{
+    FILE *file = fopen(path, "rb");
+    int held = file != NULL && fread(&least, sizeof least, 1, file) == 1;
+    if (file != NULL)
+        fclose(file);
+    if (!held)
+        memset(&least, 0, sizeof least);
+    return held;
+}
+
+static int measure(const char *path)
+{
+    FILE *file;
+    int shape, i, written;
+    read_times(path);
+    for (shape = 0; shape < SHAPES; shape++)
+        measure_shape(shape);
+    for (shape = 0; shape < SHAPES; shape++)
+        for (i = 0; i < SHOWN; i++)
+            measure_queries(shape, i);
+    measure_strings();
+    file = fopen(path, "wb");
+    if (file == NULL)
+        return 1;
+    written = fwrite(&least, sizeof least, 1, file) == 1;
+    return fclose(file) != 0 || !written;
+}
+
+static int print(const char *path)
+{
+    if (!read_times(path))
+        return 1;
+    printf("### Whole records: nanoseconds of the product per bit of the record, and product / plain\n\n");
     print_whole();
     printf("\n### Queries: nanoseconds of the product per call, and product / plain\n\n");
     print_queries();
@@ -684,4 +733,19 @@ int main(int argc, char **argv)
     printf("\n### Ratios of Rank and Select: the least and the greatest over the lengths of strings\n\n");
     print_string_ratios();
     return 0;
+}
+
+int main(int argc, char **argv)
+{
+    if (argc == 2 && strcmp(argv[1], "compare") == 0)
+        return compare();
+    if (argc == 3 && strcmp(argv[1], "measure") == 0)
+        return measure(argv[2]);
+    if (argc == 3 && strcmp(argv[1], "print") == 0)
+        return print(argv[2]);
+    if (argc == 4)
+        return tell(argv[1], argv[2], argv[3]);
+    if (argc == 6 && strcmp(argv[1], "once") == 0)
+        return once(argv[2], argv[3], argv[4], argv[5]);
+    return 2;
 }

@@ -11,7 +11,7 @@ use super::rules::try_rules;
 use super::starts::fill_starts;
 
 // The two arrays are filled.
-pub fn fill_arrays(bytes: &[u8], n: usize, m: usize, starts: &mut [u16], nbrs: &mut [u16])
+fn fill_arrays(bytes: &[u8], n: usize, m: usize, starts: &mut [u16], nbrs: &mut [u16])
     requires { ⌜ (Sound (now bytes) n m) × (length (now starts) ≡ n + 1) × (length (now nbrs) ≡ 2 * m) ⌝ }
     ensures { λ _. ⌜ ArraysOf (now (bytes .entry)) (now (starts .exit)) (now (nbrs .exit)) n m ⌝ }
 {
