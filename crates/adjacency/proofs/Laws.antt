@@ -8,6 +8,7 @@ pub mod Strays
 pub mod Marks
 pub mod Doubled
 pub mod Nexts
+pub mod Totals
 pub mod Turned
 pub mod Matched
 pub mod Mutual

@@ -3,11 +3,15 @@
 use Prim.Native.Nat.{ℕ, _+_, _≤_, _<_}
 use mathlib.Core.Path.{_≡_}
 use mathlib.Core.Bool.{false}
-use mathlib.Core.List.{List}
-use lib.ListN.{length, getD}
+use mathlib.Core.List.{List, sum}
+use lib.ListN.{length, getD, take}
 use Rattle.graph.specs.Graph.{Blocks, block, mentions}
 use Rattle.adjacency.specs.Arrays.{cut, Divided, Holds, upTo}
 use Rattle.adjacency.specs.Places.{anyPlace, stray, doubled, oneSided}
+
+-- the cells of a list, added up
+abbrev pub total : List ℕ → ℕ
+total l = sum _+_ 0 l
 
 -- `next` has for each vertex the place of its part that comes next: part v up to there has w as often as w's block up
 -- to place p has v
@@ -20,10 +24,11 @@ pub record Turned (starts nbrs reverse next : List ℕ) (p : ℕ) : Type 0 where
   pub same : (v w : ℕ) → v + 1 < length starts
       → mentions w (upTo starts reverse v (getD next v 0)) ≡ mentions v (upTo starts nbrs w p)
 
--- the same at a place p of u's block: what stands before it is a vertex other than the block's own, and each part
--- rises up to u at most
+-- the same at a place p of u's block: as many cells of the parts are passed as places of the blocks; what stands before
+-- p is a vertex other than the block's own, and each part rises up to u at most
 pub record Turning (starts nbrs reverse next : List ℕ) (u p : ℕ) : Type 0 where
   pub turned : Turned starts nbrs reverse next p
+  pub spent : total next ≡ total (take (length next) starts) + p
   pub others : (w v : ℕ) → 0 < mentions v (upTo starts nbrs w p) → (v + 1 < length starts) × (v ≡ w → ⊥)
   pub rising : (v q : ℕ) → Holds starts v q → q + 1 < getD next v 0 → getD reverse q 0 ≤ getD reverse (q + 1) 0
   pub below : (v q : ℕ) → Holds starts v q → q < getD next v 0 → getD reverse q 0 ≤ u
@@ -36,10 +41,6 @@ TurnedBefore starts nbrs reverse next u = Turning starts nbrs reverse next u (ge
 pub record AtStarts (starts next : List ℕ) : Type 0 where
   pub cells : length next + 1 ≡ length starts
   pub begins : (v : ℕ) → v + 1 < length starts → getD next v 0 ≡ getD starts v 0
-
--- `next` is at the end of each part
-pub record AtEnds (starts next : List ℕ) : Type 0 where
-  pub ends : (v : ℕ) → v + 1 < length starts → getD next v 0 ≡ getD starts (v + 1) 0
 
 -- the parts before u's, turned round once more, are found in the parts again, and none of them has a vertex twice
 pub record Matching (starts reverse next : List ℕ) (u : ℕ) : Type 0 where

@@ -1,13 +1,14 @@
 // Whether rules 6 to 8 are kept, in two passes over the places. The blocks are turned round: in a second row, cut by
-// the same starts, part v lists the vertices whose blocks have v, in order. The parts turned round once more must be
-// the parts themselves, which is found by reading on in each of them. Then every two vertices mention each other
-// equally often. Where the rules are kept, the parts are their own: both list the same vertices, and both rise.
+// the same starts, part v lists the vertices whose blocks have v, in order. Each part is full then, since together
+// they have as many cells as there are places. The parts turned round once more must be the parts themselves, which is
+// found by reading on in each of them. Then every two vertices mention each other equally often. Where the rules are
+// kept, the parts are their own: both list the same vertices, and both rise.
 ghost use mathlib.Core.Path.{_≡_};
 ghost use Prim.Native.Nat.{_+_, _-_, _<_};
-ghost use lib.ListN.{length, getD};
+ghost use lib.ListN.{length};
 ghost use Rattle.graph.specs.Graph.{Blocks};
 ghost use Rattle.adjacency.specs.Arrays.{cut, Divided, Holds};
-ghost use Rattle.adjacency.specs.Reverse.{Turned, Turning, TurnedBefore, Matching, AtStarts, AtEnds};
+ghost use Rattle.adjacency.specs.Reverse.{Turned, Turning, TurnedBefore, Matching, AtStarts};
 ghost use Rattle.adjacency.specs.Reverse.{Kept, Orderly};
 ghost use Rattle.adjacency.specs.Tally.{Tells};
 use super::cells::get;
@@ -25,24 +26,6 @@ fn rewind(starts: &[u16], next: &mut [u16])
         put(next, v, start);
         v += 1;
     }
-}
-
-// Whether each part is filled up to its end.
-fn all_full(starts: &[u16], next: &[u16]) -> bool
-    requires { ⌜ (length (now starts) < 4098) × (length (now next) + 1 ≡ length (now starts)) ⌝ }
-    ensures { λ r. ⌜
-        Tells (AtEnds (now (starts .entry)) (now (next .entry))) (AtEnds (now (starts .entry)) (now (next .entry))) r
-        ⌝ }
-{
-    let n = starts.len() - 1;
-    let mut v = 0;
-    while v < n {
-        if get(next, v) != get(starts, v + 1) {
-            return false;
-        }
-        v += 1;
-    }
-    true
 }
 
 // The neighbour at place p of block u gets u in its part. A no where it is no vertex, or u itself, or its part is
@@ -197,9 +180,6 @@ pub fn all_mutual(starts: &[u16], nbrs: &[u16], reverse: &mut [u16], next: &mut 
 {
     rewind(starts, next);
     if !turn_all(starts, nbrs, reverse, next) {
-        return false;
-    }
-    if !all_full(starts, next) {
         return false;
     }
     rewind(starts, next);

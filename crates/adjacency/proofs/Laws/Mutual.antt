@@ -12,27 +12,27 @@ use Rattle.graph.specs.Laws.Places.Mentions.{mention-found}
 use Rattle.graph.specs.Laws.Places.Pairing.{source}
 use Rattle.adjacency.specs.Arrays.{cut, upTo}
 use Rattle.adjacency.specs.Places.{stray, doubled, oneSided}
-use Rattle.adjacency.specs.Reverse.{Turning, TurnedBefore, AtEnds, Matching, Kept}
+use Rattle.adjacency.specs.Reverse.{Turning, TurnedBefore, Matching, Kept}
 use Rattle.adjacency.specs.Laws.Anywhere.{nowhere}
 use Rattle.adjacency.specs.Laws.Rows.{length-cut}
 use Rattle.adjacency.proofs.Laws.Parts.{upto-past, upto-end}
 use Rattle.adjacency.proofs.Laws.Counts.{count-part}
+use Rattle.adjacency.proofs.Laws.Totals.{full}
 use Rattle.adjacency.proofs.Laws.Turned.{turned-divided}
 
 module _ {starts nbrs reverse next : List ℕ} (done : TurnedBefore starts nbrs reverse next (length starts - 1)) where
-  pub turned-end : Turning starts nbrs reverse next (length starts - 1) (length nbrs)
+  turned-end : Turning starts nbrs reverse next (length starts - 1) (length nbrs)
   turned-end = rw (done .turned .divided .last) at done
 
   -- a part has w as often as w's block has the part's vertex
-  pub turned-whole : AtEnds starts next → (v : ℕ) → v + 1 < length starts → (w : ℕ)
+  pub turned-whole : (v : ℕ) → v + 1 < length starts → (w : ℕ)
       → mentions w (block (cut starts reverse) v) ≡ mentions v (block (cut starts nbrs) w)
-  turned-whole f v k w =
+  turned-whole v k w =
       let t = turned-end .turned in
-      sym (ap (mentions w) (upto-past (turned-divided t) v (getD next v 0) k (let e = f .ends v k in omega arith)))
+      sym (ap (mentions w) (upto-past (turned-divided t) v (getD next v 0) k (let e = full done v k in omega arith)))
       ∙ t .same v w k ∙ ap (mentions v) (upto-end (t .divided) w)
 
 module _ {starts nbrs reverse next next′ : List ℕ} (t : TurnedBefore starts nbrs reverse next (length starts - 1))
-    (f : AtEnds starts next)
     (m : Matching starts reverse next′ (length starts - 1)) where
   matched-le : (v : ℕ) → v + 1 < length starts → (w : ℕ)
       → mentions v (block (cut starts reverse) w) ≤ mentions w (block (cut starts reverse) v)
@@ -59,7 +59,7 @@ module _ {starts nbrs reverse next next′ : List ℕ} (t : TurnedBefore starts 
     once : mentions v (block (cut starts nbrs) u) ≤ 1
     once =
         let k = other .0 in
-        let a = turned-whole t f v k u in
+        let a = turned-whole t v k u in
         let b = m .single v (omega arith) u in
         omega arith
 
@@ -67,8 +67,8 @@ module _ {starts nbrs reverse next next′ : List ℕ} (t : TurnedBefore starts 
     equal =
         let k = other .0 in
         let h = from in
-        let a = turned-whole t f v k u in
-        let b = turned-whole t f u h v in
+        let a = turned-whole t v k u in
+        let b = turned-whole t u h v in
         let c = matched-le v k u in
         let d = matched-le u h v in
         omega arith

@@ -1,24 +1,25 @@
--- A graph that keeps rules 6 to 8 passes every test: no part is full too early or too late, and the parts turned round
--- again are their own.
+-- A graph that keeps rules 6 to 8 passes every test: no part is full too early, and the parts turned round again are
+-- their own.
 use Prim.Native.Nat.{ℕ, zero, suc, _+_, _-_, _≤_, _<_}
 use mathlib.Core.Path.{_≡_, refl, sym, _∙_, ap}
 use mathlib.Core.List.{List, [], _∷_}
 use native.Mathlib.Omega.{arith}
 use native.Mathlib.Decide.{ℕ-discrete, decLt}
-use lib.ListN.{length, getD, length-take, List·getD-eq-default}
+use lib.ListN.{length, getD, List·getD-eq-default}
 use borrow.Author.Tests.{ltb-false}
 use Rattle.graph.specs.Graph.{Blocks, block, mentions, WellFormed}
 use Rattle.adjacency.specs.Arrays.{cut, Divided, Holds, upTo}
 use Rattle.adjacency.specs.Places.{doubled}
-use Rattle.adjacency.specs.Reverse.{Turned, TurnedBefore, AtEnds, Kept, Orderly}
+use Rattle.adjacency.specs.Reverse.{Turned, TurnedBefore, Kept, Orderly}
 use Rattle.adjacency.specs.Laws.Anywhere.{nowhere}
 use Rattle.adjacency.specs.Laws.Rows.{length-cut, starts-mono, row-size, place-at}
 use Rattle.adjacency.specs.Laws.Kept.{well-formed}
 use Rattle.adjacency.proofs.Laws.Mentions.{mentions-append, one-hit, one-miss, mention-place, fewer}
-use Rattle.adjacency.proofs.Laws.Parts.{upto-past, upto-end}
+use Rattle.adjacency.proofs.Laws.Parts.{upto-past}
 use Rattle.adjacency.proofs.Laws.Counts.{count-part, count-hit, count-miss}
+use Rattle.adjacency.proofs.Laws.Totals.{full}
 use Rattle.adjacency.proofs.Laws.Turned.{turned-divided}
-use Rattle.adjacency.proofs.Laws.Mutual.{turned-end, turned-whole}
+use Rattle.adjacency.proofs.Laws.Mutual.{turned-whole}
 
 strict : {a b : ℕ} → a ≤ b → (a ≡ b → ⊥) → a < b
 strict {a} {b} l n = go (ℕ-discrete a b)
@@ -89,28 +90,8 @@ module _ {starts nbrs reverse next : List ℕ} {p : ℕ} (t : Turned starts nbrs
   pub full-refused : Kept (cut starts nbrs) → {q : ℕ} → q ≡ getD next v 0 → q ≡ getD starts (v + 1) 0 → ⊥
   full-refused b is-q e = not-full (well b .balanced v) (sym is-q ∙ e)
 
--- and in the end each is full
 module _ {starts nbrs reverse next : List ℕ} (done : TurnedBefore starts nbrs reverse next (length starts - 1))
     (k : Kept (cut starts nbrs)) where
-  pub filled : AtEnds starts next
-  unfolding upTo
-  filled = record { ends = λ v h. full v h }
-    where
-      same : (v : ℕ) → v + 1 < length starts → (x : ℕ)
-          → mentions x (block (cut starts nbrs) v) ≡ mentions x (upTo starts reverse v (getD next v 0))
-      same v h x =
-          let t = turned-end done .turned in
-          well k .balanced v x ∙ sym (t .same v x h ∙ ap (mentions v) (upto-end (t .divided) x))
-
-      full : (v : ℕ) → v + 1 < length starts → getD next v 0 ≡ getD starts (v + 1) 0
-      full v h =
-          let t = turned-end done .turned in
-          let l = fewer (block (cut starts nbrs) v) (upTo starts reverse v (getD next v 0))
-          (λ x. (let e = same v h x in omega arith)) in
-          let r = row-size (t .divided) v h in
-          let n = t .near v h in
-          omega (arith, length-take (getD next v 0 - getD starts v 0) (block (cut starts reverse) v))
-
   -- the parts are balanced as the blocks are; a vertex that a part has twice would be twice in a block
   pub orderly : Orderly starts reverse
   orderly = record { balanced = balanced; rising = rising }
@@ -120,22 +101,22 @@ module _ {starts nbrs reverse next : List ℕ} (done : TurnedBefore starts nbrs 
 
       balanced : (v w : ℕ) → v + 1 < length starts
           → mentions w (block (cut starts reverse) v) ≡ mentions v (block (cut starts reverse) w)
-      balanced v w h = turned-whole done filled v h w ∙ go (decLt (w + 1) (length starts))
+      balanced v w h = turned-whole done v h w ∙ go (decLt (w + 1) (length starts))
         where
           go : Dec (w + 1 < length starts)
               → mentions v (block (cut starts nbrs) w) ≡ mentions v (block (cut starts reverse) w)
-          go (yes l) = well k .balanced w v ∙ sym (turned-whole done filled w l v)
+          go (yes l) = well k .balanced w v ∙ sym (turned-whole done w l v)
           go (no l) = ap (mentions v) (none nbrs w (omega arith) ∙ sym (none reverse w (omega arith)))
 
       rising : (v q : ℕ) → Holds starts v q → Holds starts v (q + 1) → getD reverse q 0 < getD reverse (q + 1) 0
       rising v q a b =
           let i = turned-divided (done .turned) in
           let x : ℕ = getD reverse q 0 in
-          let e = filled .ends v (a .inside) in
+          let e = full done v (a .inside) in
           let r = done .rising v q a (omega arith) in
           let c = count-hit i v q x a refl in
           let m = count-part starts reverse v (q + 1 + 1) x in
-          let d = turned-whole done filled v (a .inside) x in
+          let d = turned-whole done v (a .inside) x in
           let o = once k x v in
           let n : getD reverse q 0 ≡ getD reverse (q + 1) 0 → ⊥ =
           (λ z. (let f = count-hit i v (q + 1) x b z in omega arith)) in

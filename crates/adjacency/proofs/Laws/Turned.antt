@@ -12,6 +12,7 @@ use Rattle.adjacency.specs.Laws.Stores.{cell-same, cell-other}
 use Rattle.adjacency.specs.Laws.Rows.{starts-fit, one-block, divided-too}
 use Rattle.adjacency.proofs.Laws.Parts.{upto-other}
 use Rattle.adjacency.proofs.Laws.Counts.{count-start, count-hit, count-miss, count-agree}
+use Rattle.adjacency.proofs.Laws.Totals.{total-set, total-start}
 
 -- ---- nothing is turned round yet
 
@@ -33,6 +34,7 @@ pub turning-start : {starts nbrs reverse next : List ℕ} → Divided starts nbr
     → TurnedBefore starts nbrs reverse next 0
 turning-start {starts} {nbrs} {next = next} i e a = record {
   turned = turned-start i e a (i .first);
+  spent = let s = total-start a in let z = i .first in omega arith;
   others =
       λ w v m. absurd (let z = i .first in let c = count-start starts nbrs w (getD starts 0 0) v
       (omega arith) in omega arith);
@@ -197,6 +199,10 @@ module _ {starts nbrs reverse next : List ℕ} {u p : ℕ} (t : Turning starts n
       let s = store (t .turned) v l is-q free u in
       rw (e, f) (record {
         turned = turned-more s v l is-q free h is-v (stored l is-q free q refl) refl;
+        spent =
+            let a = total-set next v (next-place (t .turned) v l is-q free .0) in
+            let b = t .spent in
+            rw (length-set next v (q + 1), is-q) (omega arith);
         others = others-more l o;
         rising = rising-more l is-q free;
         below = below-more l is-q free;
@@ -208,6 +214,7 @@ pub turning-on : {starts nbrs reverse next : List ℕ} {u p : ℕ} → Turning s
     → TurnedBefore starts nbrs reverse next (u + 1)
 turning-on t e = rw (← e) (record {
   turned = t .turned;
+  spent = t .spent;
   others = t .others;
   rising = t .rising;
   below = λ v q h l. (let b = t .below v q h l in omega arith);

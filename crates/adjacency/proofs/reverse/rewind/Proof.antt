@@ -7,13 +7,13 @@ use Rattle.adjacency.proofs.reverse.rewind.Statement.{statement}
 use Rattle.adjacency.proofs.reverse.rewind.Tie as tie
 
 abbrev Inv-loop : tie.InvT-loop
-Inv-loop starts next₀ n v₀ next v = Nexts starts next n v (λ w. w)
+Inv-loop starts next₀ n v₀ next v = Nexts starts next n v
 
 abbrev μ-loop : tie.MeasureT-loop
 μ-loop starts next₀ n v₀ next v = n - v
 
 loop-holds : tie.Need-loop-holds Inv-loop μ-loop
-loop-holds c = nexts-start (λ w. w) (c .before .before .pre) refl refl
+loop-holds c = nexts-start (c .before .before .pre) refl refl
 
 get-requires : tie.Need-get-requires Inv-loop μ-loop
 get-requires c κs = let k = c .before .loop .inv .number in omega arith
