@@ -23,7 +23,7 @@
 #include <strings.h>
 #include <time.h>
 
-enum { MOST_N = 4096, MOST_M = 16384, MOST_INDEX = 3 * 4608 + 6144, ARGUMENTS = 1024, ROUNDS = 20, QUERY_ROUNDS = 50,
+enum { MOST_N = 4096, MOST_M = 16384, MOST_INDEX = 3 * 4608 + 6144, ARGUMENTS = 1024, ROUNDS = 40, QUERY_ROUNDS = 50,
        STRING_ROUNDS = 200, LENGTHS = 7, COLUMNS = 4, SHOWN = 3 };
 
 /* The records of the smallest size, and of all: each size has a quarter as many as the one before, so that they make up
