@@ -117,7 +117,10 @@ fn make(root: &Path, why: &str) -> Result<(), String> {
                  Put `rt` of the Rattle toolchain on the path, or let the environment variable {GIVEN} name an archive."
             )
         })?;
-    println!("cargo:warning={why}: {MAKE} proves and makes it, which takes minutes the first time (`cargo build -vv` shows it at work)");
+    println!(
+        "cargo:warning={why}: {MAKE} proves and makes it, which takes minutes the first time \
+         (`cargo build -vv` shows it at work)"
+    );
     let output = rt.stdout.take().expect("it is piped");
     let errors = rt.stderr.take().expect("it is piped");
     thread::scope(|scope| {

@@ -91,7 +91,7 @@ fn in_word(x: u64, k: usize) -> usize
     in_eight(c.bits, c.left, c.before)
 }
 
-// The same. The first one is found at once.
+// The same. A first one is the highest, and needs no halves.
 fn nth_in_word(x: u64, k: usize) -> usize
     requires { ⌜ (1 ≤ k) × (k ≤ ones x) ⌝ }
     ensures { λ r. ⌜ (r ≡ selectOf (toBits 64 x) k) × (1 ≤ r) × (r ≤ 64) ⌝ }
