@@ -1,5 +1,4 @@
 // Build in room for the record's size: Check fills the two arrays there, and the search goes through them.
-ghost use mathlib.Core.Path.{_≡_};
 ghost use Prim.Native.Nat.{_≤_};
 ghost use Rattle.record.specs.Answers.{verdict};
 ghost use Rattle.record.specs.Steps.{Laid, Lent, Roomy, ArraysOf};

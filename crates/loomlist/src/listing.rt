@@ -1,6 +1,6 @@
 // What the program prints. The lines of a listing are put to one buffer, which goes out in one piece.
 ghost use mathlib.Core.Path.{_≡_};
-ghost use Prim.Native.Nat.{_+_, _*_, _≤_, _<_};
+ghost use Prim.Native.Nat.{_+_, _≤_, _<_};
 ghost use lib.ListN.{length};
 ghost use Rattle.loomlist.specs.Listing.{Sized};
 use adjacency::cells::get;

@@ -1,4 +1,4 @@
-// One block, found by select: its degree, and where its part of a list stands.
+// One block, found between its one in D and the next: its degree, and where its part of a list stands.
 ghost use mathlib.Core.Path.{_≡_};
 ghost use Rattle.record.specs.Answers.{counted};
 ghost use Rattle.record.specs.Operations.{degree as degreeOf, PartOf};

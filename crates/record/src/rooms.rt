@@ -3,7 +3,7 @@
 ghost use mathlib.Core.Path.{_≡_};
 ghost use mathlib.Core.List.{map};
 ghost use Prim.Native.Nat.{suc, _+_, _*_, _≤_, _<_};
-ghost use lib.ListN.{length, getD};
+ghost use lib.ListN.{length};
 ghost use Rattle.record.specs.Answers.{verdict};
 ghost use Rattle.record.specs.Steps.{Laid, Lent, Roomy, Handed, Short};
 use super::Verdict;

@@ -1,5 +1,4 @@
 -- `magnitude` meets its contract: each number that is cast fits, and keeps its magnitude.
-use borrow.Author.Needs.{needs}
 use mathlib.Core.Path.{ap, _∙_}
 use lib.IntN.{natAbs}
 use mir.Facts.{fits-ofZ, sfits-toZ, sfits-widen, toZ-ofZ}

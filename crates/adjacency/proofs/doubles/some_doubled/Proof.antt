@@ -1,6 +1,6 @@
 -- `doubles::some_doubled` meets its contract: the blocks passed mention no vertex twice.
 use mathlib.Core.Path.{refl}
-use Prim.Native.Nat.{ℕ, _-_}
+use Prim.Native.Nat.{_-_}
 use native.Mathlib.Omega.{arith}
 use borrow.Author.Needs.{needs}
 use lib.ListN.{length}
