@@ -3,22 +3,16 @@ use Prim.Native.Nat.{ℕ, zero, suc, _+_, _-_, _≤_, _<_}
 use mathlib.Core.Path.{_≡_, sym, _∙_, ap}
 use mathlib.Core.List.{List, [], _∷_}
 use native.Mathlib.Omega.{arith}
-use lib.ListN.{length, getD, take, drop, length-take, take-append-drop}
+use lib.ListN.{length, getD, take, drop, take-append-drop}
 use Rattle.graph.specs.Graph.{block, mentions}
 use Rattle.adjacency.specs.Arrays.{cut, Divided, Holds, upTo}
-use Rattle.adjacency.proofs.Laws.Mentions.{mentions-append, mentions-le, one-hit, one-miss}
+use Rattle.adjacency.proofs.Laws.Mentions.{mentions-append, one-hit, one-miss}
 use Rattle.adjacency.proofs.Laws.Parts.{Step, inside, outside, step, upto-start, upto-next}
 
 module _ (starts nbrs : List ℕ) (u p v : ℕ) where
   pub count-start : p ≤ getD starts u 0 → mentions v (upTo starts nbrs u p) ≡ 0
   unfolding mentions
   count-start h = ap (mentions v) (upto-start starts nbrs u p h)
-
-  pub count-le : mentions v (upTo starts nbrs u p) ≤ p
-  unfolding upTo
-  count-le =
-      let a = mentions-le v (take (p - getD starts u 0) (block (cut starts nbrs) u)) in
-      omega (arith, length-take (p - getD starts u 0) (block (cut starts nbrs) u))
 
   pub count-part : mentions v (upTo starts nbrs u p) ≤ mentions v (block (cut starts nbrs) u)
   unfolding upTo
@@ -35,13 +29,13 @@ module _ {starts nbrs : List ℕ} (i : Divided starts nbrs) (u p v : ℕ) where
 
   pub count-hit : Holds starts u p → v ≡ getD nbrs p 0
       → mentions v (upTo starts nbrs u (p + 1)) ≡ mentions v (upTo starts nbrs u p) + 1
-  count-hit h e = let a = count-next h in let z = one-hit v (getD nbrs p 0) e in omega arith
+  count-hit h e = omega (arith, count-next h, one-hit v (getD nbrs p 0) e)
 
   pub count-miss : (v ≡ getD nbrs p 0 → ⊥) → mentions v (upTo starts nbrs u (p + 1)) ≡ mentions v (upTo starts nbrs u p)
   count-miss n = go (step i u p)
     where
       go : Step starts nbrs u p → mentions v (upTo starts nbrs u (p + 1)) ≡ mentions v (upTo starts nbrs u p)
-      go (inside h) = let a = count-next h in let z = one-miss v (getD nbrs p 0) n in omega arith
+      go (inside h) = omega (arith, count-next h, one-miss v (getD nbrs p 0) n)
       go (outside e) = ap (mentions v) e
 
 -- parts of two rows that have the same numbers before a place

@@ -30,7 +30,7 @@ module _ {starts nbrs : List ℕ} {n : ℕ} where
   single-start i e k z q = rw z (record {
     sized = sized-start i e;
     fresh = record {
-      size = let l = length-replicate {A = ℕ} k 0 in let s = i .divided .some in omega arith;
+      size = omega (arith, length-replicate {A = ℕ} k 0, i .divided .some);
       below = λ v. (let c = cell-zero k v in omega arith);
     };
     single = λ w h. absurd (omega arith);
@@ -61,4 +61,4 @@ module _ {starts nbrs : List ℕ} {n : ℕ} where
         (λ w j v p. le-ltb 1 (mentions v (block (cut starts nbrs) w)) (each w v (source p))))
       where
         each : (w v : ℕ) → w < length (cut starts nbrs) → mentions v (block (cut starts nbrs) w) ≤ 1
-        each w v k = o .single w (let a = length-cut starts nbrs in let b = o .sized .number in omega arith) v
+        each w v k = o .single w (omega (arith, length-cut starts nbrs, o .sized .number)) v

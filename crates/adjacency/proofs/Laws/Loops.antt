@@ -30,7 +30,7 @@ module _ {starts : List ℕ} {n u : ℕ} where
     round-more l = record { number = r .number; upto = omega arith }
 
     pub round-end : n ≤ u → u ≡ length starts - 1
-    round-end l = let e = r .number in let h = r .upto in omega arith
+    round-end l = omega (arith, r .number, r .upto)
 
 -- there are n vertices
 pub record Sized (starts nbrs : List ℕ) (n : ℕ) : Type 0 where

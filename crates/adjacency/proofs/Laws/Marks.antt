@@ -69,7 +69,7 @@ module _ {starts nbrs : List ℕ} {u end p : ℕ} {last : List ℕ} where
           → Marked starts nbrs u end (p + 1) out
       marked-more n o = rw o (record {
         span = span-more (m .span) l;
-        size = let l = length-set last v (u + 1) in let z = m .size in omega arith;
+        size = omega (arith, length-set last v (u + 1), m .size);
         seen = λ w. go w (ℕ-discrete w v) (m .seen w);
       })
         where

@@ -47,8 +47,8 @@ module _ {starts nbrs : List ℕ} {u p least : ℕ} (i : Divided starts nbrs) (r
       clash w k f = omega arith
 
       go : (w : ℕ) → Dec (w ≡ v) → mentions w (upTo starts nbrs u (p + 1)) ≤ 1
-      go w (yes f) = let a = count-hit i u p w h (f ∙ e) in let b = r .none w (omega arith) in omega arith
-      go w (no n) = let a = count-miss i u p w (λ f. n (f ∙ sym e)) in let b = r .once w in omega arith
+      go w (yes f) = omega (arith, count-hit i u p w h (f ∙ e), r .none w (omega arith))
+      go w (no n) = omega (arith, count-miss i u p w (λ f. n (f ∙ sym e)), r .once w)
 
   -- in orderly parts the bound is kept
   pub bound-kept : Orderly starts nbrs → Holds starts u p → {w : ℕ} → w ≡ getD nbrs p 0 → w < least → ⊥
@@ -85,6 +85,6 @@ module _ {starts reverse next : List ℕ} {u end p least : ℕ} where
     where
       single : (v : ℕ) → mentions v (block (cut starts reverse) u) ≤ 1
       single v =
-          let b = ap (mentions v) (upto-past (t .divided) u p (a .inside) (let e = along-end a l in omega arith)) in
+          let b = ap (mentions v) (upto-past (t .divided) u p (a .inside) (omega (arith, along-end a l))) in
           let c = r .once v in
           omega arith

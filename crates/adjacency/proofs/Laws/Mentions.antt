@@ -24,16 +24,6 @@ mentions-append v (x ∷ l) m = go (eqb v x) (mentions-append v l m)
     go true e = omega arith
     go false e = e
 
-pub mentions-le : (v : ℕ) (l : List ℕ) → mentions v l ≤ length l
-unfolding mentions
-mentions-le v [] = omega arith
-mentions-le v (x ∷ l) = go (eqb v x) (mentions-le v l)
-  where
-    go : (b : Bool) → mentions v l ≤ length l
-        → elim b [ true ↦ suc (mentions v l) | false ↦ mentions v l ] ≤ suc (length l)
-    go true h = omega arith
-    go false h = omega arith
-
 pub one-hit : (v x : ℕ) → v ≡ x → mentions v (x ∷ []) ≡ 1
 unfolding mentions
 one-hit v x e = rw (eq-eqb v x e, mentions)

@@ -46,7 +46,7 @@ module _ {starts nbrs reverse next next′ : List ℕ} (t : TurnedBefore starts 
   -- a neighbour of u is a vertex, and u's block has it once
   module _ {u j v : ℕ} (p : Place (cut starts nbrs) u j v) where
     from : u + 1 < length starts
-    from = let a = length-cut starts nbrs in let b = source p in omega arith
+    from = omega (arith, length-cut starts nbrs, source p)
 
     mentioned : 0 < mentions v (block (cut starts nbrs) u)
     mentioned = let a = mention-found v (block (cut starts nbrs) u) j (p .fits) (p .leads) .counted in omega arith
@@ -54,7 +54,7 @@ module _ {starts nbrs reverse next next′ : List ℕ} (t : TurnedBefore starts 
     other : (v + 1 < length starts) × (v ≡ u → ⊥)
     other =
         turned-end t .others u v
-        (let e = ap (mentions v) (upto-end (t .turned .divided) u) in let k = mentioned in omega arith)
+        (omega (arith, ap (mentions v) (upto-end (t .turned .divided) u), mentioned))
 
     once : mentions v (block (cut starts nbrs) u) ≤ 1
     once =

@@ -33,12 +33,12 @@ module _ {starts next : List ℕ} {n v : ℕ} (k : Nexts starts next n v) where
     where
       go : (w : ℕ) → w < v + 1 → Dec (w ≡ v) → getD (set next v x) w 0 ≡ getD starts w 0
       go w l (yes q) =
-          cell-same next x q (let a = k .few in let b = k .cells in omega arith) ∙ e
+          cell-same next x q (omega (arith, k .few, k .cells)) ∙ e
           ∙ ap (λ (i : ℕ). getD starts i 0) (sym q)
       go w l (no q) = cell-other next x q ∙ k .done w (omega arith)
 
   pub at-starts : n ≤ v → AtStarts starts next
   at-starts h = record {
-    cells = let e = k .number in let c = k .cells in omega arith;
+    cells = omega (arith, k .number, k .cells);
     begins = λ w l. k .done w (let e = k .number in omega arith);
   }

@@ -46,7 +46,7 @@ module _ {g : Blocks} (k : Kept g) where
 module _ {starts nbrs : List ℕ} (i : Divided starts nbrs) {u p : ℕ} (h : Holds starts u p) {v : ℕ}
     (is-v : v ≡ getD nbrs p 0) where
   pub no-vertex : Kept (cut starts nbrs) → length starts - 1 ≤ v → ⊥
-  no-vertex k l = let a = well k .in-range u _ v (place-at i h is-v) in let b = length-cut starts nbrs in omega arith
+  no-vertex k l = omega (arith, well k .in-range u _ v (place-at i h is-v), length-cut starts nbrs)
 
   pub no-own : Kept (cut starts nbrs) → v ≡ u → ⊥
   no-own k e = well k .no-loop u (p - getD starts u 0) (rw e at (place-at i h is-v))
@@ -129,7 +129,7 @@ module _ {starts reverse next : List ℕ} {p : ℕ} (t : Turned starts reverse r
     (h : Holds starts u p) {w : ℕ} (is-w : w ≡ getD reverse p 0) where
   -- part u has w once more from place p on
   more : mentions w (upTo starts reverse u p) + 1 ≤ mentions w (block (cut starts reverse) u)
-  more = let a = count-hit (t .divided) u p w h is-w in let b = count-part starts reverse u (p + 1) w in omega arith
+  more = omega (arith, count-hit (t .divided) u p w h is-w, count-part starts reverse u (p + 1) w)
 
   pub all-vertices : length starts - 1 ≤ w → ⊥
   unfolding mentions
@@ -153,10 +153,10 @@ module _ {starts reverse next : List ℕ} {p : ℕ} (t : Turned starts reverse r
       not-before : getD reverse q 0 < u → ⊥
       not-before l =
           let x : ℕ = getD reverse q 0 in
-          let s = starts-mono (t .divided) (x + 1) u (omega arith) (let i = h .inside in omega arith) in
+          let s = starts-mono (t .divided) (x + 1) u (omega arith) (omega (arith, h .inside)) in
           let a = t .same w x k in
           let b = ap (mentions w)
-          (upto-past (t .divided) x p (let i = h .inside in omega arith) (let i = h .low in omega arith)) in
+          (upto-past (t .divided) x p (omega (arith, h .inside)) (omega (arith, h .low))) in
           let c = ap (λ (y : ℕ). mentions x (upTo starts reverse w y)) is-q in
           let d = count-hit (t .divided) w q x at refl in
           let e = count-part starts reverse w (q + 1) x in
@@ -173,7 +173,7 @@ module _ {starts reverse next : List ℕ} {p : ℕ} (t : Turned starts reverse r
       beyond l (suc d) a =
           let z : q + suc d ≡ q + d + 1 = omega arith in
           let b : Holds starts w (q + d) =
-          record { inside = k; low = let i = at .low in omega arith; high = let i = a .high in omega arith } in
+          record { inside = k; low = omega (arith, at .low); high = omega (arith, a .high) } in
           let r = beyond l d b in
           let s = o .rising w (q + d) b (rw z at a) in
           rw z (omega arith, count-miss (t .divided) w (q + d + 1) u (λ e. (let i = r .0 in omega arith)) ∙ r .1)

@@ -35,7 +35,7 @@ module _ {starts nbrs : List ℕ} {u end p : ℕ} where
     strayless-end h = nay (λ x. true≢false (sym (x .stands) ∙ s .clean (x .place) (high x) (x .held .low)))
       where
         high : (x : Stray starts nbrs u) → x .place < p
-        high x = let a = x .held .high in let e = s .along .ends in omega arith
+        high x = omega (arith, x .held .high, s .along .ends)
 
     module _ (h : p < end) where
       pub strayless-place : p < length nbrs

@@ -23,7 +23,7 @@ turned-start {starts} {nbrs} {reverse} {next} {p} i e a z = record {
   divided = i;
   size = e;
   cells = a .cells;
-  near = λ v k. (let b = a .begins v k in let r = i .rising v k in (omega arith, omega arith));
+  near = λ v k. (omega (arith, a .begins v k), omega (arith, a .begins v k, i .rising v k));
   same =
       λ v w k. (let b = a .begins v k in count-start starts reverse v (getD next v 0) w (omega arith))
       ∙ sym (count-start starts nbrs w p v (omega arith));
@@ -34,10 +34,9 @@ pub turning-start : {starts nbrs reverse next : List ℕ} → Divided starts nbr
     → TurnedBefore starts nbrs reverse next 0
 turning-start {starts} {nbrs} {next = next} i e a = record {
   turned = turned-start i e a (i .first);
-  spent = let s = total-start a in let z = i .first in omega arith;
+  spent = omega (arith, total-start a, i .first);
   others =
-      λ w v m. absurd (let z = i .first in let c = count-start starts nbrs w (getD starts 0 0) v
-      (omega arith) in omega arith);
+      λ w v m. absurd (omega (arith, count-start starts nbrs w (getD starts 0 0) v (omega (arith, i .first))));
   rising = λ v q h l. absurd (none v q h (omega arith));
   below = λ v q h l. absurd (none v q h l);
 }
@@ -97,18 +96,18 @@ module _ {starts nbrs reverse next : List ℕ} {p : ℕ} (t : Turned starts nbrs
       turned-more there o = rw o (record {
         divided = t .divided;
         size = t .size;
-        cells = let l = length-set next v (q + 1) in let z = t .cells in omega arith;
+        cells = omega (arith, length-set next v (q + 1), t .cells);
         near = λ x l. near x l (ℕ-discrete x v);
         same = λ x w l. same x w l (ℕ-discrete x v) (ℕ-discrete w u);
       })
         where
           hit : {x : ℕ} → x ≡ v → getD (set next v (q + 1)) x 0 ≡ q + 1
-          hit e = let a = next-place .0 in let b = t .cells in cell-same next (q + 1) e (omega arith)
+          hit e = cell-same next (q + 1) e (omega (arith, next-place .0, t .cells))
 
           near : (x : ℕ) → x + 1 < length starts → Dec (x ≡ v)
               → (getD starts x 0 ≤ getD (set next v (q + 1)) x 0)
               × (getD (set next v (q + 1)) x 0 ≤ getD starts (x + 1) 0)
-          near x l (yes e) = let a = hit e in let b = next-holds in rw (e, rw e at a) (omega arith, omega arith)
+          near x l (yes e) = let b = next-holds in rw (e, rw e at (hit e)) (omega arith, omega arith)
           near x l (no n) = rw (cell-other next {i = v} {j = x} (q + 1) n) (t .near x l)
 
           same : (x w : ℕ) → x + 1 < length starts → Dec (x ≡ v) → Dec (w ≡ u)
@@ -176,14 +175,14 @@ module _ {starts nbrs reverse next : List ℕ} {u p : ℕ} (t : Turning starts n
       where
         go : Grown x r → getD (set reverse q u) r 0 ≤ u
         go (last e f) = let a = stored r e in omega arith
-        go (old m) = let a = stays x r o m in let b = t .below x r o m in omega arith
+        go (old m) = omega (arith, stays x r o m, t .below x r o m)
 
     rising-more : (x r : ℕ) → Holds starts x r → r + 1 < getD (set next v (q + 1)) x 0
         → getD (set reverse q u) r 0 ≤ getD (set reverse q u) (r + 1) 0
     rising-more x r o l = go (grown x (r + 1) l)
       where
         go : Grown x (r + 1) → getD (set reverse q u) r 0 ≤ getD (set reverse q u) (r + 1) 0
-        go (last e f) = let a = stored (r + 1) e in let b = below-more x r o (omega arith) in omega arith
+        go (last e f) = omega (arith, stored (r + 1) e, below-more x r o (omega arith))
         go (old m) =
             let n = t .turned .near x (o .inside) in
             let a = stays x r o (omega arith) in

@@ -112,7 +112,7 @@ module _ {starts nbrs : List ℕ} (i : Divided starts nbrs) where
       → (Holds starts u (getD starts u 0 + j)) × (v ≡ getD nbrs (getD starts u 0 + j) 0)
   place-held {u} {j} p =
       let c = length-cut starts nbrs in
-      let k : u + 1 < length starts = let s = source p in omega arith in
+      let k : u + 1 < length starts = omega (arith, source p) in
       let a = p .fits in
       let b = row-size i u k in
       (record { inside = k; low = omega arith; high = omega arith }, sym (p .leads) ∙ row-neighbour i u k j a)
@@ -137,7 +137,7 @@ rise-tail a s r u h =
 
 rise-last : (a : ℕ) (s : List ℕ) → Rise (a ∷ s) → a ≤ getD (a ∷ s) (length s) 0
 rise-last a [] r = omega arith
-rise-last a (b ∷ s) r = let i = rise-last b s (rise-tail a (b ∷ s) r) in let h = r 0 (omega arith) in omega arith
+rise-last a (b ∷ s) r = omega (arith, rise-last b s (rise-tail a (b ∷ s) r), r 0 (omega arith))
 
 flatten-from : (a : ℕ) (s l : List ℕ) → Rise (a ∷ s)
     → flatten (cut (a ∷ s) l) ≡ take (getD (a ∷ s) (length s) 0 - a) (drop a l)

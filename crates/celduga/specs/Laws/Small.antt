@@ -60,7 +60,7 @@ module _ {A : Type 0} {P : A → Type 0} where
 
 -- a block has at most 2·m places
 block-small : {bytes : List ℕ} {n m : ℕ} → Sound bytes n m → {u : ℕ} → u < n → length (block (blocks bytes) u) ≤ 32768
-block-small s h = let e = span-size s h in let f = span-ends s h in let g = s .m-fits in omega arith
+block-small s h = omega (arith, span-size s h, span-ends s h, s .m-fits)
 
 pub degree-small : (bytes : List ℕ) (v : ℕ) → Small (degree bytes v)
 unfolding degree degreeRules

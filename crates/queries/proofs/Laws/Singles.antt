@@ -151,7 +151,7 @@ module _ (w : View) where
 
     pub unmet-end : {u : ℕ} → length (w .graph) ≤ u → Unmet u → refused 12 ≡ visitedOf w k
     unfolding Unmet visitedOf hits
-    unmet-end {u} h o = ap found (found-none hits {i = u} (let d = hits-long in omega arith) (let z = o in omega arith))
+    unmet-end {u} h o = ap found (found-none hits {i = u} (omega (arith, hits-long)) (omega (arith, o)))
 
 -- ---- the block of u, whose fields are those from a up to b
 

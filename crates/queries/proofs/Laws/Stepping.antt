@@ -56,7 +56,7 @@ step-strays g u j e h = rw (e, stepBy, le-ltb (target g u j) (length g) h)
 module _ {bytes : List ℕ} {n m u a b : ℕ} (o : Sound bytes n m) (h : u < n) (ea : a ≡ getD (startsOf (unary bytes)) u 0)
     (eb : b ≡ getD (startsOf (unary bytes)) (u + 1) 0) where
   pub block-bounds : (a ≤ b) × (b ≤ 2 * m)
-  block-bounds = let r = span-rises o h in let e = span-ends o h in (omega arith, omega arith)
+  block-bounds = (omega (arith, span-rises o h), omega (arith, span-ends o h))
 
   -- its marks have a place in a section
   pub block-fits : (a ≤ b) × (a + u + 1 + (b - a) ≤ n + 2 * m) × (n ≤ 4096) × (m ≤ 16384)
@@ -108,7 +108,7 @@ module _ {bytes : List ℕ} {n m u a b : ℕ} (o : Sound bytes n m) (h : u < n) 
 
         -- so its field is one of the record's
         pub lone-field : (a + p < 2 * m) × (m ≤ 16384)
-        lone-field = let (x, y) = block-bounds in let i = inside in (omega arith, o .m-fits)
+        lone-field = (omega (arith, block-bounds .1, inside), o .m-fits)
 
         module _ {t : ℕ} (et : t ≡ getD (fields bytes) (a + p) 0) where
           leads : target (blocks bytes) u p ≡ t

@@ -186,7 +186,10 @@ module _ {bytes index : List ℕ} {n m : ℕ} (r : Ready bytes index n m) where
     above-is e = ap parentBy e ∙ parent-shown formed covered shows v (inside h)
 
     pub never-stuck : stuck ≡ step → {A : Type 0} → A
-    never-stuck e = let q = above-is e in absurd (let z : _≡_ {A = ℕ} 0 1 = cc in omega arith)
+    never-stuck e =
+        let q = above-is e in
+        let z : _≡_ {A = ℕ} 0 1 = cc in
+        absurd (omega arith)
 
     pub root-parent : top ≡ step → 0 ≡ parent (forest (blocks bytes)) v
     root-parent e = none-zero (parent (forest (blocks bytes)) v) (same-answer (above-is e))
@@ -216,7 +219,7 @@ module _ {bytes index : List ℕ} {n m : ℕ} (r : Ready bytes index n m) where
       risen-head ex =
           let F = forest (blocks bytes) in
           let b = parent-before-child (formed .in-range) covered p v (inside h) (e ∙ add-one p) in
-          let q : number F p < k = let y = there f in let z = ap (number F) is in omega arith in
+          let q : number F p < k = omega (arith, there f, ap (number F) is) in
           let w = back l in
           ex ∙ ap (λ (x : ℕ). getD heads x 0) (sym w) ∙ t .hold .cells (number F p) q
           ∙ ap (λ (x : ℕ). suc (head (blocks bytes) F x)) w

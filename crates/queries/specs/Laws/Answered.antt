@@ -72,7 +72,7 @@ module _ {bytes index : List ℕ} (w : Written bytes index) where
       subst (λ (x : List ℕ). Shows (viewOf bytes x) (forest (blocks bytes))) (sym (w .is)) (built-shows (w .accepted))
 
   pub vertex-of : {v : ℕ} → Terminal bytes v → v - 1 < length (blocks bytes)
-  vertex-of t = let l = as-many (w .accepted) in let s = t .some in let u = t .upto in omega arith
+  vertex-of t = omega (arith, as-many (w .accepted), t .some, t .upto)
 
   -- ---- nothing of order Q is broken
 

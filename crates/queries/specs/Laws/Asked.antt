@@ -61,4 +61,4 @@ asked bytes index v {s} e =
 
 -- the vertex of a terminal
 pub vertex-in : {n k : ℕ} → Ranged n k → k - 1 < n
-vertex-in r = let a = r .some in let b = r .upto in omega arith
+vertex-in r = omega (arith, r .some, r .upto)

@@ -135,8 +135,8 @@ module _ {bytes : List ℕ} (a : Accepted bytes) where
       → sectionBit bytes (indexOf g) k (placeOf bytes u j) ≡ marking k u j
   marked-bit k l {u} {j} p =
       let h = source p in
-      let q = start-block sound u (let z = as-many in omega arith) in
-      let o = span-one sound {u = u} (let z = as-many in omega arith) in
+      let q = start-block sound u (omega (arith, as-many)) in
+      let o = span-one sound {u = u} (omega (arith, as-many)) in
       let e : placeOf bytes u j ≡ placeBit g u j = omega arith in
       sym (section-bit (indexOf g) n m built-length k (placeOf bytes u j) l (place-inside p))
       ∙ ap₂ (λ (s : List Bool) (x : ℕ). getD s x false) (section-is k l) e
@@ -166,7 +166,7 @@ module _ {bytes : List ℕ} (a : Accepted bytes) where
       let o = span-one sound {u = u} (omega arith) in
       let q = start-block sound u (omega arith) in
       let e : p ≡ blockStart g u + u = omega arith in
-      let v : u < length g = let z = as-many in omega arith in
+      let v : u < length g = omega (arith, as-many) in
       sym (section-bit (indexOf g) n m built-length k p l inside)
       ∙ ap₂ (λ (s : List Bool) (x : ℕ). getD s x false) (section-is k l) e
       ∙ own-bit (marking k) g u v

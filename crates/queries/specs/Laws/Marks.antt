@@ -59,7 +59,7 @@ module _ (t : List Bool) (i : ℕ) (h : getD t i false ≡ true) (only : (j : �
           absurd z
         where
           none-or : (k : ℕ) → select t k ≡ i + 1 → ⊥
-          none-or zero f = let y = select-none t 1 (omega arith) in let x = select-zero t in omega arith
+          none-or zero f = omega (arith, select-none t 1 (omega arith), select-zero t)
           none-or (suc k) f = let y = select-none t (suc k) (omega arith) in omega arith
 
   pub first-set : select t 1 ≡ i + 1

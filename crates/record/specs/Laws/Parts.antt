@@ -152,11 +152,11 @@ zeros-none (false ∷ d) e = absurd (clash refl e)
 
 module _ (d : List Bool) (begins : beginsWithZero d ≡ false) where
   pub start-first : getD (startsOf d) 0 0 ≡ 0
-  start-first = let e = starts-first 0 d in let z = zeros-none d begins in omega arith
+  start-first = omega (arith, starts-first 0 d, zeros-none d begins)
 
   pub cut-parts : (l : List ℕ) → cut (startsOf d) l ≡ parts d l
   cut-parts l =
-      let e : 0 + zeros d ≡ 0 = let z = zeros-none d begins in omega arith in
+      let e : 0 + zeros d ≡ 0 = omega (arith, zeros-none d begins) in
       cut-from 0 d l ∙ ap (λ (n : ℕ). parts d (drop n l)) e
 
   -- a block stands from its start up to the next

@@ -107,7 +107,7 @@ module _ {bytes : List ℕ} {n m : ℕ} (s : Sound bytes n m) where
   sound-shaped = shaped bytes (s .kept)
 
   places-are : n + 2 * m ≡ terminals bytes + 2 * wires bytes
-  places-are = let e = s .is-n in let f = s .is-m in omega arith
+  places-are = omega (arith, s .is-n, s .is-m)
 
   unary-is : unary bytes ≡ string bytes 28 (n + 2 * m)
   unfolding unary
@@ -163,7 +163,7 @@ module _ {bytes : List ℕ} {n m : ℕ} (s : Sound bytes n m) where
   spare-counted spare e {r} er =
       let used : ℕ = 28 + (n + 2 * m) + 12 * (2 * m) in
       let h = s .held in
-      let u : usedBits (terminals bytes) (wires bytes) ≡ used = let f = s .is-n in let g = s .is-m in omega arith in
+      let u : usedBits (terminals bytes) (wires bytes) ≡ used = omega (arith, s .is-n, s .is-m) in
       let a : rank (string bytes used spare) spare ≡ count (take spare (drop used (bits bytes))) =
       rank-inside bytes used spare spare (le-leb (used + spare) (8 * length bytes) (omega arith)) (omega arith) in
       let b : take spare (drop used (bits bytes)) ≡ drop used (bits bytes) =

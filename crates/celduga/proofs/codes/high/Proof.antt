@@ -6,10 +6,10 @@ use Rattle.celduga.proofs.codes.high.Statement.{statement}
 use Rattle.celduga.proofs.codes.high.Tie as tie
 
 cast-result : tie.Need-cast-result
-cast-result c = let e = c .number-of .ensures in let h = number-small (c .before .args .r) in omega arith
+cast-result c = omega (arith, c .number-of .ensures, number-small (c .before .args .r))
 
 mul-result : tie.Need-mul-result
-mul-result c = let e = c .number-of .ensures in let h = number-small (c .before .args .r) in omega arith
+mul-result c = omega (arith, c .number-of .ensures, number-small (c .before .args .r))
 
 pub high-spec : {M : Type 1} → statement M
 high-spec = tie.close

@@ -110,8 +110,7 @@ module _ {g : Blocks} (wf : WellFormed g) {F : Forest} (span : Spanning g F) {p 
   inner (child {v = y} k q) =
       let ne : y ≡ c → ⊥ =
       λ (e : y ≡ c).
-      (let l = parent-first (span .built) k in let l′ = ancestor-first
-      (span .built) q in let z = ap (number F) e in omega arith) in
+      (omega (arith, parent-first (span .built) k, ancestor-first (span .built) q, ap (number F) e)) in
       chain-trans (inner q) (chain-one (tree-place span k) (tree-without span wf m k ne))
 
   crossing-joined : Crossing g F p j c → Chain g (without g p j) p c

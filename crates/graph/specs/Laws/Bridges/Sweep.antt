@@ -86,7 +86,7 @@ module _ {g : Blocks} {F : Forest} (span : Spanning g F) where
     at-most = λ c i. h c (span .within c i) .at-most;
     at-place = λ c i w p n. h c (span .within c (source-entered span p)) .at-place i w (p .fits) p n;
     at-child =
-        λ c j x m l. (let a = number-bound (entry-entered m) in let b = forest-length span in absurd (omega arith));
+        λ c j x m l. absurd (omega (arith, number-bound (entry-entered m), forest-length span));
     attained = λ c i. go c (h c (span .within c i) .met);
   }
     where
@@ -126,16 +126,16 @@ module _ {g : Blocks} {F : Forest} (span : Spanning g F) where
     }
       where
         no-child : {c j x : ℕ} → x ≡ v → List·Memᴰ (via c j x) F → ⊥
-        no-child q k = let a = parent-child (span .built) k in let b = ap (parent F) q in omega arith
+        no-child q k = omega (arith, parent-child (span .built) k, ap (parent F) q)
 
     -- a child's lowpoint goes into its parent's
     pub sweep-child : {t t′ : ℕ → ℕ} {u : ℕ} → parent F (vertexAt F m) ≡ suc u
         → Stored (length g) t t′ u (min (t u) (t (vertexAt F m)))
         → Lows g F (suc m) t → Lows g F m t′
     sweep-child {t} {t′} {u} e st lo = record {
-      at-most = λ c i. (let a = lower c i in let b = lo .at-most c i in omega arith);
+      at-most = λ c i. (omega (arith, lower c i, lo .at-most c i));
       at-place =
-          λ c i w p n. (let a = lower c (source-entered span p) in let b = lo .at-place c i w p n in omega arith);
+          λ c i w p n. (omega (arith, lower c (source-entered span p), lo .at-place c i w p n));
       at-child = λ c j x k l. under c j x k (this-or-later x (entry-entered k) l);
       attained = λ c i. go c i (ℕ-discrete c u) (decLe (t u) (t v)) (lo .attained c i);
     }
@@ -152,13 +152,13 @@ module _ {g : Blocks} {F : Forest} (span : Spanning g F) where
         lower : (c : ℕ) → Entered c F → t′ c ≤ t c
         lower c i =
             elim (ℕ-discrete c u) [
-              | yes q ↦ (let a = hit in let b = ap t′ q in let d = ap t q in omega arith)
+              | yes q ↦ (omega (arith, hit, ap t′ q, ap t q))
               | no n ↦ (let a = other c i n in omega arith)
             ]
 
         -- what counts already lies past u
         past : (x : ℕ) → m ≤ number F x → x ≡ u → ⊥
-        past x l q = let a = parent-first (span .built) up in let b = v-number in let d = ap (number F) q in omega arith
+        past x l q = omega (arith, parent-first (span .built) up, v-number, ap (number F) q)
 
         kept : (x : ℕ) → Entered x F → m ≤ number F x → t′ x ≡ t x
         kept x i l = other x i (past x l)
@@ -191,5 +191,5 @@ module _ {g : Blocks} {F : Forest} (span : Spanning g F) where
             let d = kept v v-entered (omega arith) in
             by-child (slot F v) v (rw q up) (omega arith) (omega arith)
         go c i (yes q) (yes l) w =
-            attained-keeps (omega arith) (let a = hit in let b = ap t′ q in let d = ap t q in omega arith) later w
+            attained-keeps (omega arith) (omega (arith, hit, ap t′ q, ap t q)) later w
         go c i (no n) d w = attained-keeps (omega arith) (other c i n) later w

@@ -104,7 +104,7 @@ module _ {g : Blocks} (wf : WellFormed g) {F : Forest} (span : Spanning g F) whe
       omega arith
   later-apart {h} {k} i (top-bridge p j m e) l f =
       let pl = tree-place span m in
-      let nh : Ancestor F k h → ⊥ = λ (q : Ancestor F k h). (let x = ancestor-first (span .built) q in omega arith) in
+      let nh : Ancestor F k h → ⊥ = λ (q : Ancestor F k h). (omega (arith, ancestor-first (span .built) q)) in
       let c₁ = chain-beside span wf m h i nh in
       let c₂ = chain-beside span wf m p (parent-entered (span .built) m) (parent-not-below (span .built) m) in
       let r : rootOf F h ≡ rootOf F p = chain-root span wf (f .joined-all) ∙ root-parent (span .built) m in

@@ -60,7 +60,10 @@ module _ {g : Blocks} {F : Forest} (span : Spanning g F) where
       tree-without {u} {i} {y} k h = wire-stays g p j u i bad
         where
           bad : OnWire g p j u i → ⊥
-          bad (this a b) = let e₁ = tree-place span m .leads in let e₂ = tree-place span k .leads in h (cc)
+          bad (this a b) =
+              let e₁ = tree-place span m .leads in
+              let e₂ = tree-place span k .leads in
+              h (cc)
           bad (that a b) =
               let e₁ = tree-place span m .leads in
               let e₂ = tree-place span k .leads in

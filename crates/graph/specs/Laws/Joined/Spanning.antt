@@ -101,7 +101,7 @@ module _ {g : Blocks} {F : Forest} (span : Spanning g F) where
   forest-length = count-whole (length g) (span .built) (span .within) (span .whole)
 
   pub number-range : (v : ℕ) → v < length g → number F v < length g
-  number-range v h = let a = number-bound (span .whole v h) in let b = forest-length in omega arith
+  number-range v h = omega (arith, number-bound (span .whole v h), forest-length)
 
   -- a tree place is the first mention of the child in its parent's block
   pub tree-first : {u j v : ℕ} → List·Memᴰ (via u j v) F → mentions v (take j (block g u)) ≡ 0

@@ -63,7 +63,10 @@ each-from f u (l ∷ g) = (there (each-from f (suc u) g .0), back (each-from f (
         → (eachOf (f u) 0 l && eachFrom f (suc u) g) ≡ true
     back rec h = and-both
         (each-of (f u) 0 l .1
-        (λ d c. let z : u + 0 ≡ u = omega arith in let y : 0 + d ≡ d = omega arith in rw y (rw z at (h 0 d c))))
+        (λ d c.
+        let z : u + 0 ≡ u = omega arith in
+        let y : 0 + d ≡ d = omega arith in
+        rw y (rw z at (h 0 d c))))
         (rec (λ d j c. let z : u + suc d ≡ suc u + d = omega arith in rw z at (h (suc d) j c)))
 
 pub each-place : (f : ℕ → ℕ → ℕ → Bool) (g : Blocks)

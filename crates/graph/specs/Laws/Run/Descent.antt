@@ -124,7 +124,7 @@ module _ {g : Blocks} {ok : PlaceTest} where
           let e₁ = number-stays up b (now q) in
           let e₂ = number-hit e F q in
           let new : Entered w (e ∷ F) → ⊥ =
-          λ (z : Entered w (e ∷ F)). (let e₃ = number-stays up b z in let l₃ = number-bound z in omega arith) in
+          λ (z : Entered w (e ∷ F)). (omega (arith, number-stays up b z, number-bound z)) in
           ancestor-grows (segment-grows s)
           (segment-below k (λ a x. hangs-arcs (ancestor-same q) (arcs-arc g ok x)) iw new)
       go (below x y) f r =

@@ -200,4 +200,4 @@ search-segment g ok r starts h =
     inside a m = elim (start-goal starts m) [ start {v = v} k ↦ h v k ]
 
     enough : length (map root starts) + coming g ok [] ≤ length starts + length (flatten g)
-    enough = let a = length-map starts root in let b = coming-most g ok in omega arith
+    enough = omega (arith, length-map starts root, coming-most g ok)

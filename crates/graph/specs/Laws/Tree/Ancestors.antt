@@ -34,7 +34,7 @@ ancestor-same e = rw e self
 module _ {Ok : ℕ → ℕ → ℕ → Type 0} {F : Forest} (b : Built Ok F) where
   pub ancestor-first : {c x : ℕ} → Ancestor F c x → number F c ≤ number F x
   ancestor-first self = omega arith
-  ancestor-first (child m q) = let h = parent-first b m in let k = ancestor-first q in omega arith
+  ancestor-first (child m q) = omega (arith, parent-first b m, ancestor-first q)
 
   pub ancestor-root : {c x : ℕ} → Ancestor F c x → rootOf F x ≡ rootOf F c
   ancestor-root self = refl
@@ -47,7 +47,7 @@ module _ {Ok : ℕ → ℕ → ℕ → Type 0} {F : Forest} (b : Built Ok F) whe
 
   -- no vertex is an ancestor of its parent
   pub parent-not-below : {p j c : ℕ} → List·Memᴰ (via p j c) F → Ancestor F c p → ⊥
-  parent-not-below m q = let h = parent-first b m in let k = ancestor-first q in omega arith
+  parent-not-below m q = omega (arith, parent-first b m, ancestor-first q)
 
   -- the ancestors of a root, and of a child
   ancestor-of-root : {v c : ℕ} → List·Memᴰ (root v) F → Ancestor F c v → c ≡ v

@@ -102,7 +102,7 @@ module _ {Ok : ℕ → ℕ → ℕ → Type 0} where
       above (built-via h k o b′) q = entered-cast (cc) k
 
   pub parent-apart : {F : Forest} {u j v : ℕ} → Built Ok F → List·Memᴰ (via u j v) F → u ≡ v → ⊥
-  parent-apart {F = F} b m e = let l = parent-first b m in let k = ap (number F) e in omega arith
+  parent-apart {F = F} b m e = omega (arith, parent-first b m, ap (number F) e)
 
 -- ---- how much is left: the weights of the vertices below n that are not entered
 
@@ -180,4 +180,4 @@ module _ {Ok : ℕ → ℕ → ℕ → Type 0} where
 
   pub count-whole : {F : Forest} (n : ℕ) → Built Ok F → ((v : ℕ) → Entered v F → v < n)
       → ((v : ℕ) → v < n → Entered v F) → length F ≡ n
-  count-whole {F = F} n b h w = let c = count n b h in let e = left-none F n w in omega arith
+  count-whole {F = F} n b h w = omega (arith, count n b h, left-none F n w)

@@ -26,7 +26,7 @@ loop-holds c =
 get-requires : tie.Need-get-requires Inv-loop μ-loop
 get-requires c κs =
     let start = c .before .before .before .before .before .before .before .before in
-    let s = start .pre .2 .size in let t = c .loop-test .taken in omega arith
+    omega (arith, start .pre .2 .size, c .loop-test .taken)
 
 place-of-requires : tie.Need-place-of-requires Inv-loop μ-loop
 place-of-requires c κs =
@@ -68,7 +68,7 @@ add-k : tie.Need-add-k Inv-loop μ-loop
 add-k c =
     let at-test = c .before .before .before .before .before .before .before .before .before .before .before in
     let start = at-test .before .before .before .before .before .before .before .before in
-    let f = ready-beside (start .pre .0) .framed .n-fits in let t = at-test .loop-test .taken in omega arith
+    omega (arith, ready-beside (start .pre .0) .framed .n-fits, at-test .loop-test .taken)
 
 loop-less : tie.Need-loop-less Inv-loop μ-loop
 loop-less c =

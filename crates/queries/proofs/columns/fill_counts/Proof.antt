@@ -36,7 +36,7 @@ get-requires c κs =
 add-get : tie.Need-add-get Inv-loop μ-loop
 add-get c =
     let start = c .before .before .before .before .before .before .before in
-    let f = ready-beside (start .pre .0) .framed .n-fits in let t = c .before .loop-test .taken in omega arith
+    omega (arith, ready-beside (start .pre .0) .framed .n-fits, c .before .loop-test .taken)
 
 get-requires-2 : tie.Need-get-requires-2 Inv-loop μ-loop
 get-requires-2 c κs =
@@ -99,7 +99,7 @@ add-v : tie.Need-add-v Inv-loop μ-loop
 add-v c =
     let at-test = c .before .before .before .before .before .before .before in
     let start = at-test .before .before .before .before .before .before in
-    let f = ready-beside (start .pre .0) .framed .n-fits in let t = at-test .loop-test .taken in omega arith
+    omega (arith, ready-beside (start .pre .0) .framed .n-fits, at-test .loop-test .taken)
 
 loop-less : tie.Need-loop-less Inv-loop μ-loop
 loop-less c =

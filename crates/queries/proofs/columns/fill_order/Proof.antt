@@ -25,7 +25,7 @@ loop-holds c =
 get-requires : tie.Need-get-requires Inv-loop μ-loop
 get-requires c κs =
     let start = c .before .before .before .before .before .before .before in
-    let s = start .pre .1 .size in let t = c .before .loop-test .taken in omega arith
+    omega (arith, start .pre .1 .size, c .before .loop-test .taken)
 
 sub-put : tie.Need-sub-put Inv-loop μ-loop
 sub-put c =
@@ -49,7 +49,7 @@ add-v : tie.Need-add-v Inv-loop μ-loop
 add-v c =
     let at-test = c .before .before .before .before .before in
     let start = at-test .before .before .before .before .before .before in
-    let f = ready-beside (start .pre .0) .framed .n-fits in let t = at-test .loop-test .taken in omega arith
+    omega (arith, ready-beside (start .pre .0) .framed .n-fits, at-test .loop-test .taken)
 
 loop-less : tie.Need-loop-less Inv-loop μ-loop
 loop-less c =

@@ -14,7 +14,7 @@ use Rattle.queries.proofs.marks.stored.Tie as tie
 read12-requires : tie.Need-read12-requires
 read12-requires c κs =
     let pre = c .before .before .pre in
-    let e = c .mark-bytes .ensures .0 in let l = numbers-fit (pre .0) in omega arith
+    omega (arith, c .mark-bytes .ensures .0, numbers-fit (pre .0))
 
 returns : tie.Need-returns
 unfolding numberOf

@@ -21,7 +21,7 @@ module _ {d : List Bool} {starts : List ℕ} {i k : ℕ} (f : Filling d starts i
   -- no more ones than bits read, and no more than there are
   pub filling-bounds : (k ≤ i) × (k ≤ count d)
   unfolding rank
-  filling-bounds = let e = f .ones in let a = count-take-le i d in let b = rank-le d i in omega arith
+  filling-bounds = omega (arith, f .ones, count-take-le i d, rank-le d i)
 
   filling-one : i < length d → getD d i false ≡ true → Filling d (set starts k (i - k)) (i + 1) (k + 1)
   unfolding startsFrom count

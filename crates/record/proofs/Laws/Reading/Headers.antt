@@ -67,7 +67,7 @@ module _ (bytes : List ℕ) where
 
 module _ {bytes : List ℕ} {n m : ℕ} (headed : Headed bytes n m) where
   same-places : n + 2 * m ≡ terminals bytes + 2 * wires bytes
-  same-places = let e = headed .is-n in let f = headed .is-m in omega arith
+  same-places = omega (arith, headed .is-n, headed .is-m)
 
   -- the bytes hold the used bits
   pub holds-all : usedBits n m ≤ 8 * length bytes

@@ -51,7 +51,7 @@ pub top-inside : (w : ℕ) (s : List Bool) (g h : ℕ) → 2 ^ h ≤ field w s g
 top-inside w s g h l = go (decLe w h)
   where
     go : Dec (w ≤ h) → h < w
-    go (yes n) = absurd (let m = pow-mono n in let f = field-lt w s g in omega arith)
+    go (yes n) = absurd (omega (arith, pow-mono n, field-lt w s g))
     go (no n) = omega arith
 
 -- a bits before the highest one of the field of a + 1 + h bits from bit g on, and h after it

@@ -29,7 +29,7 @@ slice-write-list : tie.Need-slice-write-list Inv-loop μ-loop
 slice-write-list c =
     let at-loop = c .before .before in
     let start = at-loop .before in
-    let l = length-map (start .args .nbrs .now) suc in let s = at-loop .loop .inv .size in omega arith
+    omega (arith, length-map (start .args .nbrs .now) suc, at-loop .loop .inv .size)
 
 loop-again : tie.Need-loop-again Inv-loop μ-loop
 loop-again c =
@@ -43,7 +43,7 @@ same-length : tie.Need-same-length Inv-loop μ-loop
 same-length c =
     let at-loop = c .before in
     let start = at-loop .before in
-    let l = length-map (start .args .nbrs .now) suc in let s = at-loop .loop .inv .size in omega arith
+    omega (arith, length-map (start .args .nbrs .now) suc, at-loop .loop .inv .size)
 
 returns : tie.Need-returns Inv-loop μ-loop
 returns c =
