@@ -146,7 +146,6 @@ cleared-end {s} {a} {b} {at} k done =
 -- no one stands before bit `at`, and of the part from there on the highest one is at place h
 pub record Topped (s : List Bool) (a b at width w h : ℕ) : Type 0 where
   pub held : b ≤ length s
-  pub goes : at < b
   pub clear : Cleared s a b at
   pub part : PartOf s at b width w
   pub from : 2 ^ h ≤ w

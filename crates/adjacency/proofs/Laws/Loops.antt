@@ -36,14 +36,10 @@ module _ {starts : List ℕ} {n u : ℕ} where
 pub record Sized (starts nbrs : List ℕ) (n : ℕ) : Type 0 where
   pub arrays : Arrays starts nbrs
   pub number : n + 1 ≡ length starts
-  pub small : n ≤ 4096
 
 module _ {starts nbrs : List ℕ} {n : ℕ} where
   pub sized-start : Arrays starts nbrs → n ≡ length starts - 1 → Sized starts nbrs n
-  sized-start i e =
-      let a = i .divided .some in
-      let b = i .divided .few-blocks in
-      record { arrays = i; number = omega arith; small = omega arith }
+  sized-start i e = record { arrays = i; number = omega (arith, i .divided .some) }
 
   pub sized-at : Sized starts nbrs n → {u : ℕ} → u < n → At starts nbrs u
   sized-at t h = record { arrays = t .arrays; inside = let e = t .number in omega arith }

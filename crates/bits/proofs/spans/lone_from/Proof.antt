@@ -35,7 +35,6 @@ topped c =
     let l = length-bits (begun (read c) .args .bytes .now) in
     record {
       held = omega arith;
-      goes = omega arith;
       clear = passed (read c) .loop .inv;
       part = read c .part-from .ensures;
       from = c .top .ensures .1;

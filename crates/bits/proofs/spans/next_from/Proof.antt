@@ -39,7 +39,6 @@ found c =
     let n = length-bits (begun (read c) .args .bytes .now) in
     topped-next (record {
       held = omega arith;
-      goes = read c .before .loop-test .taken;
       clear = passed (read c) .loop .inv .0;
       part = part (read c);
       from = c .top .ensures .1;
