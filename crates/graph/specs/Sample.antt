@@ -1,4 +1,4 @@
--- The sample of document 01, and a pair of doubled wires, computed. Vertices and visit numbers count from 0.
+-- The sample of document 01, from two starts, and a pair of doubled wires, computed. Vertices and visit numbers count from 0.
 use Prim.Native.Nat.{ℕ, suc}
 use mathlib.Core.Path.{_≡_, refl}
 use mathlib.Core.Bool.{Bool, true, false, not, _&&_}
@@ -8,10 +8,10 @@ use lib.Dec.{eqb, ltb}
 use lib.ListN.{length}
 use borrow.Author.Tests.{ltb-true, eqb-true, eq-eqb, not-true}
 use Rattle.graph.specs.Graph.{Blocks, block, Place, mentions, position, pair, twin, WellFormed}
-use Rattle.graph.specs.Search.{root, via, PlaceTest, entered, arcs, run, search, countUp, forest}
+use Rattle.graph.specs.Search.{root, via, PlaceTest, entered, arcs, run, search, countUp, startsFrom, forest}
 use Rattle.graph.specs.Joined.{without, joined, bridge, DoublyJoined}
 use Rattle.graph.specs.Forest.{number, vertexAt, climb, parent, rootOf, head, children, childMark, parentMark}
-use Rattle.graph.specs.Theorems.{vertices-cover, same-heads}
+use Rattle.graph.specs.Theorems.{start-covers, same-heads}
 use Rattle.graph.specs.Laws.Places.Basics.{clash, and-parts}
 use Rattle.graph.specs.Laws.Places.Pairing.{well-formed-at}
 use Rattle.graph.specs.Laws.Places.Each.{eachOf, eachFrom, each, each-place}
@@ -61,40 +61,41 @@ sample-well-formed = sound-well-formed sample refl
 abbrev vertices : List ℕ
 vertices = 0 ∷ 1 ∷ 2 ∷ 3 ∷ 4 ∷ 5 ∷ []
 
-sample-forest : forest sample ≡ via 4 0 5 ∷ root 4 ∷ via 2 1 3 ∷ via 2 0 1 ∷ via 0 0 2 ∷ root 0 ∷ []
-unfolding search run countUp arcs entered flatten
+sample-forest : forest sample 0 ≡ via 4 0 5 ∷ root 4 ∷ via 2 1 3 ∷ via 2 0 1 ∷ via 0 0 2 ∷ root 0 ∷ []
+unfolding search run startsFrom countUp arcs entered flatten
 sample-forest = refl
 
-sample-numbers : map (number (forest sample)) vertices ≡ 0 ∷ 2 ∷ 1 ∷ 3 ∷ 4 ∷ 5 ∷ []
-unfolding number search run countUp arcs entered flatten
+sample-numbers : map (number (forest sample 0)) vertices ≡ 0 ∷ 2 ∷ 1 ∷ 3 ∷ 4 ∷ 5 ∷ []
+unfolding number search run startsFrom countUp arcs entered flatten
 sample-numbers = refl
 
-sample-order : map (vertexAt (forest sample)) vertices ≡ 0 ∷ 2 ∷ 1 ∷ 3 ∷ 4 ∷ 5 ∷ []
-unfolding vertexAt search run countUp arcs entered flatten
+sample-order : map (vertexAt (forest sample 0)) vertices ≡ 0 ∷ 2 ∷ 1 ∷ 3 ∷ 4 ∷ 5 ∷ []
+unfolding vertexAt search run startsFrom countUp arcs entered flatten
 sample-order = refl
 
 -- 0 for a root, else 1 + the parent
-sample-parents : map (parent (forest sample)) vertices ≡ 0 ∷ 3 ∷ 1 ∷ 3 ∷ 0 ∷ 5 ∷ []
-unfolding parent climb search run countUp arcs entered flatten
+sample-parents : map (parent (forest sample 0)) vertices ≡ 0 ∷ 3 ∷ 1 ∷ 3 ∷ 0 ∷ 5 ∷ []
+unfolding parent climb search run startsFrom countUp arcs entered flatten
 sample-parents = refl
 
-sample-children : map (children (forest sample)) vertices ≡ (2 ∷ []) ∷ [] ∷ (1 ∷ 3 ∷ []) ∷ [] ∷ (5 ∷ []) ∷ [] ∷ []
-unfolding children search run countUp arcs entered flatten
+sample-children : map (children (forest sample 0)) vertices ≡ (2 ∷ []) ∷ [] ∷ (1 ∷ 3 ∷ []) ∷ [] ∷ (5 ∷ []) ∷ [] ∷ []
+unfolding children search run startsFrom countUp arcs entered flatten
 sample-children = refl
 
-sample-roots : map (rootOf (forest sample)) vertices ≡ 0 ∷ 0 ∷ 0 ∷ 0 ∷ 4 ∷ 4 ∷ []
-unfolding rootOf climb search run countUp arcs entered flatten
+sample-roots : map (rootOf (forest sample 0)) vertices ≡ 0 ∷ 0 ∷ 0 ∷ 0 ∷ 4 ∷ 4 ∷ []
+unfolding rootOf climb search run startsFrom countUp arcs entered flatten
 sample-roots = refl
 
 -- the marks E, P and B, block by block
-sample-E : marksFrom (childMark (forest sample)) 0 sample ≡ (1 ∷ 0 ∷ []) ∷ (0 ∷ 0 ∷ []) ∷ (1 ∷ 1 ∷ 0 ∷ []) ∷ (0 ∷ [])
+sample-E : marksFrom (childMark (forest sample 0)) 0 sample ≡ (1 ∷ 0 ∷ []) ∷ (0 ∷ 0 ∷ []) ∷ (1 ∷ 1 ∷ 0 ∷ []) ∷ (0 ∷ [])
     ∷ (1 ∷ []) ∷ (0 ∷ []) ∷ []
-unfolding marksFrom marksOf childMark search run countUp arcs entered flatten
+unfolding marksFrom marksOf childMark search run startsFrom countUp arcs entered flatten
 sample-E = refl
 
-sample-P : marksFrom (parentMark sample sample (forest sample)) 0 sample ≡ (0 ∷ 0 ∷ []) ∷ (0 ∷ 1 ∷ [])
+sample-P : marksFrom (parentMark sample sample (forest sample 0)) 0 sample ≡ (0 ∷ 0 ∷ []) ∷ (0 ∷ 1 ∷ [])
     ∷ (0 ∷ 0 ∷ 1 ∷ []) ∷ (1 ∷ []) ∷ (0 ∷ []) ∷ (1 ∷ []) ∷ []
-unfolding marksFrom marksOf parentMark pair position mentions childMark search run countUp arcs entered flatten
+unfolding marksFrom marksOf parentMark pair position mentions childMark search run startsFrom countUp arcs entered
+    flatten
 sample-P = refl
 
 sample-B : marksFrom (bridge sample) 0 sample ≡ (0 ∷ 0 ∷ []) ∷ (0 ∷ 0 ∷ []) ∷ (0 ∷ 1 ∷ 0 ∷ []) ∷ (1 ∷ []) ∷ (1 ∷ [])
@@ -102,21 +103,26 @@ sample-B : marksFrom (bridge sample) 0 sample ≡ (0 ∷ 0 ∷ []) ∷ (0 ∷ 0 
 unfolding marksFrom marksOf bridge joined without pair position mentions search run arcs entered flatten
 sample-B = refl
 
-sample-heads : map (head sample (forest sample)) vertices ≡ 0 ∷ 0 ∷ 0 ∷ 3 ∷ 4 ∷ 5 ∷ []
-unfolding head climb bridge joined without pair position mentions search run countUp arcs entered flatten
+sample-heads : map (head sample (forest sample 0)) vertices ≡ 0 ∷ 0 ∷ 0 ∷ 3 ∷ 4 ∷ 5 ∷ []
+unfolding head climb bridge joined without pair position mentions search run startsFrom countUp arcs entered flatten
 sample-heads = refl
 
 -- so the theorem says that 0 and 1 are doubly joined, and that 2 and 3 are not
 sample-section : DoublyJoined sample 0 1
-unfolding head climb bridge joined without pair position mentions search run countUp arcs entered flatten
-sample-section = same-heads sample-well-formed (vertices-cover sample) 0 1 (omega arith) (omega arith) .0 refl
+unfolding head climb bridge joined without pair position mentions search run startsFrom countUp arcs entered flatten
+sample-section = same-heads sample-well-formed (start-covers sample 0 (λ h. h)) 0 1 (omega arith) (omega arith) .0 refl
 
 sample-apart : DoublyJoined sample 2 3 → ⊥
-unfolding head climb bridge joined without pair position mentions search run countUp arcs entered flatten
+unfolding head climb bridge joined without pair position mentions search run startsFrom countUp arcs entered flatten
 sample-apart d =
     let e : _≡_ {A = ℕ} 0 3 =
-    same-heads sample-well-formed (vertices-cover sample) 2 3 (omega arith) (omega arith) .1 d in
+    same-heads sample-well-formed (start-covers sample 0 (λ h. h)) 2 3 (omega arith) (omega arith) .1 d in
     omega arith
+
+-- from vertex 3: the same groups, in which 0, 1 and 2 have the head 2
+sample-heads-from-3 : map (head sample (forest sample 3)) vertices ≡ 2 ∷ 2 ∷ 2 ∷ 3 ∷ 4 ∷ 5 ∷ []
+unfolding head climb bridge joined without pair position mentions search run startsFrom countUp arcs entered flatten
+sample-heads-from-3 = refl
 
 -- ---- two wires between the same ends, and a single one further on
 
@@ -127,21 +133,22 @@ doubled-well-formed : WellFormed doubled
 unfolding each eachFrom eachOf sound mentions
 doubled-well-formed = sound-well-formed doubled refl
 
-doubled-E : marksFrom (childMark (forest doubled)) 0 doubled ≡ (1 ∷ 0 ∷ []) ∷ (0 ∷ 1 ∷ 0 ∷ []) ∷ (0 ∷ []) ∷ []
-unfolding marksFrom marksOf childMark search run countUp arcs entered flatten
+doubled-E : marksFrom (childMark (forest doubled 0)) 0 doubled ≡ (1 ∷ 0 ∷ []) ∷ (0 ∷ 1 ∷ 0 ∷ []) ∷ (0 ∷ []) ∷ []
+unfolding marksFrom marksOf childMark search run startsFrom countUp arcs entered flatten
 doubled-E = refl
 
-doubled-P : marksFrom (parentMark doubled doubled (forest doubled)) 0 doubled ≡ (0 ∷ 0 ∷ []) ∷ (1 ∷ 0 ∷ 0 ∷ [])
+doubled-P : marksFrom (parentMark doubled doubled (forest doubled 0)) 0 doubled ≡ (0 ∷ 0 ∷ []) ∷ (1 ∷ 0 ∷ 0 ∷ [])
     ∷ (1 ∷ []) ∷ []
-unfolding marksFrom marksOf parentMark pair position mentions childMark search run countUp arcs entered flatten
+unfolding marksFrom marksOf parentMark pair position mentions childMark search run startsFrom countUp arcs entered
+    flatten
 doubled-P = refl
 
 doubled-B : marksFrom (bridge doubled) 0 doubled ≡ (0 ∷ 0 ∷ []) ∷ (0 ∷ 1 ∷ 0 ∷ []) ∷ (1 ∷ []) ∷ []
 unfolding marksFrom marksOf bridge joined without pair position mentions search run arcs entered flatten
 doubled-B = refl
 
-doubled-heads : map (head doubled (forest doubled)) (0 ∷ 1 ∷ 2 ∷ []) ≡ 0 ∷ 0 ∷ 2 ∷ []
-unfolding head climb bridge joined without pair position mentions search run countUp arcs entered flatten
+doubled-heads : map (head doubled (forest doubled 0)) (0 ∷ 1 ∷ 2 ∷ []) ≡ 0 ∷ 0 ∷ 2 ∷ []
+unfolding head climb bridge joined without pair position mentions search run startsFrom countUp arcs entered flatten
 doubled-heads = refl
 
 -- the twins of the two mentions of 1 at 0, in order

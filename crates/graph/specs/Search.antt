@@ -1,6 +1,6 @@
--- The depth-first search (document 01, "Forest"): it takes the starts in order; each one still unvisited becomes a
--- root. From a visited vertex it tries the neighbours in listed order, goes to the first unvisited one as a child, and
--- returns when none is left.
+-- The depth-first search (document 01, "Forest"; the start is document 02's): it takes the starts in order; each one
+-- still unvisited becomes a root. From a visited vertex it tries the neighbours in listed order, goes to the first
+-- unvisited one as a child, and returns when none is left.
 use Prim.Native.Nat.{ℕ, zero, suc, _+_}
 use mathlib.Core.{Bool.Bool, Bool.true, Bool.false, Bool._||_, List.List, List.[], List._∷_, List._++_, List.map}
 use mathlib.Core.{List.flatten}
@@ -52,5 +52,10 @@ unfoldable pub countUp : ℕ → ℕ → List ℕ  -- i, i + 1, ..: n numbers
 countUp i zero = []
 countUp i (suc n) = i ∷ countUp (suc i) n
 
-abbrev pub forest : Blocks → Forest  -- every place is allowed and the starts are the vertices in order
-forest g = search g all (countUp 0 (length g))
+unfoldable pub startsFrom : ℕ → ℕ
+    → List ℕ  -- the start s, and then all n vertices in order, s among them; none where n is 0
+startsFrom zero s = []
+startsFrom (suc n) s = s ∷ countUp 0 (suc n)
+
+abbrev pub forest : Blocks → ℕ → Forest  -- every place is allowed, and the search begins at the vertex s
+forest g s = search g all (startsFrom (length g) s)

@@ -8,7 +8,7 @@ use mathlib.Core.List.{List, [], _∷_, List·Memᴰ, flatten}
 use lib.Dec.{eqb}
 use lib.ListN.{length}
 use Rattle.graph.specs.Graph.{Blocks, block, Place, position, pair, twin, WellFormed}
-use Rattle.graph.specs.Search.{Forest, PlaceTest, all, entered, search, countUp}
+use Rattle.graph.specs.Search.{Forest, PlaceTest, all, entered, search, countUp, startsFrom, forest}
 use Rattle.graph.specs.Joined.{Chain, without, joined, bridge, DoublyJoined}
 use Rattle.graph.specs.Forest.{number, vertexAt, parent, rootOf, head, Ancestor, children, childMark, parentMark}
 use Rattle.graph.specs.Walk.{walk}
@@ -19,8 +19,9 @@ use Rattle.graph.specs.Laws.Tree.Climbs.{slot, child-entry}
 use Rattle.graph.specs.Laws.Tree.Ancestors.{ancestor, ancestor-test}
 use Rattle.graph.specs.Laws.Run.Segments.{search-segment}
 use Rattle.graph.specs.Laws.Joined.Reach.{searched-down, joined-chain}
-use Rattle.graph.specs.Laws.Joined.Spanning.{Covers, covers-vertices, Spanning, search-spans}
+use Rattle.graph.specs.Laws.Joined.Spanning.{Covers, Spanning, search-spans}
 use Rattle.graph.specs.Laws.Joined.Spanning.{forest-length, number-range, tree-place, ends-related}
+use Rattle.graph.specs.Laws.Joined.Starts.{Startable, starts-cover, start-0, First, start-first}
 use Rattle.graph.specs.Laws.Joined.Roots.{same-root-joined}
 use Rattle.graph.specs.Laws.Edges.Marks.{child-mark, child-mark-entry, child-mark-first, mark-paired}
 use Rattle.graph.specs.Laws.Edges.Marks.{marked-back, back-once, root-unmarked, parent-mark-first}
@@ -37,9 +38,9 @@ use Rattle.graph.specs.Laws.Loop.Invariant.{Loop, loop-begin, loop-pass-
 use Rattle.graph.specs.Laws.Loop.Invariant.{loop-enter-at, loop-leave, loop-end}
 use Rattle.graph.specs.Laws.Heads.Walks.{HeadSteps, walk-head, rise-head, AncestorSteps, walk-ancestor}
 
--- `forest g` takes the vertices in order: they cover
-pub vertices-cover : (g : Blocks) → Covers g (countUp 0 (length g))
-vertices-cover = covers-vertices
+-- `forest g s` takes s and then the vertices in order: they cover
+pub start-covers : (g : Blocks) (s : ℕ) → Startable g s → Covers g (startsFrom (length g) s)
+start-covers = starts-cover
 
 -- a graph of wires is balanced with itself: where h is g, `pair` is `twin`
 pub wires-balance : {g : Blocks} → WellFormed g → Balanced g g
@@ -237,7 +238,16 @@ bridge-told = bridge-joined
 pub bridge-both : {g : Blocks} → WellFormed g → {u j v : ℕ} → Place g u j v → bridge g v (twin g u j) ≡ bridge g u j
 bridge-both = bridge-twin
 
--- ---- 7. The invariant of a loop: from the state that the arrays hold, the search ends in H. It begins, tries a start,
+-- ---- 7. The start is a root and visited first; vertex 0 as the start gives the forest of the vertices in order. Two
+-- starts give the same groups: `same-groups`
+
+pub start-visited-first : {g : Blocks} → InRange g → {s : ℕ} → s < length g → First (forest g s) s
+start-visited-first = start-first
+
+pub start-1 : {g : Blocks} → InRange g → search g all (countUp 0 (length g)) ≡ forest g 0
+start-1 = start-0
+
+-- ---- 8. The invariant of a loop: from the state that the arrays hold, the search ends in H. It begins, tries a start,
 -- enters a neighbour, leaves a block and ends
 
 pub search-begins : {g : Blocks} {starts : List ℕ} → InRange g → ((v : ℕ) → List·Memᴰ v starts → v < length g)

@@ -1,5 +1,6 @@
--- Laws on joined, the forest of a whole graph, and theorem 4.
+-- Laws on joined, the forest of a whole graph, and theorems 4 and 7.
 pub mod Chains
 pub mod Reach
 pub mod Spanning
+pub mod Starts
 pub mod Roots

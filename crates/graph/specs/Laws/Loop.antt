@@ -1,4 +1,4 @@
--- Laws on theorem 7: the invariant of a loop that searches.
+-- Laws on theorem 8: the invariant of a loop that searches.
 pub mod Machine
 pub mod Arrays
 pub mod Stack

@@ -1,4 +1,4 @@
--- Theorem 7, the invariant of an imperative loop over arrays, with its steps. Beside the arrays the program holds the
+-- Theorem 8, the invariant of an imperative loop over arrays, with its steps. Beside the arrays the program holds the
 -- starts still to try, `cur` (0, or 1 + the vertex at hand), `k` (how many are entered) and `left`, which counts down.
 --   Loop                               the invariant
 --   loop-begin, loop-end               before the first step, and after the last

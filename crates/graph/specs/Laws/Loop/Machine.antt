@@ -1,4 +1,4 @@
--- Theorem 7, the search as a program runs it: a stack of frames, each a vertex and the position in its block to try
+-- Theorem 8, the search as a program runs it: a stack of frames, each a vertex and the position in its block to try
 -- next, and the starts still to try.
 --   Frames, goals   the stack, and what it and the starts leave to try
 --   Going           from here the search ends in H; the laws going-.. are its steps
