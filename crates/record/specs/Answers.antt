@@ -1,4 +1,4 @@
--- Answers: what an operation says, and document 01's number for each named case of the code's answers.
+-- Answers: what an operation says, and the documents' number for each named case of the code's answers.
 use Prim.Native.Nat.{ℕ, zero, suc}
 use lib.IntN.{ℤ}
 use lib.Dec.{eqb}
@@ -12,7 +12,7 @@ use Rattle.record.specs.declared.Shape.the-variants as Shape
 use Rattle.record.specs.declared.Refusal.{Refusal}
 use Rattle.record.specs.declared.Refusal.the-variants.{TooShort, OverLimit, WrongLength, BadUnary, SpareSet}
 use Rattle.record.specs.declared.Refusal.the-variants.{StrayNeighbour, DoubledNeighbour, OneSidedWire, ShortWork}
-use Rattle.record.specs.declared.Refusal.the-variants.{WrongBuffer, NoTerminal, BadIndex, NoChild}
+use Rattle.record.specs.declared.Refusal.the-variants.{WrongBuffer, NoTerminal, BadIndex, NoChild, NoStart}
 use Rattle.record.specs.declared.Verdict.{Verdict}
 use Rattle.record.specs.declared.Verdict.the-variants as Verdict
 use Rattle.record.specs.declared.Counted.{Counted}
@@ -65,6 +65,7 @@ number WrongBuffer = 10
 number NoTerminal = 11
 number BadIndex = 12
 number NoChild = 13
+number NoStart = 14
 
 -- an answer that only reports that nothing is refused
 abbrev pub verdict : Verdict → Answer (Unit {0})

@@ -8,7 +8,7 @@ ghost use Rattle.record.specs.Operations.{neighbours as neighboursOf, ne
 ghost use Rattle.record.specs.Operations.{loopFigure};
 
 pub mod header; // header.rt: the header, and order R
-pub mod range; // range.rt: rule 11
+pub mod range; // range.rt: the range of rules 11 and 14
 pub mod starts; // starts.rt: where the blocks start
 pub mod fields; // fields.rt: the neighbour fields
 mod blocks; // blocks.rt: one block
@@ -19,7 +19,7 @@ mod rooms; // rooms.rt: Check in room for the record's size
 // A terminal number, from 1: document 01's vertex label.
 pub struct Vertex(pub usize);
 
-// Why a call refuses. Document 01 numbers these cases from 1 in this order.
+// Why a call refuses. The documents number these cases from 1 in this order.
 pub enum Refusal {
     TooShort,
     OverLimit,
@@ -34,6 +34,7 @@ pub enum Refusal {
     NoTerminal,
     BadIndex,
     NoChild,
+    NoStart,
 }
 
 // Nothing is refused, or why.
@@ -70,7 +71,7 @@ pub enum Shape {
     Refused(Refusal),
 }
 
-// Document 01's number of a refusal.
+// The documents' number of a refusal.
 pub fn number_of(r: Refusal) -> usize
     ensures { λ k. ⌜ k ≡ number r ⌝ }
 {
@@ -88,6 +89,7 @@ pub fn number_of(r: Refusal) -> usize
         Refusal::NoTerminal => 11,
         Refusal::BadIndex => 12,
         Refusal::NoChild => 13,
+        Refusal::NoStart => 14,
     }
 }
 

@@ -1,17 +1,17 @@
 -- From an operation's answer to the number that is returned.
 use mathlib.Core.Path.{_≡_, sym, ap, subst, _∙_}
-use Prim.Native.Nat.{ℕ, _*_, _≤_}
+use Prim.Native.Nat.{ℕ, _*_, _<_}
 use native.Mathlib.Omega.{arith}
 use Rattle.record.specs.Answers.{Answer, refused, answered, number}
 use Rattle.record.specs.declared.Refusal.{Refusal}
 use Rattle.record.specs.declared.Refusal.the-variants.{TooShort, OverLimit, WrongLength, BadUnary, SpareSet}
 use Rattle.record.specs.declared.Refusal.the-variants.{StrayNeighbour, DoubledNeighbour, OneSidedWire, ShortWork}
-use Rattle.record.specs.declared.Refusal.the-variants.{WrongBuffer, NoTerminal, BadIndex, NoChild}
+use Rattle.record.specs.declared.Refusal.the-variants.{WrongBuffer, NoTerminal, BadIndex, NoChild, NoStart}
 use Rattle.celduga.specs.Code.{code}
 use Rattle.celduga.specs.Laws.Halves.{Valued, none, value}
 
--- a refusal's number is small
-pub number-small : (r : Refusal) → number r ≤ 13
+-- a refusal's number fits the high half
+pub number-small : (r : Refusal) → number r < 65536
 number-small TooShort = omega arith
 number-small OverLimit = omega arith
 number-small WrongLength = omega arith
@@ -25,6 +25,7 @@ number-small WrongBuffer = omega arith
 number-small NoTerminal = omega arith
 number-small BadIndex = omega arith
 number-small NoChild = omega arith
+number-small NoStart = omega arith
 
 module _ {A : Type 0} (low : A → ℕ) where
   pub code-refused : {k r : ℕ} {a : Answer A} → refused k ≡ a → r ≡ 65536 * k → r ≡ code low a

@@ -67,17 +67,6 @@ both-kept (rule {k} {b} {rules} r) c e =
     let (h, i) = both-kept r c g in
     (first-kept (suc k) rules f ∙ h, i)
 
--- a rule at the end that is kept
-pub last-kept : (a : List Rule) (k : ℕ) {b : Bool} → b ≡ false → firstBroken (a ++ ((k, b) ∷ [])) ≡ firstBroken a
-unfolding firstBroken
-last-kept [] k e = first-kept k [] e
-last-kept ((n, true) ∷ a) k e = refl
-last-kept ((n, false) ∷ a) k e = last-kept a k e
-
-pub numbered-append : {a b : List Rule} → Numbered a → Numbered b → Numbered (a ++ b)
-numbered-append none n = n
-numbered-append (rule m) n = rule (numbered-append m n)
-
 -- ---- order R
 
 -- what order R asks of a record

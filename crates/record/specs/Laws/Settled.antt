@@ -39,11 +39,12 @@ refusals =
     ∷ Refusal.NoTerminal
     ∷ Refusal.BadIndex
     ∷ Refusal.NoChild
+    ∷ Refusal.NoStart
     ∷ []
 
 pub named : ℕ → Refusal
 unfolding refusals
-named k = getD refusals (k - 1) Refusal.NoChild
+named k = getD refusals (k - 1) Refusal.NoStart
 
 pub named-number : (r : Refusal) → named (number r) ≡ r
 unfolding refusals named
@@ -60,6 +61,7 @@ named-number Refusal.WrongBuffer = refl
 named-number Refusal.NoTerminal = refl
 named-number Refusal.BadIndex = refl
 named-number Refusal.NoChild = refl
+named-number Refusal.NoStart = refl
 
 -- ---- enums
 
