@@ -37,9 +37,9 @@ numbers g F = map (number F) (countUp 0 (length g))
 unfoldable pub indexBy : Blocks → Forest → List ℕ
 indexBy g F = pack (sectionE g F) ++ (pack (sectionP g F) ++ (pack (sectionB g) ++ pack (fieldBits (numbers g F))))
 
--- the index
-abbrev pub indexOf : Blocks → List ℕ
-indexOf g = indexBy g (forest g)
+-- the index of the search that begins at the vertex s
+abbrev pub indexOf : Blocks → ℕ → List ℕ
+indexOf g s = indexBy g (forest g s)
 
 -- the bytes of a section of marks, and of the visit numbers
 unfoldable pub markBytes : ℕ → ℕ → ℕ

@@ -3,3 +3,4 @@ pub mod Sections
 pub mod Starts
 pub mod Marking
 pub mod Bytes
+pub mod Taken

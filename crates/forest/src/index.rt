@@ -5,10 +5,10 @@ ghost use Prim.Native.Nat.{_+_, _*_, _≤_, _<_};
 ghost use lib.ListN.{length};
 ghost use Rattle.graph.specs.Graph.{Blocks, WellFormed};
 ghost use Rattle.adjacency.specs.Arrays.{cut, Arrays, Divided};
-ghost use Rattle.forest.specs.Index.{indexOf, indexBy, indexLength};
+ghost use Rattle.forest.specs.Index.{indexOf, indexLength};
 ghost use Rattle.forest.specs.Steps.{stride as strideOf};
-ghost use Rattle.forest.specs.Lows.{Lifting};
-ghost use Rattle.forest.specs.Fronts.{forestOf, Ready, Begins, upToE, upToP, upToB};
+ghost use Rattle.forest.specs.Lows.{Lifts};
+ghost use Rattle.forest.specs.Fronts.{Ready, Begins, Reaches, Holds, upToE, upToP, upToB};
 use super::marks::mark_bridges;
 use super::marks::mark_listed;
 use super::numbers::write_numbers;
@@ -26,8 +26,8 @@ fn write_e(
 )
     ghost { Blocks }
     requires { λ g. ⌜ cut (now starts) (now nbrs) ≡ g ⌝ }
-    requires { λ g. ⌜ (Ready g (forestOf g n) n m s (now work) k) × (Begins n k [] (now index)) ⌝ }
-    ensures { λ g _. ⌜ Begins n k (upToE g (forestOf g n)) (now (index .exit)) ⌝ }
+    requires { λ g. ⌜ (Ready g n m s (now work) k) × (Begins n k [] (now index)) ⌝ }
+    ensures { λ g _. ⌜ Reaches upToE g n s (now (work .entry)) k (now (index .exit)) ⌝ }
 {
     let from = 4 * s;
     let to = from + n;
@@ -47,10 +47,8 @@ fn write_p(
 )
     ghost { Blocks }
     requires { λ g. ⌜ cut (now starts) (now nbrs) ≡ g ⌝ }
-    requires { λ g. ⌜
-        (Ready g (forestOf g n) n m s (now work) k) × (Begins n k (upToE g (forestOf g n)) (now index))
-        ⌝ }
-    ensures { λ g _. ⌜ Begins n k (upToP g (forestOf g n)) (now (index .exit)) ⌝ }
+    requires { λ g. ⌜ (Ready g n m s (now work) k) × (Reaches upToE g n s (now work) k (now index)) ⌝ }
+    ensures { λ g _. ⌜ Reaches upToP g n s (now (work .entry)) k (now (index .exit)) ⌝ }
 {
     mark_listed(&work[..n], &mut index[k..2 * k]);
 }
@@ -68,10 +66,8 @@ fn write_b(
 )
     ghost { Blocks }
     requires { λ g. ⌜ cut (now starts) (now nbrs) ≡ g ⌝ }
-    requires { λ g. ⌜
-        (Ready g (forestOf g n) n m s (now work) k) × (Begins n k (upToP g (forestOf g n)) (now index))
-        ⌝ }
-    ensures { λ g _. ⌜ Begins n k (upToB g (forestOf g n)) (now (index .exit)) ⌝ }
+    requires { λ g. ⌜ (Ready g n m s (now work) k) × (Reaches upToP g n s (now work) k (now index)) ⌝ }
+    ensures { λ g _. ⌜ Reaches upToB g n s (now (work .entry)) k (now (index .exit)) ⌝ }
 {
     mark_bridges(starts, nbrs, n, m, s, work, &mut index[2 * k..3 * k]);
 }
@@ -89,10 +85,8 @@ fn write_rest(
 )
     ghost { Blocks }
     requires { λ g. ⌜ cut (now starts) (now nbrs) ≡ g ⌝ }
-    requires { λ g. ⌜
-        (Ready g (forestOf g n) n m s (now work) k) × (Begins n k (upToB g (forestOf g n)) (now index))
-        ⌝ }
-    ensures { λ g _. ⌜ now (index .exit) ≡ indexBy g (forestOf g n) ⌝ }
+    requires { λ g. ⌜ (Ready g n m s (now work) k) × (Reaches upToB g n s (now work) k (now index)) ⌝ }
+    ensures { λ g _. ⌜ Holds g n s (now (work .entry)) (now (index .exit)) ⌝ }
 {
     let from = 2 * s;
     let to = from + n;
@@ -114,10 +108,8 @@ fn write_sections(
     requires { λ g. ⌜
         (Divided (now starts) (now nbrs)) × (n + 1 ≡ length (now starts)) × (length (now nbrs) ≡ 2 * m)
         ⌝ }
-    requires { λ g. ⌜
-        (WellFormed g) × (Lifting g (forestOf g n) n s (now work) 0) × (length (now index) ≡ indexLength n m)
-        ⌝ }
-    ensures { λ g _. ⌜ now (index .exit) ≡ indexBy g (forestOf g n) ⌝ }
+    requires { λ g. ⌜ (WellFormed g) × (Lifts g n s (now work) 0) × (length (now index) ≡ indexLength n m) ⌝ }
+    ensures { λ g _. ⌜ Holds g n s (now (work .entry)) (now (index .exit)) ⌝ }
 {
     let k = super::lengths::mark_bytes(n, m);
     write_e(starts, nbrs, n, m, s, work, index, k);
@@ -134,12 +126,14 @@ fn stride(n: usize) -> usize
     n + n / 16
 }
 
-// Searches the graph and writes its index. What the work slice and the buffer hold before does not matter.
+// Searches the graph from the vertex `first` on and writes its index. What the work slice and the buffer hold before
+// does not matter.
 pub fn write_index(
     starts: &[u16],
     nbrs: &[u16],
     n: usize,
     m: usize,
+    first: usize,
     work: &mut [u16],
     index: &mut [u8],
 )
@@ -147,12 +141,12 @@ pub fn write_index(
     requires { λ g. ⌜ cut (now starts) (now nbrs) ≡ g ⌝ }
     requires { λ g. ⌜ (Arrays (now starts) (now nbrs)) × (n + 1 ≡ length (now starts)) × (length (now nbrs) ≡ 2 * m) ⌝ }
     requires { λ g. ⌜
-        (WellFormed g) × (0 < n) × (8 * n ≤ length (now work)) × (length (now index) ≡ indexLength n m)
+        (WellFormed g) × (first < n) × (8 * n ≤ length (now work)) × (length (now index) ≡ indexLength n m)
         ⌝ }
-    ensures { λ g _. ⌜ now (index .exit) ≡ indexOf g ⌝ }
+    ensures { λ g _. ⌜ now (index .exit) ≡ indexOf g first ⌝ }
 {
     let s = stride(n);
-    super::search::search(starts, nbrs, n, s, work);
+    super::search::search(starts, nbrs, n, s, first, work);
     super::lows::lowpoints(starts, nbrs, n, s, work);
     write_sections(starts, nbrs, n, m, s, work, index);
 }

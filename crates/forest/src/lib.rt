@@ -1,9 +1,11 @@
-// The index of a record (document 01, "Forest"): Build has no precondition; the functions of the modules have.
+// The index of a record (document 01, "Forest"; the start is document 02's). Build has no precondition; most functions
+// of the modules have one.
 ghost use mathlib.Core.Path.{_≡_};
 ghost use Rattle.record.specs.Answers.{verdict};
 ghost use Rattle.forest.specs.Operations.{build as buildOf, built};
 use record::Shape;
 use record::Verdict;
+use record::Vertex;
 
 mod clear; // clear.rt: a section of zeros
 mod search; // search.rt: the depth-first search
@@ -12,17 +14,18 @@ mod marks; // marks.rt: the sections of marks
 mod numbers; // numbers.rt: the section of the visit numbers
 mod index; // index.rt: the search, and the sections in order
 mod rooms; // rooms.rt: Build in room for the record's size
+pub mod start; // start.rt: rule 14, and the first start
 pub mod lengths; // lengths.rt: the lengths of a section and of the index
 
 // A visit number, from 1: the paper's depth-first index.
 pub struct Dfi(pub usize);
 
-// Build: writes the index of an accepted record. What the work slice and the buffer hold before does not matter; a
-// refused call leaves the buffer as it was.
-pub fn build(bytes: &[u8], work: &mut [u16], index: &mut [u8]) -> Verdict
+// Build: writes the index of an accepted record, for the search that begins at the start. What the work slice and the
+// buffer hold before does not matter; a refused call leaves the buffer as it was.
+pub fn build(bytes: &[u8], start: Vertex, work: &mut [u16], index: &mut [u8]) -> Verdict
     ensures { λ r. ⌜
-        (verdict r ≡ buildOf (now (bytes .entry)) (now (work .entry)) (now (index .entry)))
-        × (now (index .exit) ≡ built (now (bytes .entry)) (now (work .entry)) (now (index .entry)))
+        (verdict r ≡ buildOf (now (bytes .entry)) (start .0) (now (work .entry)) (now (index .entry)))
+        × (now (index .exit) ≡ built (now (bytes .entry)) (start .0) (now (work .entry)) (now (index .entry)))
         ⌝ }
 {
     match record::header::laid_out(bytes) {
@@ -30,7 +33,7 @@ pub fn build(bytes: &[u8], work: &mut [u16], index: &mut [u8]) -> Verdict
         Shape::Passed(s) => {
             let n = s.n;
             let m = s.m;
-            rooms::in_room(bytes, n, m, work, index, 0)
+            rooms::in_room(bytes, n, m, start, work, index, 0)
         }
     }
 }

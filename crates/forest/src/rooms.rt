@@ -4,15 +4,19 @@ ghost use Rattle.record.specs.Answers.{verdict};
 ghost use Rattle.record.specs.Steps.{Laid, Lent, Roomy, ArraysOf};
 ghost use Rattle.record.specs.Operations.{Accepted};
 ghost use Rattle.forest.specs.Operations.{BuildDone};
+use super::start::no_start;
 use record::Refusal;
 use record::Verdict;
+use record::Vertex;
 use record::arrays::check_arrays;
 
-// The lengths of the work slice and of the buffer, and then the index, for an accepted record and its two arrays.
+// The lengths of the work slice and of the buffer, the start, and then the index, for an accepted record and its two
+// arrays.
 fn build_from(
     bytes: &[u8],
     n: usize,
     m: usize,
+    start: Vertex,
     work: &mut [u16],
     index: &mut [u8],
     starts: &[u16],
@@ -20,7 +24,8 @@ fn build_from(
 ) -> Verdict
     requires { ⌜ (Accepted (now bytes)) × (ArraysOf (now bytes) (now starts) (now nbrs) n m) ⌝ }
     ensures { λ r. ⌜
-        BuildDone (now (bytes .entry)) (now (work .entry)) (now (index .entry)) (now (index .exit)) (verdict r)
+        BuildDone (now (bytes .entry)) (start .0) (now (work .entry))
+        (now (index .entry)) (now (index .exit)) (verdict r)
         ⌝ }
 {
     if work.len() < 8 * n {
@@ -29,10 +34,13 @@ fn build_from(
     if index.len() != super::lengths::index_length(n, m) {
         return Verdict::Refused(Refusal::WrongBuffer);
     }
+    if no_start(n, start.0) {
+        return Verdict::Refused(Refusal::NoStart);
+    }
     if n == 0 {
         return Verdict::Accepted;
     }
-    super::index::write_index(starts, nbrs, n, m, work, index);
+    super::index::write_index(starts, nbrs, n, m, start.0 - 1, work, index);
     Verdict::Accepted
 }
 
@@ -41,6 +49,7 @@ fn build_by(
     bytes: &[u8],
     n: usize,
     m: usize,
+    start: Vertex,
     work: &mut [u16],
     index: &mut [u8],
     starts: &mut [u16],
@@ -50,12 +59,13 @@ fn build_by(
 ) -> Verdict
     requires { ⌜ (Laid (now bytes) n m) × (Lent n m (now starts) (now nbrs) (now reverse) (now next)) ⌝ }
     ensures { λ r. ⌜
-        BuildDone (now (bytes .entry)) (now (work .entry)) (now (index .entry)) (now (index .exit)) (verdict r)
+        BuildDone (now (bytes .entry)) (start .0) (now (work .entry))
+        (now (index .entry)) (now (index .exit)) (verdict r)
         ⌝ }
 {
     match check_arrays(bytes, n, m, starts, nbrs, reverse, next) {
         Verdict::Refused(r) => Verdict::Refused(r),
-        Verdict::Accepted => build_from(bytes, n, m, work, index, starts, nbrs),
+        Verdict::Accepted => build_from(bytes, n, m, start, work, index, starts, nbrs),
     }
 }
 
@@ -64,6 +74,7 @@ fn build_in(
     bytes: &[u8],
     n: usize,
     m: usize,
+    start: Vertex,
     work: &mut [u16],
     index: &mut [u8],
     starts: &mut [u16],
@@ -73,7 +84,8 @@ fn build_in(
 ) -> Verdict
     requires { ⌜ (Laid (now bytes) n m) × (Roomy n m (now starts) (now nbrs) (now reverse) (now next)) ⌝ }
     ensures { λ r. ⌜
-        BuildDone (now (bytes .entry)) (now (work .entry)) (now (index .entry)) (now (index .exit)) (verdict r)
+        BuildDone (now (bytes .entry)) (start .0) (now (work .entry))
+        (now (index .entry)) (now (index .exit)) (verdict r)
         ⌝ }
 {
     let blocks = n + 1;
@@ -82,6 +94,7 @@ fn build_in(
         bytes,
         n,
         m,
+        start,
         work,
         index,
         &mut starts[..blocks],
@@ -92,10 +105,18 @@ fn build_in(
 }
 
 // Room for 128 terminals and 512 places.
-fn in_small(bytes: &[u8], n: usize, m: usize, work: &mut [u16], index: &mut [u8]) -> Verdict
+fn in_small(
+    bytes: &[u8],
+    n: usize,
+    m: usize,
+    start: Vertex,
+    work: &mut [u16],
+    index: &mut [u8],
+) -> Verdict
     requires { ⌜ (Laid (now bytes) n m) × (n ≤ 128) × (m ≤ 256) ⌝ }
     ensures { λ r. ⌜
-        BuildDone (now (bytes .entry)) (now (work .entry)) (now (index .entry)) (now (index .exit)) (verdict r)
+        BuildDone (now (bytes .entry)) (start .0) (now (work .entry))
+        (now (index .entry)) (now (index .exit)) (verdict r)
         ⌝ }
 {
     let mut starts = [0u16; 129];
@@ -106,6 +127,7 @@ fn in_small(bytes: &[u8], n: usize, m: usize, work: &mut [u16], index: &mut [u8]
         bytes,
         n,
         m,
+        start,
         work,
         index,
         &mut starts,
@@ -116,10 +138,18 @@ fn in_small(bytes: &[u8], n: usize, m: usize, work: &mut [u16], index: &mut [u8]
 }
 
 // Room for 512 terminals and 2,048 places. Cells to spare keep the rows out of each other's cache sets.
-fn in_middle(bytes: &[u8], n: usize, m: usize, work: &mut [u16], index: &mut [u8]) -> Verdict
+fn in_middle(
+    bytes: &[u8],
+    n: usize,
+    m: usize,
+    start: Vertex,
+    work: &mut [u16],
+    index: &mut [u8],
+) -> Verdict
     requires { ⌜ (Laid (now bytes) n m) × (n ≤ 512) × (m ≤ 1024) ⌝ }
     ensures { λ r. ⌜
-        BuildDone (now (bytes .entry)) (now (work .entry)) (now (index .entry)) (now (index .exit)) (verdict r)
+        BuildDone (now (bytes .entry)) (start .0) (now (work .entry))
+        (now (index .entry)) (now (index .exit)) (verdict r)
         ⌝ }
 {
     let mut starts = [0u16; 576];
@@ -130,6 +160,7 @@ fn in_middle(bytes: &[u8], n: usize, m: usize, work: &mut [u16], index: &mut [u8
         bytes,
         n,
         m,
+        start,
         work,
         index,
         &mut starts,
@@ -140,10 +171,18 @@ fn in_middle(bytes: &[u8], n: usize, m: usize, work: &mut [u16], index: &mut [u8
 }
 
 // Room for 8,192 places.
-fn in_large(bytes: &[u8], n: usize, m: usize, work: &mut [u16], index: &mut [u8]) -> Verdict
+fn in_large(
+    bytes: &[u8],
+    n: usize,
+    m: usize,
+    start: Vertex,
+    work: &mut [u16],
+    index: &mut [u8],
+) -> Verdict
     requires { ⌜ (Laid (now bytes) n m) × (m ≤ 4096) ⌝ }
     ensures { λ r. ⌜
-        BuildDone (now (bytes .entry)) (now (work .entry)) (now (index .entry)) (now (index .exit)) (verdict r)
+        BuildDone (now (bytes .entry)) (start .0) (now (work .entry))
+        (now (index .entry)) (now (index .exit)) (verdict r)
         ⌝ }
 {
     let mut starts = [0u16; 4160];
@@ -154,6 +193,7 @@ fn in_large(bytes: &[u8], n: usize, m: usize, work: &mut [u16], index: &mut [u8]
         bytes,
         n,
         m,
+        start,
         work,
         index,
         &mut starts,
@@ -164,10 +204,18 @@ fn in_large(bytes: &[u8], n: usize, m: usize, work: &mut [u16], index: &mut [u8]
 }
 
 // Room for every record.
-fn in_full(bytes: &[u8], n: usize, m: usize, work: &mut [u16], index: &mut [u8]) -> Verdict
+fn in_full(
+    bytes: &[u8],
+    n: usize,
+    m: usize,
+    start: Vertex,
+    work: &mut [u16],
+    index: &mut [u8],
+) -> Verdict
     requires { ⌜ (Laid (now bytes) n m) × (m ≤ 16384) ⌝ }
     ensures { λ r. ⌜
-        BuildDone (now (bytes .entry)) (now (work .entry)) (now (index .entry)) (now (index .exit)) (verdict r)
+        BuildDone (now (bytes .entry)) (start .0) (now (work .entry))
+        (now (index .entry)) (now (index .exit)) (verdict r)
         ⌝ }
 {
     let mut starts = [0u16; 4160];
@@ -178,6 +226,7 @@ fn in_full(bytes: &[u8], n: usize, m: usize, work: &mut [u16], index: &mut [u8])
         bytes,
         n,
         m,
+        start,
         work,
         index,
         &mut starts,
@@ -193,33 +242,35 @@ pub fn in_room(
     bytes: &[u8],
     n: usize,
     m: usize,
+    start: Vertex,
     work: &mut [u16],
     index: &mut [u8],
     k: usize,
 ) -> Verdict
     requires { ⌜ Laid (now bytes) n m ⌝ }
     ensures { λ r. ⌜
-        BuildDone (now (bytes .entry)) (now (work .entry)) (now (index .entry)) (now (index .exit)) (verdict r)
+        BuildDone (now (bytes .entry)) (start .0) (now (work .entry))
+        (now (index .entry)) (now (index .exit)) (verdict r)
         ⌝ }
 {
     if k == 0 {
         if n <= 128 {
             if m <= 256 {
-                return in_small(bytes, n, m, work, index);
+                return in_small(bytes, n, m, start, work, index);
             }
         }
-        return in_room(bytes, n, m, work, index, 1);
+        return in_room(bytes, n, m, start, work, index, 1);
     }
     if k == 1 {
         if n <= 512 {
             if m <= 1024 {
-                return in_middle(bytes, n, m, work, index);
+                return in_middle(bytes, n, m, start, work, index);
             }
         }
-        return in_room(bytes, n, m, work, index, 2);
+        return in_room(bytes, n, m, start, work, index, 2);
     }
     if m <= 4096 {
-        return in_large(bytes, n, m, work, index);
+        return in_large(bytes, n, m, start, work, index);
     }
-    in_full(bytes, n, m, work, index)
+    in_full(bytes, n, m, start, work, index)
 }

@@ -1,12 +1,12 @@
 // The depth-first search over the work slice, whose parts are listed in specs/Steps.antt. `left` bounds the steps that
-// are still to come. A step holds for any list of roots: the search of all vertices in order gives it one.
+// are still to come. A step holds for any list of roots: the search from a start gives it one.
 ghost use mathlib.Core.Path.{_≡_};
 ghost use mathlib.Core.Bool.{true, _||_};
 ghost use Prim.Native.Nat.{_+_, _-_, _≤_, _<_};
 ghost use lib.Dec.{ltb};
 ghost use lib.ListN.{length};
 ghost use Rattle.graph.specs.Graph.{Blocks};
-ghost use Rattle.graph.specs.Search.{all, search as searchOf, countUp};
+ghost use Rattle.graph.specs.Search.{all, search as searchOf, startsFrom};
 ghost use Rattle.adjacency.specs.Arrays.{cut, Arrays};
 ghost use Rattle.forest.specs.Steps.{Room, Known, Underway, Searched};
 ghost use Rattle.forest.specs.Steps.{Begun, Entering, PassedTo, StartTried, NextTried, StepTaken};
@@ -177,18 +177,23 @@ fn begin(starts: &[u16], n: usize, s: usize, work: &mut [u16])
     }
 }
 
-// The search of all vertices in order. What the work slice held before does not matter.
-pub fn search(starts: &[u16], nbrs: &[u16], n: usize, s: usize, work: &mut [u16])
+// The search that begins at the vertex `first` and then takes all vertices in order. What the work slice held before
+// does not matter.
+pub fn search(starts: &[u16], nbrs: &[u16], n: usize, s: usize, first: usize, work: &mut [u16])
     ghost { Blocks }
     requires { λ g. ⌜ cut (now starts) (now nbrs) ≡ g ⌝ }
-    requires { λ g. ⌜ (Arrays (now starts) (now nbrs)) × (n + 1 ≡ length (now starts)) × (Room n s (now work)) ⌝ }
-    ensures { λ g _. ⌜ Searched g (searchOf g all (countUp 0 n)) n s (now (work .exit)) ⌝ }
+    requires { λ g. ⌜
+        (Arrays (now starts) (now nbrs)) × (n + 1 ≡ length (now starts)) × (Room n s (now work)) × (first < n)
+        ⌝ }
+    ensures { λ g _. ⌜ Searched g (searchOf g all (startsFrom n first)) n s (now (work .exit)) ⌝ }
 {
     begin(starts, n, s, work);
-    let mut left = 2 * n + 2 * nbrs.len();
+    let steps = 2 * n + 2 * nbrs.len() + 2;
+    let h = try_start(starts, nbrs, n, s, work, steps, first, 0);
+    let mut left = steps - 1;
     let mut i: usize = 0;
-    let mut cur: usize = 0;
-    let mut k: usize = 0;
+    let mut cur = h.cur;
+    let mut k = h.k;
     while busy(n, i, cur) {
         let at = step(starts, nbrs, n, s, work, left, i, cur, k);
         left -= 1;

@@ -1,7 +1,7 @@
 -- `index::write_b` meets its contract.
 use Prim.Native.Nat.{_-_, _*_}
 use borrow.Author.Needs.{needs}
-use Rattle.forest.proofs.Laws.Fronts.{length-upToP, advance}
+use Rattle.forest.proofs.Laws.Fronts.{reaches, length-upToP, advance}
 use Rattle.forest.proofs.index.write_b.Statement.{statement}
 use Rattle.forest.proofs.index.write_b.Tie as tie
 
@@ -10,7 +10,11 @@ returns c =
     let m = c .before .before in
     let s = m .before .before .before .before .before .before in
     let k = s .args .k in
-    advance (s .pre .1) (2 * k) (3 * k - 2 * k) (length-upToP (s .pre .0)) (m .mark-bridges .ensures) (search needs)
+    let z = s .pre .0 .sized in
+    reaches (s .pre .0) λ F t. (
+    let front = s .pre .1 .begins F t in
+    advance front (2 * k) (3 * k - 2 * k) (length-upToP z F) (m .mark-bridges .ensures) (search needs)
+    )
 
 pub write-b-spec : {M : Type 1} → statement M
 write-b-spec =

@@ -6,7 +6,7 @@ use borrow.Author.Needs.{needs}
 use lib.ListN.{length, take, drop}
 use lib.Seq.{length-take-le}
 use Rattle.forest.proofs.Laws.Owned.{part-size, parents}
-use Rattle.forest.proofs.Laws.Fronts.{marks-asked, marks-written, length-upToE, advance}
+use Rattle.forest.proofs.Laws.Fronts.{reaches, marks-asked, marks-written, length-upToE, advance}
 use Rattle.forest.proofs.index.write_p.Statement.{statement}
 use Rattle.forest.proofs.index.write_p.Tie as tie
 
@@ -24,16 +24,21 @@ mark-listed-requires : tie.Need-mark-listed-requires
 mark-listed-requires c κs =
     let s = c .before .before .before .before .before .before in
     let r = s .pre .0 in
-    marks-asked r (parents (r .formed) (r .sized .vertices) (r .lifting)) (size s)
+    let t = r .lifts .lifting in
+    marks-asked (r .sized) t (parents (r .formed) (r .sized .vertices) t) (size s)
 
 returns : tie.Need-returns
 returns c =
     let m = c .before .before in
     let s = m .before .before .before .before .before .before .before in
     let r = s .pre .0 in
-    let list = parents (r .formed) (r .sized .vertices) (r .lifting) in
-    let section = marks-written r list (size s) (m .mark-listed .ensures .1 .1) (m .mark-listed .ensures .0) in
-    advance (s .pre .1) (s .args .k) (2 * s .args .k - s .args .k) (length-upToE r) section (search needs)
+    let z = r .sized in
+    reaches r λ F t. (
+    let list = parents (r .formed) (z .vertices) t in
+    let section = marks-written z t list (size s) (m .mark-listed .ensures .1 .1) (m .mark-listed .ensures .0) in
+    let front = s .pre .1 .begins F t in
+    advance front (s .args .k) (2 * s .args .k - s .args .k) (length-upToE z F) section (search needs)
+    )
 
 pub write-p-spec : {M : Type 1} → statement M
 write-p-spec =

@@ -11,15 +11,16 @@ use Rattle.forest.proofs.index.write_rest.Tie as tie
 write-numbers-requires : tie.Need-write-numbers-requires
 write-numbers-requires c κs =
     let s = c .before .before .before .before .before .before in
-    numbers-asked (s .pre .0)
+    let r = s .pre .0 in
+    numbers-asked (r .sized) (r .lifts .lifting)
     (part-size (3 * s .args .k) (length (s .args .index .now)) (s .args .index .now) (omega arith) (omega arith))
 
 returns : tie.Need-returns
-returns c =
+returns c F t =
     let w = c .before .before in
     let s = w .before .before .before .before .before .before .before in
     let rest = length (s .args .index .now) - 3 * s .args .k in
-    index-written (s .pre .0) (s .pre .1) rest (omega arith) (w .write-numbers .ensures)
+    index-written (s .pre .0 .sized) t (s .pre .1 .begins F t) rest (omega arith) (w .write-numbers .ensures)
 
 pub write-rest-spec : {M : Type 1} → statement M
 write-rest-spec =

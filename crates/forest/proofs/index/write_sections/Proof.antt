@@ -1,7 +1,7 @@
 -- `index::write_sections` meets its contract.
 use borrow.Author.Needs.{needs}
 use Rattle.adjacency.specs.Arrays.{cut}
-use Rattle.forest.specs.Fronts.{forestOf, Ready}
+use Rattle.forest.specs.Fronts.{Ready}
 use Rattle.forest.proofs.Laws.Fronts.{ready, begins-nothing}
 use Rattle.forest.proofs.index.write_sections.Statement.{statement}
 use Rattle.forest.proofs.index.write_sections.Tie as tie
@@ -11,8 +11,7 @@ start c = c .before .before .before .before .before
 
 -- what every section is written from
 shown : (c : tie.After-mark-bytes) → Ready (cut (start c .args .starts .now) (start c .args .nbrs .now))
-    (forestOf (cut (start c .args .starts .now) (start c .args .nbrs .now)) (start c .args .n)) (start c .args .n)
-    (start c .args .m) (start c .args .s) (start c .args .work .now) (c .mark-bytes .result)
+    (start c .args .n) (start c .args .m) (start c .args .s) (start c .args .work .now) (c .mark-bytes .result)
 shown c = ready (start c .pre .0) (start c .pre .1 .0) (start c .pre .1 .1) (c .mark-bytes .ensures .0)
 
 write-e-requires : tie.Need-write-e-requires

@@ -15,7 +15,7 @@ use Rattle.forest.proofs.rooms.+in_room.{statement}
 use Rattle.forest.proofs.rooms.+in_room.Tie.{close}
 
 abbrev μ-in-room : Measures 3 in-room-kinds.ps ℕ
-μ-in-room κs a = 2 - a .1 .1 .1 .1 .1 .0
+μ-in-room κs a = 2 - a .1 .1 .1 .1 .1 .1 .0
 
 abbrev in-room-at : ℕ → In 3 in-room-kinds.ps
 in-room-at t = and 3 in-room-kinds.ps (is 3 in-room-kinds.ps μ-in-room t) in-room.Pre

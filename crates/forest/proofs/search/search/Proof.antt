@@ -1,24 +1,42 @@
 -- `search::search` meets its contract.
 use mathlib.Core.Path.{_≡_, refl, sym, _∙_}
+use mathlib.Core.List.{_∷_}
 use Prim.Native.Nat.{_-_, _<_}
 use native.Mathlib.Omega.{arith}
 use borrow.Author.Needs.{needs}
 use lib.ListN.{length}
-use Rattle.graph.specs.Search.{countUp}
+use Rattle.graph.specs.Search.{countUp, startsFrom}
 use Rattle.adjacency.specs.Arrays.{cut}
-use Rattle.forest.proofs.Laws.Begins.{From, searching-busy, search-begun, search-ended}
+use Rattle.forest.proofs.Laws.Begins.{From, searching-busy, search-begun, search-first, search-ended}
 use Rattle.forest.proofs.search.search.Statement.{statement}
 use Rattle.forest.proofs.search.search.Tie as tie
 
 abbrev Inv-loop : tie.InvT-loop
-Inv-loop starts nbrs n s work₀ left₀ i₀ cur₀ k₀ work left i cur k =
-    (From (cut starts nbrs) starts n s work left i cur k) × (length work ≡ length work₀)
+Inv-loop starts nbrs n s first work₀ steps left₀ i₀ cur₀ k₀ work left i cur k =
+    (From (cut starts nbrs) starts n s first work left i cur k) × (length work ≡ length work₀)
 
 abbrev μ-loop : tie.MeasureT-loop
-μ-loop starts nbrs n s work₀ left₀ i₀ cur₀ k₀ work left i cur k = left
+μ-loop starts nbrs n s first work₀ steps left₀ i₀ cur₀ k₀ work left i cur k = left
 
-abbrev begin : tie.After-slice-known2 Inv-loop μ-loop → tie.Start Inv-loop μ-loop
-begin c = c .before .before .before .before .before .before .before
+-- the calls, from the last back
+abbrev start : tie.After-begin Inv-loop μ-loop → tie.Start Inv-loop μ-loop
+start c = c .before .before .before .before .before
+
+abbrev begun : tie.After-try-start Inv-loop μ-loop → tie.After-begin Inv-loop μ-loop
+begun c = c .before .before .before .before
+
+abbrev begin : tie.After-slice-known3 Inv-loop μ-loop → tie.Start Inv-loop μ-loop
+begin c = start (begun (c .before .before))
+
+try-start-requires : tie.Need-try-start-requires Inv-loop μ-loop
+try-start-requires c κs =
+    let b = c .before .before .before in
+    let s = start b in
+    let (a, fit, room, h) = s .pre in
+    let roots = startsFrom (s .args .n) (s .args .first) in
+    let todo = s .args .first ∷ countUp 0 (s .args .n) in
+    let here = search-begun a fit h (b .begin .ensures) in
+    ((a, fit, omega (arith, h)), record { roots = roots; todo = todo; searching = here })
 
 -- a step is to be done, so `left` is not used up
 left-more : (c : tie.Then1 Inv-loop μ-loop) → 0 < c .before .before .loop .left
@@ -27,17 +45,24 @@ left-more c =
     searching-busy (l .i) (l .cur) (l .inv .0) (sym (c .before .busy .ensures) ∙ c .if1 .taken)
 
 loop-holds : tie.Need-loop-holds Inv-loop μ-loop
-loop-holds c = (search-begun (begin c .pre .0) (begin c .pre .1) (c .before .before .begin .ensures), refl)
+loop-holds c =
+    let t = c .before .before in
+    let s = begin c in
+    let (a, fit, room, h) = s .pre in
+    let roots = startsFrom (s .args .n) (s .args .first) in
+    let todo = countUp 0 (s .args .n) in
+    (search-first a fit h (t .try-start .ensures roots todo (search-begun a fit h (begun t .begin .ensures))), refl)
 
 step-requires : tie.Need-step-requires Inv-loop μ-loop
 step-requires c κs =
     let l = c .before .before .before in
     let b = begin (l .before) in
     let busy = sym (c .before .before .busy .ensures) ∙ c .before .if1 .taken in
+    let roots = startsFrom (b .args .n) (b .args .first) in
     let from = countUp (l .loop .i) (b .args .n - l .loop .i) in
-    ((b .pre .0, b .pre .1, busy), record { roots = countUp 0 (b .args .n); todo = from; searching = l .loop .inv .0 })
+    ((b .pre .0, b .pre .1, busy), record { roots = roots; todo = from; searching = l .loop .inv .0 })
 
-sub-left : tie.Need-sub-left Inv-loop μ-loop
+sub-left : tie.Need-sub-left-2 Inv-loop μ-loop
 sub-left c = left-more (c .before .before .before .before)
 
 loop-less : tie.Need-loop-less Inv-loop μ-loop
@@ -47,16 +72,18 @@ loop-again : tie.Need-loop-again Inv-loop μ-loop
 loop-again c =
     let l = c .before .before .before .before .before .before in
     let b = begin (l .before) in
-    (c .before .before .step .ensures (countUp 0 (b .args .n)) (l .loop .inv .0), search needs)
+    let roots = startsFrom (b .args .n) (b .args .first) in
+    (c .before .before .step .ensures roots (l .loop .inv .0), search needs)
 
 returns : tie.Need-returns Inv-loop μ-loop
 returns c =
     let l = c .before .before in
-    let b = begin (l .before) .pre in
-    search-ended (b .0) (b .1) (l .loop .i) (l .loop .inv .0) (sym (c .before .busy .ensures) ∙ c .if1 .left)
+    let (a, fit, room, h) = begin (l .before) .pre in
+    search-ended a fit h (l .loop .i) (l .loop .inv .0) (sym (c .before .busy .ensures) ∙ c .if1 .left)
 
 pub search-spec : {M : Type 1} → statement M
 search-spec =
     tie.close
     (tie.spec Inv-loop μ-loop (λ c κs. search needs) (λ c. search needs) (λ c. search needs) (λ c. search needs)
-    loop-holds (λ c κs. search needs) step-requires sub-left loop-less loop-again (λ c. search needs) returns)
+    (λ c. search needs) try-start-requires (λ c. search needs) loop-holds (λ c κs. search needs) step-requires sub-left
+    loop-less loop-again (λ c. search needs) returns)
