@@ -1,36 +1,39 @@
--- Demands 2 and 3 as theorems: open this file first. The index is any that Build writes for the record (`Written`), and
--- the marks are the bits of that index; the answers are those of the operations, as `Operations` defines them and as
--- the contracts of the code say. Vertex v - 1 of the graph is terminal v; positions of a block count from 0.
-use mathlib.Core.Path.{_≡_, ap, _∙_}
+-- Demands 2 and 3 as theorems, and what document 02 says of the start: open this file first. The index is any that Build
+-- writes for the record, with any start (`Written`), and the marks are the bits of that index; the answers are those of
+-- the operations, as `Operations` defines them and as the contracts of the code say. Vertex v - 1 of the graph is
+-- terminal v; positions of a block count from 0.
+use mathlib.Core.Path.{_≡_, sym, ap, subst, _∙_}
 use mathlib.Core.Logic.{_⊎_, _↔_}
 use mathlib.Core.Bool.{Bool, true, false}
 use mathlib.Core.List.{List}
+use mathlib.Core.Option.{none}
 use Prim.Native.Nat.{ℕ, suc, _+_, _-_, _*_, _≤_, _<_}
 use lib.ListN.{length, getD}
 use Rattle.graph.specs.Graph.{Blocks, block, Place, twin}
-use Rattle.graph.specs.Search.{Forest, forest}
+use Rattle.graph.specs.Search.{Forest, all, search, countUp}
 use Rattle.graph.specs.Joined.{Chain, without}
 use Rattle.graph.specs.Laws.Tree.Ancestors.{ancestor as ancestorIn}
 use Rattle.graph.specs.Forest.{number, vertexAt, parent as parentIn, head as headIn, Ancestor, children as childrenIn}
 use Rattle.graph.specs.Theorems.{ancestor-told}
 use Rattle.record.specs.Record.{terminals, wires, unary, blocks}
 use Rattle.record.specs.Answers.{refused, answered}
-use Rattle.forest.specs.Index.{markBytes, indexLength}
-use Rattle.forest.specs.Operations.{build, built}
+use Rattle.forest.specs.Index.{indexBy, indexOf, markBytes, indexLength}
+use Rattle.forest.specs.Operations.{build, built, firstStart}
+use Rattle.forest.specs.Laws.Taken.{first-index}
 use Rattle.queries.specs.View.{sectionBit, numberBit, placeOf, Alike}
 use Rattle.queries.specs.Answers.{unlessZero}
 use Rattle.queries.specs.Operations.{parent, head, ancestor, children, child, visit, visited}
-use Rattle.queries.specs.Written.{Written, Terminal, VisitNumber, Once, HeadsTell, SameAnswers}
+use Rattle.queries.specs.Written.{Written, forestFrom, Terminal, VisitNumber, Once, HeadsTell, SameAnswers}
 use Rattle.queries.specs.Laws.Answered as Answered
 use Rattle.queries.specs.Laws.Built.{built-own, built-fill, built-rest}
 use Rattle.queries.specs.Laws.Edges.{E-told, P-told, P-as-E, E-as-P, P-none, P-once, B-told, B-both}
 use Rattle.queries.specs.Laws.Alike.{alike-answers}
 use Rattle.queries.specs.Laws.Columns.{table-cells}
-use Rattle.queries.specs.Table.{tableOf, Tabled}
+use Rattle.queries.specs.Table.{tableOn, tableOf, Tabled}
 
--- where Build refuses nothing, it has written the index
-pub build-writes : (bytes work buffer : List ℕ) → build bytes work buffer ≡ answered tt
-    → Written bytes (built bytes work buffer)
+-- where Build refuses nothing, it has written the index, with the start that it was given
+pub build-writes : (bytes : List ℕ) (start : ℕ) (work buffer : List ℕ) → build bytes start work buffer ≡ answered tt
+    → (w : Written bytes (built bytes start work buffer)) × (w .start ≡ start)
 build-writes = Answered.written-by
 
 -- fill bits, and the bits at D's ones, affect no answer, on any index of the right length
@@ -44,7 +47,7 @@ module _ {bytes index : List ℕ} (w : Written bytes index) where
   g = blocks bytes
 
   abbrev F : Forest
-  F = forest (blocks bytes)
+  F = forestFrom bytes (w .start)
 
   -- the bits of E, P and B at position j of u's block
   abbrev E : ℕ → ℕ → Bool
@@ -91,17 +94,20 @@ module _ {bytes index : List ℕ} (w : Written bytes index) where
 
   -- nowhere else: a section, k = 0, 1 or 2, has zeros at D's ones and in its fill, and so has the fill of the numbers
   pub own-unmarked : (k p : ℕ) → k < 3 → getD (unary bytes) p false ≡ true → sectionBit bytes index k p ≡ false
-  own-unmarked k p l e = ap (λ (x : List ℕ). sectionBit bytes x k p) (w .is) ∙ built-own (w .accepted) k p l e
+  own-unmarked k p l e =
+      ap (λ (x : List ℕ). sectionBit bytes x k p) (w .is) ∙ built-own (w .accepted) (w .start - 1) k p l e
 
   pub fill-unmarked : (k p : ℕ) → k < 3 → terminals bytes + 2 * wires bytes ≤ p
       → p < 8 * markBytes (terminals bytes) (wires bytes)
       → sectionBit bytes index k p ≡ false
-  fill-unmarked k p l a b = ap (λ (x : List ℕ). sectionBit bytes x k p) (w .is) ∙ built-fill (w .accepted) k p l a b
+  fill-unmarked k p l a b =
+      ap (λ (x : List ℕ). sectionBit bytes x k p) (w .is) ∙ built-fill (w .accepted) (w .start - 1) k p l a b
 
   pub fill-unnumbered : (i : ℕ) → 12 * terminals bytes ≤ i
       → 8 * (3 * markBytes (terminals bytes) (wires bytes)) + i < 8 * indexLength (terminals bytes) (wires bytes)
       → numberBit bytes index i ≡ false
-  fill-unnumbered i a b = ap (λ (x : List ℕ). numberBit bytes x i) (w .is) ∙ built-rest (w .accepted) i a b
+  fill-unnumbered i a b =
+      ap (λ (x : List ℕ). numberBit bytes x i) (w .is) ∙ built-rest (w .accepted) (w .start - 1) i a b
 
   -- ---- Demand 2: every query gives what the forest gives, and none gives 12
 
@@ -149,11 +155,38 @@ module _ {bytes index : List ℕ} (w : Written bytes index) where
         ancestor-told (Answered.formed w .in-range) (Answered.covered w) (u - 1) (v - 1) (Answered.vertex-of w r)
 
   -- Table: each cell is what its query answers, so none is a refusal
-  pub table-told : Tabled bytes index (tableOf bytes)
-  table-told = table-cells w
+  pub table-told : Tabled bytes index (tableOf bytes (w .start))
+  table-told = subst (λ (x : List ℕ). Tabled bytes index (tableOn bytes x)) (w .is) (table-cells w)
 
   -- ---- Demand 3
 
   pub heads-tell : {u v : ℕ} → Terminal bytes u → Terminal bytes v
-      → HeadsTell bytes u v (head bytes index u) (head bytes index v)
+      → HeadsTell bytes (w .start) u v (head bytes index u) (head bytes index v)
   heads-tell = Answered.heads-answer w
+
+  -- ---- The start
+
+  -- the tree hangs from the start: it is a root, and visited first
+  module _ (t : Terminal bytes (w .start)) where
+    pub start-parent : parent bytes index (w .start) ≡ answered none
+    start-parent = Answered.parent-answer w t ∙ ap (λ (k : ℕ). answered (unlessZero k)) (Answered.first w t .a-root)
+
+    pub start-visit : visit bytes index (w .start) ≡ answered 1
+    start-visit = Answered.visit-answer w t ∙ ap (λ (k : ℕ). answered (suc k)) (Answered.first w t .number-zero)
+
+  -- the first start, terminal 1 or 0 for the empty record, gives the former index: of the search that takes the
+  -- vertices in order
+  pub start-1 : w .start ≡ firstStart (terminals bytes)
+      → indexBy g (search g all (countUp 0 (length g))) ≡ index
+  start-1 e =
+      first-index (Answered.formed w .in-range) (terminals bytes)
+      ∙ ap (λ (x : ℕ). indexOf g (x - 1)) (sym e)
+      ∙ sym (w .is)
+
+-- two starts give the same groups of heads, though the heads may differ
+pub same-groups : {bytes a b : List ℕ} → Written bytes a → Written bytes b → {u v : ℕ} → Terminal bytes u
+    → Terminal bytes v → (head bytes a u ≡ head bytes a v) ↔ (head bytes b u ≡ head bytes b v)
+same-groups w x t r =
+    let p = heads-tell w t r .equal-exactly in
+    let q = heads-tell x t r .equal-exactly in
+    (λ e. q .1 (p .0 e), λ e. p .1 (q .0 e))

@@ -1,12 +1,12 @@
--- Document 01's lines that are marked P, all of them, and the columns of its listing, as one list of cases under one
--- theorem, computed by the checker.
+-- Document 01's lines that are marked P, all of them, the columns of its listing, and the sample from another start, as
+-- one list of cases under one theorem, computed by the checker.
 use mathlib.Core.Path.{_≡_, refl}
 use mathlib.Core.List.{List, [], _∷_, _++_, map, flatten}
-use Prim.Native.Nat.{ℕ}
+use Prim.Native.Nat.{ℕ, _-_}
 use lib.ListN.{length, take}
 use Rattle.bits.specs.Bits.{toBits, bits, string, count, onesAt, select, value, field, packed, pack}
 use Rattle.graph.specs.Graph.{Blocks, mentions, position, pair}
-use Rattle.graph.specs.Search.{entered, arcs, run, search, countUp}
+use Rattle.graph.specs.Search.{entered, arcs, run, search, countUp, startsFrom}
 use Rattle.graph.specs.Joined.{without, joined, bridge}
 use Rattle.graph.specs.Forest.{number, childMark, parentMark}
 use Rattle.graph.specs.Walk.{walk}
@@ -21,25 +21,25 @@ use Rattle.forest.specs.Index.{markBytes, numberBytes, indexLength}
 use Rattle.queries.specs.View.{blockMarks, sectionOf, numberOf}
 use Rattle.queries.specs.Queries.{stepBy, stepUp, headOf, parentOf, childCount, visitOf}
 use Rattle.queries.specs.Operations.{orderQ, head, parent, children, visit}
-use Rattle.queries.specs.Table.{Columns, columns, answersOf, tableOf}
+use Rattle.queries.specs.Table.{Columns, columns, answersOf, tableOn, tableOf}
 
--- a line: blocks and their record, a record and its blocks, a record and what Check says, a record and its index, a
--- record with its index and the heads of its terminals, or a record and its table
+-- a line: blocks and their record, a record and its blocks, a record and what Check says, a record, a start and its
+-- index, a record with its index and the heads of its terminals, or a record, a start and its table
 pub data Line : Type 0 where
   files : Blocks → List ℕ → Line
   reads : List ℕ → Blocks → Line
   checks : List ℕ → Answer (Unit {0}) → Line
-  indexed : List ℕ → List ℕ → Line
+  indexed : List ℕ → ℕ → List ℕ → Line
   headed : List ℕ → List ℕ → List (Answer ℕ) → Line
-  listed : List ℕ → Columns → Line
+  listed : List ℕ → ℕ → Columns → Line
 
 abbrev pub computed : Line → Line
 computed (files g bytes) = files g (recordOf g)
 computed (reads bytes g) = reads bytes (blocks bytes)
 computed (checks bytes a) = checks bytes (check bytes)
-computed (indexed bytes index) = indexed bytes (indexOf (blocks bytes))
+computed (indexed bytes start index) = indexed bytes start (indexOf (blocks bytes) (start - 1))
 computed (headed bytes index heads) = headed bytes index (map (head bytes index) (countUp 1 (length heads)))
-computed (listed bytes t) = listed bytes (tableOf bytes)
+computed (listed bytes start t) = listed bytes start (tableOf bytes start)
 
 -- the sample loom, terminals less 1
 abbrev pub loom : Blocks
@@ -63,6 +63,11 @@ abbrev pub sampleIndex : List ℕ
 sampleIndex =
     0x41 ∷ 0x84 ∷ 0x04 ∷ 0x51 ∷ 0x00 ∷ 0x95 ∷ 0x00 ∷ 0x00 ∷ 0x02 ∷ 0x00 ∷ 0x10 ∷ 0x03 ∷ 0x00 ∷ 0x40 ∷ 0x05 ∷ []
 
+-- from terminal 4: 4, 3, 2, 1, 5, 6
+abbrev pub sampleIndex4 : List ℕ
+sampleIndex4 =
+    0x09 ∷ 0x14 ∷ 0x24 ∷ 0x81 ∷ 0x00 ∷ 0x95 ∷ 0x00 ∷ 0x30 ∷ 0x02 ∷ 0x00 ∷ 0x10 ∷ 0x00 ∷ 0x00 ∷ 0x40 ∷ 0x05 ∷ []
+
 -- the columns of the sample's listing
 abbrev pub sampleTable : Columns
 sampleTable =
@@ -78,21 +83,23 @@ lines a b c =
     files loom sample
     ∷ reads sample loom
     ∷ checks sample (answered tt)
-    ∷ indexed sample sampleIndex
+    ∷ indexed sample 1 sampleIndex
     ∷ headed sample sampleIndex (map answered (1 ∷ 1 ∷ 1 ∷ 4 ∷ 5 ∷ 6 ∷ []))
-    ∷ listed sample sampleTable
+    ∷ listed sample 1 sampleTable
+    ∷ indexed sample 4 sampleIndex4
+    ∷ headed sample sampleIndex4 (map answered (3 ∷ 3 ∷ 3 ∷ 4 ∷ 5 ∷ 6 ∷ []))
     ∷ files [] empty
     ∷ reads empty []
     ∷ checks empty (answered tt)
-    ∷ indexed empty []
+    ∷ indexed empty 0 []
     ∷ files ([] ∷ []) single
     ∷ reads single ([] ∷ [])
     ∷ checks single (answered tt)
-    ∷ indexed single (0x00 ∷ 0x00 ∷ 0x00 ∷ 0x00 ∷ 0x00 ∷ [])
+    ∷ indexed single 1 (0x00 ∷ 0x00 ∷ 0x00 ∷ 0x00 ∷ 0x00 ∷ [])
     ∷ files ((1 ∷ []) ∷ (0 ∷ []) ∷ []) wire
     ∷ reads wire ((1 ∷ []) ∷ (0 ∷ []) ∷ [])
     ∷ checks wire (answered tt)
-    ∷ indexed wire (0x40 ∷ 0x10 ∷ 0x50 ∷ 0x00 ∷ 0x00 ∷ 0x01 ∷ [])
+    ∷ indexed wire 1 (0x40 ∷ 0x10 ∷ 0x50 ∷ 0x00 ∷ 0x00 ∷ 0x01 ∷ [])
     ∷ checks (take 20 sample ++ (0x41 ∷ [])) (refused 5)
     ∷ checks (a ∷ b ∷ c ∷ []) (refused 1)
     ∷ checks (0x80 ∷ 0x08 ∷ 0x00 ∷ 0x00 ∷ []) (refused 2)
@@ -102,10 +109,10 @@ lines a b c =
 
 pub as-stated : (a b c : ℕ) → map computed (lines a b c) ≡ lines a b c
 unfolding toBits bits string count onesAt select value field packed pack mentions position pair entered arcs run
-    search countUp without joined bridge number childMark parentMark walk terminals wires usedBits recordLength
-    unary fieldsFrom fields zeros parts blocks layOut unaryOf fieldBits recordBits recordOf firstBroken
-    beginsWithZero orderR anyIn anyFrom spareSet stray doubled oneSided placeRules layoutRules checkRules
-    outcome otherwise check otherLength outOfRange marksFrom section sectionE sectionP sectionB numbers indexBy
-    markBytes numberBytes indexLength blockMarks sectionOf numberOf stepBy stepUp headOf orderQ head flatten
-    visit visitOf parent parentOf children childCount said answersOf tableOf
+    search countUp startsFrom without joined bridge number childMark parentMark walk terminals wires usedBits
+    recordLength unary fieldsFrom fields zeros parts blocks layOut unaryOf fieldBits recordBits recordOf
+    firstBroken beginsWithZero orderR anyIn anyFrom spareSet stray doubled oneSided placeRules layoutRules
+    checkRules outcome otherwise check otherLength outOfRange marksFrom section sectionE sectionP sectionB
+    numbers indexBy markBytes numberBytes indexLength blockMarks sectionOf numberOf stepBy stepUp headOf orderQ
+    head flatten visit visitOf parent parentOf children childCount said answersOf tableOn
 as-stated a b c = refl

@@ -1,8 +1,9 @@
 -- Table: what Visit, Parent, Children and Head answer for every terminal, on the index that Build writes.
 --   Columns      four lists, in which cell v - 1 is terminal v's
 --   answersOf    a query's answers for the terminals 1 to n, as numbers
---   tableOf      the four lists of a record
---   tableRules   Check's rules, 9, and 10 for the four lists that are lent
+--   tableOn      the four lists of a record and an index
+--   tableOf      those of the index that Build writes with a start
+--   tableRules   Check's rules, 9, 10 for the four lists that are lent, and 14
 --   table        what the operation answers
 --   tabled       what the four lists hold afterwards
 --   TableDone    both, of a call
@@ -19,6 +20,7 @@ use Rattle.record.specs.Rules.{Rule, checkRules}
 use Rattle.record.specs.Answers.{Answer, answered, said, tried, bufferAfter}
 use Rattle.record.specs.Operations.{otherLength}
 use Rattle.forest.specs.Index.{indexOf}
+use Rattle.forest.specs.Operations.{noStart}
 use Rattle.queries.specs.Answers.{orZero, unlessZero}
 use Rattle.queries.specs.Operations.{parent, head, children, visit}
 use Rattle.queries.specs.Written.{Terminal}
@@ -39,14 +41,16 @@ unfoldable pub answersOf : {A : Type 0} → (A → ℕ) → (ℕ → Answer A) �
 answersOf number ask n = map (λ v. said number (ask (suc v))) (countUp 0 n)
 
 -- a root's parent is 0
-unfoldable pub tableOf : List ℕ → Columns
-tableOf bytes =
-    let index : List ℕ = indexOf (blocks bytes) in
+unfoldable pub tableOn : List ℕ → List ℕ → Columns
+tableOn bytes index =
     columns
     (answersOf (λ i. i) (visit bytes index) (terminals bytes))
     (answersOf orZero (parent bytes index) (terminals bytes))
     (answersOf (λ k. k) (children bytes index) (terminals bytes))
     (answersOf (λ v. v) (head bytes index) (terminals bytes))
+
+abbrev pub tableOf : List ℕ → ℕ → Columns
+tableOf bytes start = tableOn bytes (indexOf (blocks bytes) (start - 1))
 
 -- ---- the operation
 
@@ -56,20 +60,25 @@ misfits n lent =
     otherLength (lent .visits) n
     || (otherLength (lent .parents) n || (otherLength (lent .counts) n || otherLength (lent .heads) n))
 
-unfoldable pub tableRules : List ℕ → List ℕ → Columns → List Rule
-tableRules bytes work lent =
-    checkRules bytes ++ ((9, ltb (length work) (8 * terminals bytes)) ∷ (10, misfits (terminals bytes) lent) ∷ [])
+unfoldable pub tableRules : List ℕ → ℕ → List ℕ → Columns → List Rule
+tableRules bytes start work lent =
+    checkRules bytes
+    ++ ((9, ltb (length work) (8 * terminals bytes))
+    ∷ (10, misfits (terminals bytes) lent)
+    ∷ (14, noStart (terminals bytes) start)
+    ∷ [])
 
-unfoldable pub table : List ℕ → List ℕ → Columns → Answer (Unit {0})
-table bytes work lent = tried (tableRules bytes work lent) tt
+unfoldable pub table : List ℕ → ℕ → List ℕ → Columns → Answer (Unit {0})
+table bytes start work lent = tried (tableRules bytes start work lent) tt
 
-unfoldable pub tabled : List ℕ → List ℕ → Columns → Columns
-tabled bytes work lent = bufferAfter (tableRules bytes work lent) (tableOf bytes) lent
+unfoldable pub tabled : List ℕ → ℕ → List ℕ → Columns → Columns
+tabled bytes start work lent = bufferAfter (tableRules bytes start work lent) (tableOf bytes start) lent
 
 -- a call answers r, and the lists before it become those after it
-pub record TableDone (bytes work : List ℕ) (before after : Columns) (r : Answer (Unit {0})) : Type 0 where
-  pub answers : r ≡ table bytes work before
-  pub leaves : after ≡ tabled bytes work before
+pub record TableDone (bytes : List ℕ) (start : ℕ) (work : List ℕ) (before after : Columns) (r : Answer (Unit {0}))
+    : Type 0 where
+  pub answers : r ≡ table bytes start work before
+  pub leaves : after ≡ tabled bytes start work before
 
 -- ---- cell by cell
 

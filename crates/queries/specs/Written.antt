@@ -1,23 +1,30 @@
--- What demands 2 and 3 speak of: a record with the index that Build writes for it, and its terminals.
+-- What demands 2 and 3 speak of: a record with an index that Build writes for it, with any start, and its terminals.
 use mathlib.Core.Path.{_≡_}
 use mathlib.Core.Logic.{_↔_}
-use mathlib.Core.Bool.{Bool, true}
+use mathlib.Core.Bool.{Bool, true, false}
 use mathlib.Core.List.{List}
 use Prim.Native.Nat.{ℕ, suc, _-_, _<_}
-use Rattle.graph.specs.Search.{forest}
+use Rattle.graph.specs.Search.{Forest, forest}
 use Rattle.graph.specs.Joined.{DoublyJoined}
 use Rattle.graph.specs.Forest.{head as headIn}
 use Rattle.record.specs.Record.{terminals, blocks}
 use Rattle.record.specs.Answers.{Answer, answered}
 use Rattle.record.specs.Operations.{Accepted}
 use Rattle.forest.specs.Index.{indexOf}
+use Rattle.forest.specs.Operations.{noStart}
 use Rattle.queries.specs.Steps.{Ranged}
 use Rattle.queries.specs.Operations.{parent, head, ancestor, children, child, visit, visited}
 
--- the record is accepted, and the index is the one that Build writes for it
+-- the record is accepted, Build takes the start, and the index is the one that it writes
 pub record Written (bytes index : List ℕ) : Type 0 where
   pub accepted : Accepted bytes
-  pub is : index ≡ indexOf (blocks bytes)
+  pub start : ℕ
+  pub taken : noStart (terminals bytes) start ≡ false
+  pub is : index ≡ indexOf (blocks bytes) (start - 1)
+
+-- the forest of the search that begins at this terminal
+abbrev pub forestFrom : List ℕ → ℕ → Forest
+forestFrom bytes start = forest (blocks bytes) (start - 1)
 
 -- v is a terminal of the record; i is a visit number
 abbrev pub Terminal : List ℕ → ℕ → Type 0
@@ -33,11 +40,11 @@ pub record Once (test : ℕ → Bool) (k : ℕ) : Type 0 where
   pub passes : test at ≡ true
   pub only : (i : ℕ) → i < k → test i ≡ true → i ≡ at
 
--- Head's answers for u and v: the heads, and equal exactly when wires join the two and, whichever one wire is taken
--- out, the others still do
-pub record HeadsTell (bytes : List ℕ) (u v : ℕ) (x y : Answer ℕ) : Type 0 where
-  pub first-head : x ≡ answered (suc (headIn (blocks bytes) (forest (blocks bytes)) (u - 1)))
-  pub second-head : y ≡ answered (suc (headIn (blocks bytes) (forest (blocks bytes)) (v - 1)))
+-- Head's answers for u and v: the heads in the forest of the start, and equal exactly when wires join the two and,
+-- whichever one wire is taken out, the others still do
+pub record HeadsTell (bytes : List ℕ) (start u v : ℕ) (x y : Answer ℕ) : Type 0 where
+  pub first-head : x ≡ answered (suc (headIn (blocks bytes) (forestFrom bytes start) (u - 1)))
+  pub second-head : y ≡ answered (suc (headIn (blocks bytes) (forestFrom bytes start) (v - 1)))
   pub equal-exactly : (x ≡ y) ↔ DoublyJoined (blocks bytes) (u - 1) (v - 1)
 
 -- every query has the same answer on two indexes

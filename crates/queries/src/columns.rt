@@ -3,12 +3,13 @@
 ghost use mathlib.Core.Path.{_≡_};
 ghost use Prim.Native.Nat.{suc, _+_, _<_};
 ghost use lib.ListN.{length};
-ghost use Rattle.graph.specs.Search.{forest};
-ghost use Rattle.graph.specs.Forest.{number, vertexAt, parent as parentIn, head as headIn, children as childrenIn};
-ghost use Rattle.record.specs.Record.{unary, blocks};
+ghost use Rattle.record.specs.Record.{unary};
 ghost use Rattle.record.specs.Starts.{startsOf};
-ghost use Rattle.queries.specs.Filling.{Ready, Cells, HeadsTo, ParentsTo};
-ghost use Rattle.queries.specs.Table.{columns, tableOf};
+ghost use Rattle.queries.specs.View.{numberOf, viewBy};
+ghost use Rattle.queries.specs.Queries.{childCount};
+ghost use Rattle.queries.specs.Steps.{Framed, Beside};
+ghost use Rattle.queries.specs.Filling.{Ready, Cells, parentAt, headAt, ParentsTo, HeadsTo};
+ghost use Rattle.queries.specs.Table.{columns, tableOn};
 use super::blocks::count_children;
 use super::climbs::Step;
 use super::climbs::step_up;
@@ -18,12 +19,10 @@ use adjacency::cells::get;
 use adjacency::cells::put;
 use record::starts::fill_starts;
 
-// The visit numbers, from 1. The record stands here for the contract only.
-fn fill_visits(bytes: &[u8], index: &[u8], n: usize, m: usize, visits: &mut [u16])
-    requires { ⌜ (Ready (now bytes) (now index) n m) × (length (now visits) ≡ n) ⌝ }
-    ensures { λ _. ⌜
-        Cells (λ v. v) (λ v. suc (number (forest (blocks (now (bytes .entry)))) v)) n n (now (visits .exit))
-        ⌝ }
+// The visit numbers, from 1.
+fn fill_visits(index: &[u8], n: usize, m: usize, visits: &mut [u16])
+    requires { ⌜ (Framed (now index) n m) × (length (now visits) ≡ n) ⌝ }
+    ensures { λ _. ⌜ Cells (λ v. v) (λ v. suc (numberOf n m (now (index .entry)) v)) n n (now (visits .exit)) ⌝ }
 {
     let mut v = 0;
     while v < n {
@@ -35,10 +34,10 @@ fn fill_visits(bytes: &[u8], index: &[u8], n: usize, m: usize, visits: &mut [u16
 // How many children each vertex has.
 fn fill_counts(bytes: &[u8], index: &[u8], n: usize, m: usize, starts: &[u16], counts: &mut [u16])
     requires { ⌜
-        (Ready (now bytes) (now index) n m) × (now starts ≡ startsOf (unary (now bytes))) × (length (now counts) ≡ n)
+        (Beside (now bytes) (now index) n m) × (now starts ≡ startsOf (unary (now bytes))) × (length (now counts) ≡ n)
         ⌝ }
     ensures { λ _. ⌜
-        Cells (λ v. v) (λ v. length (childrenIn (forest (blocks (now (bytes .entry)))) v)) n n (now (counts .exit))
+        Cells (λ v. v) (childCount (viewBy n m (now (bytes .entry)) (now (index .entry)))) n n (now (counts .exit))
         ⌝ }
 {
     let mut v = 0;
@@ -54,10 +53,10 @@ fn fill_counts(bytes: &[u8], index: &[u8], n: usize, m: usize, starts: &[u16], c
 fn fill_order(bytes: &[u8], index: &[u8], n: usize, m: usize, visits: &[u16], order: &mut [u16])
     requires { ⌜
         (Ready (now bytes) (now index) n m)
-        × (Cells (λ v. v) (λ v. suc (number (forest (blocks (now bytes))) v)) n n (now visits))
+        × (Cells (λ v. v) (λ v. suc (numberOf n m (now index) v)) n n (now visits))
         × (length (now order) ≡ n)
         ⌝ }
-    ensures { λ _. ⌜ Cells (λ k. k) (vertexAt (forest (blocks (now (bytes .entry))))) n n (now (order .exit)) ⌝ }
+    ensures { λ _. ⌜ Cells (numberOf n m (now (index .entry))) (λ v. v) n n (now (order .exit)) ⌝ }
 {
     let mut v = 0;
     while v < n {
@@ -72,24 +71,23 @@ struct Placed {
     head: usize,
 }
 
-// What stands above vertex v, the k-th in order of visits, by the heads of those before it.
+// What stands above vertex v, by the heads of those that are visited before it.
 fn place_of(
     bytes: &[u8],
     index: &[u8],
     n: usize,
     m: usize,
     starts: &[u16],
-    k: usize,
     v: usize,
     heads: &[u16],
 ) -> Placed
     requires { ⌜
-        (Ready (now bytes) (now index) n m) × (now starts ≡ startsOf (unary (now bytes))) × (k < n)
-        × (v ≡ vertexAt (forest (blocks (now bytes))) k) × (HeadsTo (now bytes) n k (now heads))
+        (Ready (now bytes) (now index) n m) × (now starts ≡ startsOf (unary (now bytes))) × (v < n)
+        × (HeadsTo (now bytes) (now index) n m (numberOf n m (now index) v) (now heads))
         ⌝ }
     ensures { λ r. ⌜
-        (r .parent ≡ parentIn (forest (blocks (now (bytes .entry)))) v)
-        × (r .head ≡ suc (headIn (blocks (now (bytes .entry))) (forest (blocks (now (bytes .entry)))) v))
+        (r .parent ≡ parentAt (now (bytes .entry)) (now (index .entry)) n m v)
+        × (r .head ≡ headAt (now (bytes .entry)) (now (index .entry)) n m v)
         × (r .parent < 65536) × (r .head < 65536)
         ⌝ }
 {
@@ -131,18 +129,18 @@ fn fill_climbs(
 )
     requires { ⌜
         (Ready (now bytes) (now index) n m) × (now starts ≡ startsOf (unary (now bytes)))
-        × (Cells (λ k. k) (vertexAt (forest (blocks (now bytes)))) n n (now order)) × (length (now parents) ≡ n)
+        × (Cells (numberOf n m (now index)) (λ v. v) n n (now order)) × (length (now parents) ≡ n)
         × (length (now heads) ≡ n)
         ⌝ }
     ensures { λ _. ⌜
-        (ParentsTo (now (bytes .entry)) n n (now (parents .exit)))
-        × (HeadsTo (now (bytes .entry)) n n (now (heads .exit)))
+        (ParentsTo (now (bytes .entry)) (now (index .entry)) n m n (now (parents .exit)))
+        × (HeadsTo (now (bytes .entry)) (now (index .entry)) n m n (now (heads .exit)))
         ⌝ }
 {
     let mut k = 0;
     while k < n {
         let v = get(order, k);
-        let p = place_of(bytes, index, n, m, starts, k, v, heads);
+        let p = place_of(bytes, index, n, m, starts, v, heads);
         put(parents, v, p.parent);
         put(heads, v, p.head);
         k += 1;
@@ -173,11 +171,11 @@ pub fn fill(
         ⌝ }
     ensures { λ _. ⌜
         columns (now (visits .exit)) (now (parents .exit)) (now (counts .exit)) (now (heads .exit))
-        ≡ tableOf (now (bytes .entry))
+        ≡ tableOn (now (bytes .entry)) (now (index .entry))
         ⌝ }
 {
     fill_starts(bytes, n, m, starts);
-    fill_visits(bytes, index, n, m, visits);
+    fill_visits(index, n, m, visits);
     fill_counts(bytes, index, n, m, starts, counts);
     fill_order(bytes, index, n, m, visits, order);
     fill_climbs(bytes, index, n, m, starts, order, parents, heads);

@@ -151,18 +151,19 @@ pub fn visited(bytes: &[u8], index: &[u8], i: Dfi) -> Found
     }
 }
 
-// Table: what Visit, Parent (0 for a root), Children and Head answer for every terminal on the index that Build writes,
-// cell v - 1 for terminal v. The work slice is Build's, and no index is lent. A refused call leaves the lists as they
-// were.
+// Table: what Visit, Parent (0 for a root), Children and Head answer for every terminal on the index that Build writes
+// with this start, cell v - 1 for terminal v. The work slice is Build's, and no index is lent. A refused call leaves
+// the lists as they were.
 pub fn table(
     bytes: &[u8],
+    start: Vertex,
     work: &mut [u16],
     visits: &mut [u16],
     parents: &mut [u16],
     counts: &mut [u16],
     heads: &mut [u16],
 ) -> Verdict
-    ensures { λ r. ⌜ TableDone (now (bytes .entry)) (now (work .entry))
+    ensures { λ r. ⌜ TableDone (now (bytes .entry)) (start .0) (now (work .entry))
         (columns (now (visits .entry)) (now (parents .entry)) (now (counts .entry)) (now (heads .entry)))
         (columns (now (visits .exit)) (now (parents .exit)) (now (counts .exit)) (now (heads .exit)))
         (verdict r) ⌝ }
@@ -172,7 +173,7 @@ pub fn table(
         Shape::Passed(s) => {
             let n = s.n;
             let m = s.m;
-            tables::table_in(bytes, n, m, work, visits, parents, counts, heads)
+            tables::table_in(bytes, n, m, start, work, visits, parents, counts, heads)
         }
     }
 }

@@ -16,23 +16,30 @@ pub struct Heads {
     pub second: Found,
 }
 
-// Builds the index of a record and asks for the heads of terminals u and v, with the buffer as Build left it. Where
-// Build refuses nothing and both are terminals of the record, Head refuses neither, its answers are the heads, and they
-// are equal exactly when wires of the record join u and v and, whichever one wire is taken out, the others still join
-// them.
-pub fn heads_of_two(bytes: &[u8], work: &mut [u16], index: &mut [u8], u: Vertex, v: Vertex) -> Heads
+// Builds the index of a record with a start and asks for the heads of terminals u and v, with the buffer as Build left
+// it. Where Build refuses nothing and both are terminals of the record, Head refuses neither, its answers are the
+// heads, and they are equal exactly when wires of the record join u and v and, whichever one wire is taken out, the
+// others still join them.
+pub fn heads_of_two(
+    bytes: &[u8],
+    start: Vertex,
+    work: &mut [u16],
+    index: &mut [u8],
+    u: Vertex,
+    v: Vertex,
+) -> Heads
     ensures { λ r. ⌜
-        (verdict (r .built) ≡ build (now (bytes .entry)) (now (work .entry)) (now (index .entry)))
-        × (now (index .exit) ≡ built (now (bytes .entry)) (now (work .entry)) (now (index .entry)))
+        (verdict (r .built) ≡ build (now (bytes .entry)) (start .0) (now (work .entry)) (now (index .entry)))
+        × (now (index .exit) ≡ built (now (bytes .entry)) (start .0) (now (work .entry)) (now (index .entry)))
         × (terminal (r .first) ≡ head (now (bytes .entry)) (now (index .exit)) (u .0))
         × (terminal (r .second) ≡ head (now (bytes .entry)) (now (index .exit)) (v .0))
         × (verdict (r .built) ≡ answered tt
         → Terminal (now (bytes .entry)) (u .0)
         → Terminal (now (bytes .entry)) (v .0)
-        → HeadsTell (now (bytes .entry)) (u .0) (v .0) (terminal (r .first)) (terminal (r .second)))
+        → HeadsTell (now (bytes .entry)) (start .0) (u .0) (v .0) (terminal (r .first)) (terminal (r .second)))
         ⌝ }
 {
-    let built = forest::build(bytes, work, index);
+    let built = forest::build(bytes, start, work, index);
     let first = super::head(bytes, index, u);
     let second = super::head(bytes, index, v);
     Heads {

@@ -1,15 +1,19 @@
 // Table behind order R: Build to an index of its own, and then the four lists.
 ghost use mathlib.Core.Path.{_≡_};
+ghost use mathlib.Core.Bool.{not};
+ghost use Prim.Native.Nat.{_≤_};
+ghost use lib.Dec.{eqb};
 ghost use lib.ListN.{length};
 ghost use Rattle.record.specs.Answers.{verdict};
+ghost use Rattle.record.specs.Operations.{otherLength};
 ghost use Rattle.record.specs.Steps.{Sound};
 ghost use Rattle.forest.specs.Index.{indexLength};
 ghost use Rattle.queries.specs.Filling.{Ready};
-ghost use Rattle.queries.specs.Table.{columns, misfits, tableOf, TableDone};
+ghost use Rattle.queries.specs.Table.{columns, misfits, tableOn, TableDone};
 use super::columns::fill;
 use forest::lengths::index_length;
-use record::Refusal;
 use record::Verdict;
+use record::Vertex;
 
 // Rule 10: one of the lists is not n long.
 fn some_misfit(n: usize, visits: &[u16], parents: &[u16], counts: &[u16], heads: &[u16]) -> bool
@@ -49,7 +53,7 @@ fn fill_lists(
         ⌝ }
     ensures { λ _. ⌜
         columns (now (visits .exit)) (now (parents .exit)) (now (counts .exit)) (now (heads .exit))
-        ≡ tableOf (now (bytes .entry))
+        ≡ tableOn (now (bytes .entry)) (now (index .entry))
         ⌝ }
 {
     let mut starts = [0u16; 4097];
@@ -69,11 +73,36 @@ fn fill_lists(
     );
 }
 
-// Build, and then the lists, with a buffer for the index.
+// How many bytes Build is lent: as many as the index has where the lists are n long, and else one more. So its rule 10
+// is Table's.
+fn lent_length(
+    n: usize,
+    m: usize,
+    visits: &[u16],
+    parents: &[u16],
+    counts: &[u16],
+    heads: &[u16],
+) -> usize
+    requires { ⌜ (n ≤ 4096) × (m ≤ 16384) ⌝ }
+    ensures { λ r. ⌜
+        (not (eqb r (indexLength n m))
+        ≡ misfits n (columns (now (visits .entry)) (now (parents .entry)) (now (counts .entry)) (now (heads .entry))))
+        × (r ≤ 19969)
+        ⌝ }
+{
+    let size = index_length(n, m);
+    if some_misfit(n, visits, parents, counts, heads) {
+        return size + 1;
+    }
+    size
+}
+
+// Build, and then the lists, with a buffer that fits where the lists do.
 fn table_by(
     bytes: &[u8],
     n: usize,
     m: usize,
+    start: Vertex,
     work: &mut [u16],
     index: &mut [u8],
     visits: &mut [u16],
@@ -81,18 +110,19 @@ fn table_by(
     counts: &mut [u16],
     heads: &mut [u16],
 ) -> Verdict
-    requires { ⌜ (Sound (now bytes) n m) × (length (now index) ≡ indexLength n m) ⌝ }
-    ensures { λ r. ⌜ TableDone (now (bytes .entry)) (now (work .entry))
+    requires { ⌜
+        (Sound (now bytes) n m)
+        × (otherLength (now index) (indexLength n m)
+        ≡ misfits n (columns (now visits) (now parents) (now counts) (now heads)))
+        ⌝ }
+    ensures { λ r. ⌜ TableDone (now (bytes .entry)) (start .0) (now (work .entry))
         (columns (now (visits .entry)) (now (parents .entry)) (now (counts .entry)) (now (heads .entry)))
         (columns (now (visits .exit)) (now (parents .exit)) (now (counts .exit)) (now (heads .exit)))
         (verdict r) ⌝ }
 {
-    match forest::build(bytes, work, index) {
+    match forest::build(bytes, start, work, index) {
         Verdict::Refused(r) => Verdict::Refused(r),
         Verdict::Accepted => {
-            if some_misfit(n, visits, parents, counts, heads) {
-                return Verdict::Refused(Refusal::WrongBuffer);
-            }
             fill_lists(bytes, index, n, m, visits, parents, counts, heads);
             Verdict::Accepted
         }
@@ -104,6 +134,7 @@ pub fn table_in(
     bytes: &[u8],
     n: usize,
     m: usize,
+    start: Vertex,
     work: &mut [u16],
     visits: &mut [u16],
     parents: &mut [u16],
@@ -111,17 +142,18 @@ pub fn table_in(
     heads: &mut [u16],
 ) -> Verdict
     requires { ⌜ Sound (now bytes) n m ⌝ }
-    ensures { λ r. ⌜ TableDone (now (bytes .entry)) (now (work .entry))
+    ensures { λ r. ⌜ TableDone (now (bytes .entry)) (start .0) (now (work .entry))
         (columns (now (visits .entry)) (now (parents .entry)) (now (counts .entry)) (now (heads .entry)))
         (columns (now (visits .exit)) (now (parents .exit)) (now (counts .exit)) (now (heads .exit)))
         (verdict r) ⌝ }
 {
-    let mut index = [0u8; 19968];
-    let size = index_length(n, m);
+    let mut index = [0u8; 19969];
+    let size = lent_length(n, m, visits, parents, counts, heads);
     table_by(
         bytes,
         n,
         m,
+        start,
         work,
         &mut index[..size],
         visits,

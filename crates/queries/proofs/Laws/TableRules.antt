@@ -1,107 +1,96 @@
--- Table's rules beside Build's: up to rule 9 they are the same, and an index of the right length keeps Build's 10.
-use mathlib.Core.Path.{_≡_, sym, ap, ap₂, subst, _∙_}
+-- Table's rules are Build's, with a buffer that fits where the lists do.
+use mathlib.Core.Path.{_≡_, sym, ap, subst, _∙_}
 use mathlib.Core.Bool.{true, false, not}
-use mathlib.Core.List.{List, [], _∷_, _++_, append-assoc}
-use Prim.Native.Nat.{ℕ, suc, _*_}
+use mathlib.Core.List.{List}
+use Prim.Native.Nat.{ℕ, suc, _-_}
 use borrow.Author.Tests.{eq-eqb, ne-eqb, eqb-true, not-false}
-use lib.Dec.{eqb, ltb}
+use lib.Dec.{eqb}
 use lib.ListN.{length}
-use Rattle.record.specs.Record.{terminals, wires}
+use Rattle.record.specs.Record.{terminals, wires, blocks}
 use Rattle.record.specs.Rules.{Rule, firstBroken, orderR, layoutRules, checkRules}
 use Rattle.record.specs.Answers.{refused, answered, tried, sizesOf}
 use Rattle.record.specs.Operations.{otherLength}
 use Rattle.record.specs.Steps.{Sound}
-use Rattle.record.specs.Laws.First.{Numbered, none, rule, first-broken, first-kept, append-kept, append-broken}
-use Rattle.record.specs.Laws.First.{last-kept, numbered-append, check-numbered}
+use Rattle.record.specs.Laws.First.{rule-kept, append-broken, both-kept, check-numbered}
 use Rattle.adjacency.specs.Laws.Anywhere.{neither}
 use Rattle.record.specs.Laws.Told.{told, untold, told-back, untold-back, buffer-kept, buffer-written}
-use Rattle.forest.specs.Index.{indexLength}
+use Rattle.forest.specs.Index.{indexOf, indexLength}
 use Rattle.forest.specs.Operations.{buildRules, build, built}
 use Rattle.queries.specs.Written.{Written}
 use Rattle.queries.specs.Demands.{build-writes}
 use Rattle.queries.specs.Filling.{Ready}
-use Rattle.queries.specs.Table.{Columns, columns, misfits, tableOf, tableRules, table, tabled, TableDone}
+use Rattle.queries.specs.Table.{Columns, columns, misfits, tableOn, tableOf, tableRules, table, tabled, TableDone}
 
-module _ (bytes work : List ℕ) (lent : Columns) where
-  -- Check's rules and 9
-  abbrev shared : List Rule
-  shared = checkRules bytes ++ ((9, ltb (length work) (8 * terminals bytes)) ∷ [])
-
-  shared-numbered : Numbered shared
-  shared-numbered = numbered-append (check-numbered bytes) (rule none)
-
-  table-split : tableRules bytes work lent ≡ shared ++ ((10, misfits (terminals bytes) lent) ∷ [])
-  unfolding tableRules
-  table-split = sym (append-assoc (checkRules bytes) _ _)
-
-  refuses : {k : ℕ} → firstBroken (tableRules bytes work lent) ≡ suc k
-      → TableDone bytes work lent lent (refused (suc k))
+module _ (bytes : List ℕ) (start : ℕ) (work : List ℕ) (lent : Columns) where
+  refuses : {k : ℕ} → firstBroken (tableRules bytes start work lent) ≡ suc k
+      → TableDone bytes start work lent lent (refused (suc k))
   unfolding table tabled
   refuses e = record {
     answers = told tt e;
-    leaves = buffer-kept (tableRules bytes work lent) (tableOf bytes) lent e;
+    leaves = buffer-kept (tableRules bytes start work lent) (tableOf bytes start) lent e;
   }
-
-  broken : {k : ℕ} → firstBroken shared ≡ suc k → firstBroken (tableRules bytes work lent) ≡ suc k
-  broken {k} e = ap firstBroken table-split ∙ append-broken shared _ k e
 
   -- order R refuses
   pub table-unread : {k : ℕ} → refused k ≡ tried (orderR bytes) (sizesOf bytes)
-      → TableDone bytes work lent lent (refused k)
+      → TableDone bytes start work lent lent (refused k)
   unfolding tableRules checkRules layoutRules
   table-unread e =
       let (i, f, g) = told-back (firstBroken (orderR bytes)) (sizesOf bytes) e in
       let l = append-broken (layoutRules bytes) _ i (append-broken (orderR bytes) _ i f) in
       rw g (refuses (append-broken (checkRules bytes) _ i l))
 
-  -- behind order R, with an index of the right length
-  module _ {n m : ℕ} (s : Sound bytes n m) (index : List ℕ) (fits : length index ≡ indexLength n m) where
-    sized : length index ≡ indexLength (terminals bytes) (wires bytes)
-    sized = fits ∙ ap₂ indexLength (s .is-n) (s .is-m)
-
-    build-shared : firstBroken (buildRules bytes work index) ≡ firstBroken shared
-    unfolding buildRules otherLength
-    build-shared =
-        ap firstBroken (sym (append-assoc (checkRules bytes) _ _))
-        ∙ last-kept shared 10 (ap not (eq-eqb (length index) (indexLength (terminals bytes) (wires bytes)) sized))
+  -- behind order R
+  module _ {n m : ℕ} (s : Sound bytes n m) (index : List ℕ)
+      (fits : otherLength index (indexLength n m) ≡ misfits n lent) where
+    same-rules : buildRules bytes start work index ≡ tableRules bytes start work lent
+    unfolding buildRules tableRules
+    same-rules =
+        let e : otherLength index (indexLength (terminals bytes) (wires bytes)) ≡ misfits (terminals bytes) lent =
+        rw (s .is-n, s .is-m) at fits in
+        rw e
 
     -- Build refuses
-    pub table-refused : {k : ℕ} → refused k ≡ build bytes work index → TableDone bytes work lent lent (refused k)
+    pub table-refused : {k : ℕ} → refused k ≡ build bytes start work index
+        → TableDone bytes start work lent lent (refused k)
     unfolding build
     table-refused e =
-        let (i, f, g) = told-back (firstBroken (buildRules bytes work index)) tt e in
-        rw g (refuses (broken (sym build-shared ∙ f)))
+        let (i, f, g) = told-back (firstBroken (buildRules bytes start work index)) tt e in
+        rw g (refuses (ap firstBroken (sym same-rules) ∙ f))
 
     -- Build has written the index
-    module _ (e : answered tt ≡ build bytes work index) where
-      kept : firstBroken shared ≡ 0
+    module _ (e : answered tt ≡ build bytes start work index) where
+      build-kept : firstBroken (buildRules bytes start work index) ≡ 0
       unfolding build
-      kept = sym build-shared ∙ untold-back (firstBroken (buildRules bytes work index)) tt e .0
+      build-kept = untold-back (firstBroken (buildRules bytes start work index)) tt e .0
 
-      last : firstBroken (tableRules bytes work lent) ≡ firstBroken ((10, misfits n lent) ∷ [])
-      last =
-          ap firstBroken table-split
-          ∙ append-kept shared-numbered _ kept
-          ∙ ap (λ (k : ℕ). firstBroken ((10, misfits k lent) ∷ [])) (sym (s .is-n))
+      kept : firstBroken (tableRules bytes start work lent) ≡ 0
+      kept = ap firstBroken (sym same-rules) ∙ build-kept
 
-      pub table-ready : {next : List ℕ} → next ≡ built bytes work index → Ready bytes next n m
+      pub table-ready : {next : List ℕ} → next ≡ built bytes start work index → Ready bytes next n m
       table-ready is = record {
-        written = subst (Written bytes) (sym is) (build-writes bytes work index (sym e));
+        written = subst (Written bytes) (sym is) (build-writes bytes start work index (sym e) .0);
         is-n = s .is-n;
         is-m = s .is-m;
       }
 
-      pub table-misfit : misfits n lent ≡ true → TableDone bytes work lent lent (refused 10)
-      table-misfit m = refuses (last ∙ first-broken 10 [] m)
+      pub table-fits : misfits n lent ≡ false
+      unfolding tableRules
+      table-fits =
+          let (_, more) = both-kept (check-numbered bytes) _ kept in
+          let (_, last) = rule-kept 8 _ _ more in
+          ap (λ (x : ℕ). misfits x lent) (s .is-n) ∙ rule-kept 9 _ _ last .0
 
-      pub table-done : misfits n lent ≡ false → {next : Columns} → next ≡ tableOf bytes
-          → TableDone bytes work lent next (answered tt)
-      unfolding table tabled firstBroken
-      table-done m is =
-          let f : firstBroken (tableRules bytes work lent) ≡ 0 = last ∙ first-kept 10 [] m in
+      pub table-done : {index′ : List ℕ} → index′ ≡ built bytes start work index → {next : Columns}
+          → next ≡ tableOn bytes index′ → TableDone bytes start work lent next (answered tt)
+      unfolding table tabled built
+      table-done q is =
+          let rules : List Rule = buildRules bytes start work index in
+          let b = buffer-written rules (indexOf (blocks bytes) (start - 1)) index build-kept in
           record {
-            answers = untold tt f;
-            leaves = is ∙ buffer-written (tableRules bytes work lent) (tableOf bytes) lent f;
+            answers = untold tt kept;
+            leaves = is
+                ∙ ap (tableOn bytes) (q ∙ sym b)
+                ∙ buffer-written (tableRules bytes start work lent) (tableOf bytes start) lent kept;
           }
 
 -- ---- rule 10

@@ -25,7 +25,7 @@ returns c =
     let o = c .before .before .before in
     let args = start o .args in
     let lent = columns (args .visits .now) (args .parents .now) (args .counts .now) (args .heads .now) in
-    table-unread (args .bytes .now) (args .work .now) lent
+    table-unread (args .bytes .now) (args .start .0) (args .work .now) lent
     (sym (ap shape (c .before .r .given .1)) ∙ o .order-r .ensures)
 
 pub table-spec : {M : Type 1} → statement M

@@ -1,5 +1,5 @@
 -- From what the laws say of a built view to the answers of the operations, for an index that Build wrote.
-use mathlib.Core.Path.{_≡_, sym, ap, subst, _∙_}
+use mathlib.Core.Path.{_≡_, refl, sym, ap, subst, _∙_}
 use mathlib.Core.Logic.{_⊎_, inl, inr}
 use mathlib.Core.Bool.{true, false, not}
 use mathlib.Core.List.{List, [], _∷_, _++_}
@@ -8,29 +8,32 @@ use native.Mathlib.Omega.{arith}
 use borrow.Author.Tests.{eq-eqb, ne-eqb, lt-ltb, le-ltb}
 use lib.ListN.{length, getD}
 use Rattle.graph.specs.Graph.{Blocks, WellFormed}
-use Rattle.graph.specs.Search.{Forest, countUp, forest}
+use Rattle.graph.specs.Search.{Forest, startsFrom}
 use Rattle.graph.specs.Forest.{number, vertexAt, parent as parentIn, head as headIn, children as childrenIn}
-use Rattle.graph.specs.Theorems.{vertices-cover, number-in-range, vertex-in-range, vertex-of-number, number-of-vertex}
-use Rattle.graph.specs.Theorems.{same-heads}
+use Rattle.graph.specs.Theorems.{start-covers, number-in-range, vertex-in-range, vertex-of-number, number-of-vertex}
+use Rattle.graph.specs.Theorems.{same-heads, start-visited-first}
 use Rattle.graph.specs.Laws.Tree.Ancestors.{ancestor as ancestorIn}
 use Rattle.graph.specs.Laws.Joined.Spanning.{Covers}
+use Rattle.graph.specs.Laws.Joined.Starts.{Startable, First}
 use Rattle.record.specs.Record.{terminals, wires, blocks}
 use Rattle.record.specs.Rules.{Rule, firstBroken}
 use Rattle.record.specs.Answers.{Answer, refused, answered, triedThen}
 use Rattle.record.specs.Operations.{otherLength, outOfRange}
-use Rattle.record.specs.Laws.First.{first-broken, first-kept, append-kept, both-kept, order-numbered, check-numbered}
+use Rattle.record.specs.Laws.First.{first-broken, first-kept, rule-kept, append-kept, both-kept, order-numbered}
+use Rattle.record.specs.Laws.First.{check-numbered}
 use Rattle.record.specs.Laws.Range.{inside-range}
 use Rattle.record.specs.Laws.Sound.{accepted-well-formed}
 use Rattle.record.specs.Laws.Sounded.{accepted-sound}
 use Rattle.record.specs.Laws.Told.{untold-back, then-told, then-untold, then-passed, buffer-written}
 use Rattle.forest.specs.Index.{indexOf, indexLength}
 use Rattle.forest.specs.Operations.{buildRules, build, built}
+use Rattle.forest.specs.Laws.Taken.{taken-inside}
 use Rattle.queries.specs.View.{viewOf}
 use Rattle.queries.specs.Queries.{childCount, childOf}
 use Rattle.queries.specs.Answers.{unlessZero}
 use Rattle.queries.specs.Operations.{orderQ, parent, head, ancestorRules, ancestor, children, noChild}
 use Rattle.queries.specs.Operations.{childRules, child, visit, visited}
-use Rattle.queries.specs.Written.{Written, Terminal, VisitNumber, HeadsTell}
+use Rattle.queries.specs.Written.{Written, forestFrom, Terminal, VisitNumber, HeadsTell}
 use Rattle.queries.specs.Laws.Shown.{Shows, parent-shown, head-shown, ancestor-shown, count-shown, child-shown}
 use Rattle.queries.specs.Laws.Shown.{visit-shown, visited-shown}
 use Rattle.queries.specs.Laws.Asked.{order-numbered-q}
@@ -42,37 +45,52 @@ same-answer e = cc
 same-suc : {a b : ℕ} → suc a ≡ suc b → a ≡ b
 same-suc e = omega arith
 
--- where Build refuses nothing, it has written the index
-pub written-by : (bytes work buffer : List ℕ) → build bytes work buffer ≡ answered tt
-    → Written bytes (built bytes work buffer)
+-- where Build refuses nothing, it has written the index with the start that it was given
+pub written-by : (bytes : List ℕ) (start : ℕ) (work buffer : List ℕ) → build bytes start work buffer ≡ answered tt
+    → (w : Written bytes (built bytes start work buffer)) × (w .start ≡ start)
 unfolding build built buildRules
-written-by bytes work buffer e =
-    let k : firstBroken (buildRules bytes work buffer) ≡ 0 =
-    untold-back (firstBroken (buildRules bytes work buffer)) tt (sym e) .0 in
-    record {
-      accepted = record { unbroken = both-kept (check-numbered bytes) _ k .0 };
-      is = sym (buffer-written (buildRules bytes work buffer) (indexOf (blocks bytes)) buffer k);
-    }
+written-by bytes start work buffer e =
+    let rules : List Rule = buildRules bytes start work buffer in
+    let k : firstBroken rules ≡ 0 = untold-back (firstBroken rules) tt (sym e) .0 in
+    let (checked, more) = both-kept (check-numbered bytes) _ k in
+    let (_, rest) = rule-kept 8 _ _ more in
+    let (_, last) = rule-kept 9 _ _ rest in (
+      record {
+        accepted = record { unbroken = checked };
+        start = start;
+        taken = rule-kept 13 _ _ last .0;
+        is = sym (buffer-written rules (indexOf (blocks bytes) (start - 1)) buffer k);
+      },
+      refl,
+    )
 
 module _ {bytes index : List ℕ} (w : Written bytes index) where
   abbrev g : Blocks
   g = blocks bytes
 
   abbrev F : Forest
-  F = forest (blocks bytes)
+  F = forestFrom bytes (w .start)
 
   pub formed : WellFormed (blocks bytes)
   formed = accepted-well-formed (w .accepted)
 
-  pub covered : Covers (blocks bytes) (countUp 0 (length (blocks bytes)))
-  covered = vertices-cover (blocks bytes)
+  startable : Startable (blocks bytes) (w .start - 1)
+  startable = rw (as-many (w .accepted)) (taken-inside (terminals bytes) (w .start) (w .taken))
 
-  pub shown : Shows (viewOf bytes index) (forest (blocks bytes))
+  pub covered : Covers (blocks bytes) (startsFrom (length (blocks bytes)) (w .start - 1))
+  covered = start-covers (blocks bytes) (w .start - 1) startable
+
+  pub shown : Shows (viewOf bytes index) (forestFrom bytes (w .start))
   shown =
-      subst (λ (x : List ℕ). Shows (viewOf bytes x) (forest (blocks bytes))) (sym (w .is)) (built-shows (w .accepted))
+      subst (λ (x : List ℕ). Shows (viewOf bytes x) (forestFrom bytes (w .start))) (sym (w .is))
+      (built-shows (w .accepted) (w .start - 1) startable)
 
   pub vertex-of : {v : ℕ} → Terminal bytes v → v - 1 < length (blocks bytes)
   vertex-of t = omega (arith, as-many (w .accepted), t .some, t .upto)
+
+  -- the start is the first vertex that is visited, and a root
+  pub first : Terminal bytes (w .start) → First (forestFrom bytes (w .start)) (w .start - 1)
+  first t = start-visited-first (formed .in-range) (vertex-of t)
 
   -- ---- nothing of order Q is broken
 
@@ -81,7 +99,7 @@ module _ {bytes index : List ℕ} (w : Written bytes index) where
     unfolding orderQ otherLength firstBroken
     kept =
         let l : length index ≡ indexLength (terminals bytes) (wires bytes) =
-        ap length (w .is) ∙ built-length (w .accepted) in
+        ap length (w .is) ∙ built-length (w .accepted) (w .start - 1) in
         let last : List Rule = (11, outOfRange (terminals bytes) v) ∷ [] in
         let o = accepted-sound (w .accepted) .kept in
         append-kept (order-numbered bytes)
@@ -189,7 +207,7 @@ module _ {bytes index : List ℕ} (w : Written bytes index) where
   -- ---- equal heads
 
   pub heads-answer : {u v : ℕ} → Terminal bytes u → Terminal bytes v
-      → HeadsTell bytes u v (head bytes index u) (head bytes index v)
+      → HeadsTell bytes (w .start) u v (head bytes index u) (head bytes index v)
   heads-answer {u} {v} t r =
       let x = head-answer t in
       let y = head-answer r in

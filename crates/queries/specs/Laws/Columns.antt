@@ -5,17 +5,15 @@ use Prim.Native.Nat.{ℕ, zero, suc, _+_, _-_, _<_}
 use native.Mathlib.Omega.{arith}
 use lib.ListN.{length, getD}
 use lib.Seq.{ext-getD}
-use Rattle.graph.specs.Search.{forest}
 use Rattle.graph.specs.Forest.{parent as parentIn}
-use Rattle.record.specs.Record.{terminals, blocks}
+use Rattle.record.specs.Record.{terminals}
 use Rattle.record.specs.Answers.{Answer, answered, said}
-use Rattle.forest.specs.Index.{indexOf}
 use Rattle.forest.specs.Laws.Sections.{length-each, each-at}
 use Rattle.queries.specs.Steps.{Ranged}
 use Rattle.queries.specs.Answers.{orZero, unlessZero}
 use Rattle.queries.specs.Operations.{parent, head, children, visit}
-use Rattle.queries.specs.Written.{Written, Terminal}
-use Rattle.queries.specs.Table.{answersOf, tableOf, Tabled}
+use Rattle.queries.specs.Written.{Written, forestFrom, Terminal}
+use Rattle.queries.specs.Table.{answersOf, tableOn, Tabled}
 use Rattle.queries.specs.Laws.Answered.{visit-answer, parent-answer, children-answer, head-answer}
 
 module _ {A : Type 0} (number : A → ℕ) (ask : ℕ → Answer A) (n : ℕ) where
@@ -58,28 +56,23 @@ pub or-unless : (k : ℕ) → orZero (unlessZero k) ≡ k
 or-unless zero = refl
 or-unless (suc k) = refl
 
--- each cell of the record's table is what its query answers on an index that Build writes
+-- each cell of a table is what its query answers, on an index that Build writes
 module _ {bytes index : List ℕ} (w : Written bytes index) where
-  here : Written bytes (indexOf (blocks bytes))
-  here = record { accepted = w .accepted; is = refl }
-
   -- the cell of a terminal, by what its query answers
   cell : {A : Type 0} (number : A → ℕ) (ask : ℕ → Answer A) {v : ℕ} {a : A} → Terminal bytes v → ask v ≡ answered a
       → number a ≡ getD (answersOf number ask (terminals bytes)) (v - 1) 0
   cell number ask t e = sym (cell-told number ask (terminals bytes) t e)
 
-  pub table-cells : Tabled bytes index (tableOf bytes)
-  unfolding tableOf
-  table-cells =
-      let x : List ℕ = indexOf (blocks bytes) in
-      record {
-        visits-are = λ t. visit-answer w t ∙ ap answered (cell (λ i. i) (visit bytes x) t (visit-answer here t));
-        parents-are =
-            λ {v} t. parent-answer w t
-            ∙ ap (λ (k : ℕ). answered (unlessZero k))
-            (sym (or-unless (parentIn (forest (blocks bytes)) (v - 1)))
-            ∙ cell orZero (parent bytes x) t (parent-answer here t));
-        counts-are =
-            λ t. children-answer w t ∙ ap answered (cell (λ k. k) (children bytes x) t (children-answer here t));
-        heads-are = λ t. head-answer w t ∙ ap answered (cell (λ v. v) (head bytes x) t (head-answer here t));
-      }
+  pub table-cells : Tabled bytes index (tableOn bytes index)
+  unfolding tableOn
+  table-cells = record {
+    visits-are = λ t. visit-answer w t ∙ ap answered (cell (λ i. i) (visit bytes index) t (visit-answer w t));
+    parents-are =
+        λ {v} t. parent-answer w t
+        ∙ ap (λ (k : ℕ). answered (unlessZero k))
+        (sym (or-unless (parentIn (forestFrom bytes (w .start)) (v - 1)))
+        ∙ cell orZero (parent bytes index) t (parent-answer w t));
+    counts-are =
+        λ t. children-answer w t ∙ ap answered (cell (λ k. k) (children bytes index) t (children-answer w t));
+    heads-are = λ t. head-answer w t ∙ ap answered (cell (λ v. v) (head bytes index) t (head-answer w t));
+  }

@@ -3,10 +3,10 @@ use mathlib.Core.Path.{_≡_, refl, sym, ap, _∙_}
 use mathlib.Core.Logic.{_↔_}
 use mathlib.Core.Bool.{Bool, true, false}
 use mathlib.Core.List.{List}
-use Prim.Native.Nat.{ℕ, zero, suc, _<_}
+use Prim.Native.Nat.{ℕ, zero, suc, _-_, _<_}
 use lib.ListN.{length}
 use Rattle.graph.specs.Graph.{Blocks, block, Place, position, twin}
-use Rattle.graph.specs.Search.{Forest, forest}
+use Rattle.graph.specs.Search.{Forest}
 use Rattle.graph.specs.Joined.{Chain, without, bridge}
 use Rattle.graph.specs.Forest.{parent as parentIn, childMark, parentMark}
 use Rattle.graph.specs.Theorems.{wires-balance, child-marks, parent-marks, marks-at-pairs, parent-mark-once}
@@ -19,7 +19,7 @@ use Rattle.record.specs.Record.{blocks}
 use Rattle.record.specs.Laws.Sound.{accepted-first}
 use Rattle.forest.specs.Index.{indexOf}
 use Rattle.queries.specs.View.{sectionBit, placeOf}
-use Rattle.queries.specs.Written.{Written, Once}
+use Rattle.queries.specs.Written.{Written, forestFrom, Once}
 use Rattle.queries.specs.Laws.Answered.{formed, covered}
 use Rattle.queries.specs.Laws.Built.{built-E, built-P, built-B}
 
@@ -32,23 +32,24 @@ module _ {bytes index : List ℕ} (w : Written bytes index) where
   g = blocks bytes
 
   abbrev F : Forest
-  F = forest (blocks bytes)
+  F = forestFrom bytes (w .start)
 
   -- the bit of section k at position j of u's block
   abbrev at : ℕ → ℕ → ℕ → Bool
   at k u j = sectionBit bytes index k (placeOf bytes u j)
 
-  written-bit : (k u j : ℕ) {b : Bool} → sectionBit bytes (indexOf g) k (placeOf bytes u j) ≡ b → at k u j ≡ b
+  written-bit : (k u j : ℕ) {b : Bool} → sectionBit bytes (indexOf g (w .start - 1)) k (placeOf bytes u j) ≡ b
+      → at k u j ≡ b
   written-bit k u j e = ap (λ (x : List ℕ). sectionBit bytes x k (placeOf bytes u j)) (w .is) ∙ e
 
   E-at : {u j v : ℕ} → Place g u j v → at 0 u j ≡ childMark F u j
-  E-at {u} {j} p = written-bit 0 u j (built-E (w .accepted) p)
+  E-at {u} {j} p = written-bit 0 u j (built-E (w .accepted) (w .start - 1) p)
 
   P-at : {u j v : ℕ} → Place g u j v → at 1 u j ≡ parentMark g g F u j
-  P-at {u} {j} p = written-bit 1 u j (built-P (w .accepted) p)
+  P-at {u} {j} p = written-bit 1 u j (built-P (w .accepted) (w .start - 1) p)
 
   B-at : {u j v : ℕ} → Place g u j v → at 2 u j ≡ bridge g u j
-  B-at {u} {j} p = written-bit 2 u j (built-B (w .accepted) p)
+  B-at {u} {j} p = written-bit 2 u j (built-B (w .accepted) (w .start - 1) p)
 
   module _ {u j v : ℕ} (p : Place (blocks bytes) u j v) where
     other : Place g v (twin g u j) u

@@ -1,7 +1,7 @@
 -- A record and the index that Build wrote for it pass order R and rule 10.
 use mathlib.Core.Path.{_≡_, sym, ap, ap₂, _∙_}
 use mathlib.Core.List.{List}
-use Prim.Native.Nat.{ℕ}
+use Prim.Native.Nat.{ℕ, _-_}
 use lib.ListN.{length}
 use Rattle.record.specs.Laws.Sounded.{sound-of, accepted-sound}
 use Rattle.forest.specs.Index.{indexLength}
@@ -14,5 +14,7 @@ ready-beside {bytes} {index} {n} {m} r =
     let a = r .written .accepted in
     let o = sound-of bytes (accepted-sound a .kept) (r .is-n) (r .is-m) in
     let l : length index ≡ indexLength n m =
-    ap length (r .written .is) ∙ built-length a ∙ ap₂ indexLength (sym (r .is-n)) (sym (r .is-m)) in
+    ap length (r .written .is)
+    ∙ built-length a (r .written .start - 1)
+    ∙ ap₂ indexLength (sym (r .is-n)) (sym (r .is-m)) in
     record { sound = o; framed = record { n-fits = o .n-fits; m-fits = o .m-fits; sized = l } }

@@ -27,12 +27,12 @@ abbrev climbed : tie.After-fill-climbs → tie.After-fill-order
 climbed c = c .before .before .before .before .before .before .before
 
 fill-visits-requires : tie.Need-fill-visits-requires
-fill-visits-requires c κs = let s = start (c .before .before .before) in (s .pre .0, s .pre .3)
+fill-visits-requires c κs = let s = start (c .before .before .before) in (ready-beside (s .pre .0) .framed, s .pre .3)
 
 fill-counts-requires : tie.Need-fill-counts-requires
 fill-counts-requires c κs =
     let f = c .before .before .before .before .before .before .before .before in
-    (start f .pre .0, f .fill-starts .ensures, start f .pre .5)
+    (ready-beside (start f .pre .0), f .fill-starts .ensures, start f .pre .5)
 
 fill-order-requires : tie.Need-fill-order-requires
 fill-order-requires c κs =

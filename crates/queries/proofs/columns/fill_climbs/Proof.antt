@@ -1,19 +1,16 @@
 -- `columns::fill_climbs` meets its contract.
 use Rattle.queries.specs.Laws.Ready.{ready-beside}
-use Rattle.queries.proofs.Laws.Tabling.{cells-begin, cells-put, cells-end, vertex-inside, vertices-apart}
-use Rattle.queries.specs.Filling.{HeadsTo, ParentsTo}
-use Rattle.graph.specs.Forest.{parent as parentIn, head as headIn}
-use Rattle.graph.specs.Search.{forest}
-use Rattle.record.specs.Record.{blocks}
-use Prim.Native.Nat.{ℕ, suc, _-_}
+use Rattle.queries.proofs.Laws.Tabling.{reached-begin, reached-put, reached-end, stored-apart, order-cell}
+use Rattle.queries.specs.Filling.{ParentsTo, HeadsTo}
+use Prim.Native.Nat.{_-_}
 use native.Mathlib.Omega.{arith}
-use mathlib.Core.Path.{sym, ap, _∙_}
+use mathlib.Core.Path.{sym, _∙_}
 use Rattle.queries.proofs.columns.fill_climbs.Statement.{statement}
 use Rattle.queries.proofs.columns.fill_climbs.Tie as tie
 
 abbrev Inv-loop : tie.InvT-loop
 Inv-loop bytes index n m starts order parents₀ heads₀ k₀ parents heads k =
-    ParentsTo bytes n k parents × HeadsTo bytes n k heads
+    ParentsTo bytes index n m k parents × HeadsTo bytes index n m k heads
 
 abbrev μ-loop : tie.MeasureT-loop
 μ-loop bytes index n m starts order parents₀ heads₀ k₀ parents heads k = n - k
@@ -21,7 +18,7 @@ abbrev μ-loop : tie.MeasureT-loop
 loop-holds : tie.Need-loop-holds Inv-loop μ-loop
 loop-holds c =
     let start = c .before .before .before .before .before .before in
-    (record { hold = cells-begin (start .pre .3) }, record { hold = cells-begin (start .pre .4) })
+    (reached-begin (start .pre .3), reached-begin (start .pre .4))
 
 get-requires : tie.Need-get-requires Inv-loop μ-loop
 get-requires c κs =
@@ -31,14 +28,9 @@ get-requires c κs =
 place-of-requires : tie.Need-place-of-requires Inv-loop μ-loop
 place-of-requires c κs =
     let start = c .before .before .before .before .before .before .before .before .before .before in
-    let t = c .before .before .loop-test .taken in (
-      start .pre .0,
-      start .pre .1,
-      t,
-      c .before .get .ensures .0
-          ∙ start .pre .2 .cells (c .before .before .before .loop .k) t,
-      c .before .before .before .loop .inv .1,
-    )
+    let t = c .before .before .loop-test .taken in
+    let (h, is) = order-cell (start .pre .0) (start .pre .2) t (c .before .get .ensures .0) in
+    (start .pre .0, start .pre .1, h, rw is (c .before .before .before .loop .inv .1))
 
 put-requires : tie.Need-put-requires Inv-loop μ-loop
 put-requires c κs =
@@ -46,9 +38,8 @@ put-requires c κs =
     let at-loop = at-test .before in
     let start = at-loop .before .before .before .before .before .before .before in
     let t = at-test .loop-test .taken in
-    let i = vertex-inside (start .pre .0) t in
-    let q = c .before .before .before .get .ensures .0 ∙ start .pre .2 .cells (at-loop .loop .k) t in
-    let s = at-loop .loop .inv .0 .hold .size in
+    let (h, is) = order-cell (start .pre .0) (start .pre .2) t (c .before .before .before .get .ensures .0) in
+    let s = at-loop .loop .inv .0 .size in
     (omega arith, c .before .place-of .ensures .2)
 
 put-requires-2 : tie.Need-put-requires-2 Inv-loop μ-loop
@@ -59,9 +50,8 @@ put-requires-2 c κs =
     let at-loop = at-test .before in
     let start = at-loop .before .before .before .before .before .before .before in
     let t = at-test .loop-test .taken in
-    let i = vertex-inside (start .pre .0) t in
-    let q = at-get .get .ensures .0 ∙ start .pre .2 .cells (at-loop .loop .k) t in
-    let s = at-loop .loop .inv .1 .hold .size in
+    let (h, is) = order-cell (start .pre .0) (start .pre .2) t (at-get .get .ensures .0) in
+    let s = at-loop .loop .inv .1 .size in
     (omega arith, at-place-of .place-of .ensures .3)
 
 add-k : tie.Need-add-k Inv-loop μ-loop
@@ -84,36 +74,27 @@ loop-again c =
     let at-loop = at-test .before in
     let start = at-loop .before .before .before .before .before .before .before in
     let t = at-test .loop-test .taken in
-    let q = at-get .get .ensures .0 ∙ start .pre .2 .cells (at-loop .loop .k) t in
-    let i = vertex-inside (start .pre .0) t in
-    let d = vertices-apart (start .pre .0) t in
-    let g = blocks (start .args .bytes .now) in (
-      record {
-        hold = cells-put (at-loop .loop .inv .0 .hold) d q i
-            (at-place-of .place-of .ensures .0 ∙ ap (parentIn (forest g)) q) (at-put .put .ensures);
-      },
-      record {
-        hold = cells-put (at-loop .loop .inv .1 .hold) d q i
-            (at-place-of .place-of .ensures .1 ∙ ap (λ (x : ℕ). suc (headIn g (forest g) x)) q)
-            (c .before .before .put2 .ensures);
-      },
+    let r = start .pre .0 in
+    let (h, is) = order-cell r (start .pre .2) t (at-get .get .ensures .0) in
+    let (parent, head, few, small) = at-place-of .place-of .ensures in (
+      reached-put (at-loop .loop .inv .0) h is (λ u i z. stored-apart r i h z) parent (at-put .put .ensures),
+      reached-put (at-loop .loop .inv .1) h is (λ u i z. stored-apart r i h z) head (c .before .before .put2 .ensures),
     )
 
 same-length : tie.Need-same-length Inv-loop μ-loop
 same-length c =
     let start = c .before .before .before .before .before .before .before .before in
-    c .before .loop .inv .0 .hold .size ∙ sym (start .pre .3)
+    c .before .loop .inv .0 .size ∙ sym (start .pre .3)
 
 same-length-2 : tie.Need-same-length-2 Inv-loop μ-loop
 same-length-2 c =
     let start = c .before .before .before .before .before .before .before .before in
-    c .before .loop .inv .1 .hold .size ∙ sym (start .pre .4)
+    c .before .loop .inv .1 .size ∙ sym (start .pre .4)
 
 returns : tie.Need-returns Inv-loop μ-loop
-returns c = (
-  record { hold = cells-end (c .loop-test .left) (c .before .loop .inv .0 .hold) },
-  record { hold = cells-end (c .loop-test .left) (c .before .loop .inv .1 .hold) },
-)
+returns c =
+    let (parents, heads) = c .before .loop .inv in
+    (reached-end (c .loop-test .left) parents, reached-end (c .loop-test .left) heads)
 
 pub fill-climbs-spec : {M : Type 1} → statement M
 fill-climbs-spec =

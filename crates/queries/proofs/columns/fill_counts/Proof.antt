@@ -1,14 +1,11 @@
 -- `columns::fill_counts` meets its contract.
-use Rattle.queries.specs.Laws.Ready.{ready-beside}
 use Rattle.queries.proofs.Laws.Tabling.{cells-begin, cells-put, cells-end, apart-self, block-span, count-cell}
 use Rattle.queries.proofs.Laws.Tabling.{count-small}
 use Rattle.queries.proofs.Laws.Climbing.{starts-long}
+use Rattle.queries.specs.View.{viewBy}
+use Rattle.queries.specs.Queries.{childCount}
 use Rattle.queries.specs.Filling.{Cells}
-use Rattle.graph.specs.Forest.{children}
-use Rattle.graph.specs.Search.{forest}
-use Rattle.record.specs.Record.{blocks}
 use Prim.Native.Nat.{_-_}
-use lib.ListN.{length}
 use native.Mathlib.Omega.{arith}
 use mathlib.Core.Path.{refl, sym, _∙_}
 use Rattle.queries.proofs.columns.fill_counts.Statement.{statement}
@@ -16,7 +13,7 @@ use Rattle.queries.proofs.columns.fill_counts.Tie as tie
 
 abbrev Inv-loop : tie.InvT-loop
 Inv-loop bytes index n m starts counts₀ v₀ counts v =
-    Cells (λ u. u) (λ u. length (children (forest (blocks bytes)) u)) n v counts
+    Cells (λ u. u) (childCount (viewBy n m bytes index)) n v counts
 
 abbrev μ-loop : tie.MeasureT-loop
 μ-loop bytes index n m starts counts₀ v₀ counts v = n - v
@@ -29,19 +26,19 @@ loop-holds c =
 get-requires : tie.Need-get-requires Inv-loop μ-loop
 get-requires c κs =
     let start = c .before .before .before .before .before .before in
-    let l = starts-long (ready-beside (start .pre .0) .sound) (start .pre .1) in
+    let l = starts-long (start .pre .0 .sound) (start .pre .1) in
     let t = c .loop-test .taken in
     omega arith
 
 add-get : tie.Need-add-get Inv-loop μ-loop
 add-get c =
     let start = c .before .before .before .before .before .before .before in
-    omega (arith, ready-beside (start .pre .0) .framed .n-fits, c .before .loop-test .taken)
+    omega (arith, start .pre .0 .framed .n-fits, c .before .loop-test .taken)
 
 get-requires-2 : tie.Need-get-requires-2 Inv-loop μ-loop
 get-requires-2 c κs =
     let start = c .before .before .before .before .before .before .before in
-    let l = starts-long (ready-beside (start .pre .0) .sound) (start .pre .1) in
+    let l = starts-long (start .pre .0 .sound) (start .pre .1) in
     let t = c .before .loop-test .taken in
     omega arith
 
@@ -51,7 +48,7 @@ add-count-children c =
     let pre = start .pre in
     let t = c .before .before .before .loop-test .taken in
     let (p, q) = block-span (pre .0) (pre .1) t (c .before .before .get .ensures .0) (c .before .get2 .ensures .0) in
-    let f = ready-beside (pre .0) .framed in
+    let f = pre .0 .framed in
     let x = f .n-fits in
     let y = f .m-fits in
     omega arith
@@ -62,7 +59,7 @@ add-count-children-2 c =
     let pre = start .pre in
     let t = c .before .before .before .loop-test .taken in
     let (p, q) = block-span (pre .0) (pre .1) t (c .before .before .get .ensures .0) (c .before .get2 .ensures .0) in
-    let f = ready-beside (pre .0) .framed in
+    let f = pre .0 .framed in
     let x = f .n-fits in
     let y = f .m-fits in
     omega arith
@@ -80,7 +77,7 @@ count-children-requires c κs =
     let pre = start .pre in
     let t = c .before .before .before .loop-test .taken in
     let (p, q) = block-span (pre .0) (pre .1) t (c .before .before .get .ensures .0) (c .before .get2 .ensures .0) in
-    (ready-beside (pre .0) .framed, omega arith)
+    (pre .0 .framed, omega arith)
 
 put-requires : tie.Need-put-requires Inv-loop μ-loop
 put-requires c κs =
@@ -99,7 +96,7 @@ add-v : tie.Need-add-v Inv-loop μ-loop
 add-v c =
     let at-test = c .before .before .before .before .before .before .before in
     let start = at-test .before .before .before .before .before .before in
-    omega (arith, ready-beside (start .pre .0) .framed .n-fits, at-test .loop-test .taken)
+    omega (arith, start .pre .0 .framed .n-fits, at-test .loop-test .taken)
 
 loop-less : tie.Need-loop-less Inv-loop μ-loop
 loop-less c =

@@ -1,10 +1,8 @@
 -- `columns::fill_order` meets its contract.
 use Rattle.queries.specs.Laws.Ready.{ready-beside}
-use Rattle.queries.proofs.Laws.Tabling.{cells-begin, cells-put, visit-inside, numbers-apart, order-filled}
+use Rattle.queries.proofs.Laws.Tabling.{cells-begin, cells-put, cells-end, stored-inside, stored-before}
+use Rattle.queries.specs.View.{numberOf}
 use Rattle.queries.specs.Filling.{Cells}
-use Rattle.graph.specs.Forest.{number}
-use Rattle.graph.specs.Search.{forest}
-use Rattle.record.specs.Record.{blocks}
 use Prim.Native.Nat.{_-_}
 use native.Mathlib.Omega.{arith}
 use mathlib.Core.Path.{refl, sym, _∙_}
@@ -12,7 +10,7 @@ use Rattle.queries.proofs.columns.fill_order.Statement.{statement}
 use Rattle.queries.proofs.columns.fill_order.Tie as tie
 
 abbrev Inv-loop : tie.InvT-loop
-Inv-loop bytes index n m visits order₀ v₀ order v = Cells (number (forest (blocks bytes))) (λ x. x) n v order
+Inv-loop bytes index n m visits order₀ v₀ order v = Cells (numberOf n m index) (λ x. x) n v order
 
 abbrev μ-loop : tie.MeasureT-loop
 μ-loop bytes index n m visits order₀ v₀ order v = n - v
@@ -40,7 +38,7 @@ put-requires c κs =
     let e = c .get .ensures .0 in
     let t = c .before .before .loop-test .taken in
     let q = start .pre .1 .cells (c .before .before .before .loop .v) t in
-    let i = visit-inside (start .pre .0) t in
+    let i = stored-inside (start .pre .0) t in
     let s = c .before .before .before .loop .inv .size in
     let f = ready-beside (start .pre .0) .framed .n-fits in
     (omega arith, omega arith)
@@ -64,8 +62,8 @@ loop-again c =
     let t = at-test .loop-test .taken in
     let e = c .before .before .before .get .ensures .0 in
     let q = start .pre .1 .cells (at-loop .loop .v) t in
-    cells-put (at-loop .loop .inv) (numbers-apart (start .pre .0) t) (omega arith) (visit-inside (start .pre .0) t) refl
-    (c .before .before .put .ensures)
+    cells-put (at-loop .loop .inv) (stored-before (start .pre .0) t) (omega arith) (stored-inside (start .pre .0) t)
+    refl (c .before .before .put .ensures)
 
 same-length : tie.Need-same-length Inv-loop μ-loop
 same-length c =
@@ -73,9 +71,7 @@ same-length c =
     c .before .loop .inv .size ∙ sym (start .pre .2)
 
 returns : tie.Need-returns Inv-loop μ-loop
-returns c =
-    let start = c .before .before .before .before .before .before in
-    order-filled (start .pre .0) (c .loop-test .left) (c .before .loop .inv)
+returns c = cells-end (c .loop-test .left) (c .before .loop .inv)
 
 pub fill-order-spec : {M : Type 1} → statement M
 fill-order-spec =

@@ -1,28 +1,25 @@
 -- `columns::fill_visits` meets its contract.
-use Rattle.queries.specs.Laws.Ready.{ready-beside}
-use Rattle.queries.proofs.Laws.Tabling.{cells-begin, cells-put, cells-end, apart-self, visit-cell}
+use Rattle.queries.proofs.Laws.Tabling.{cells-begin, cells-put, cells-end, apart-self}
+use Rattle.queries.specs.View.{numberOf}
 use Rattle.queries.specs.Filling.{Cells}
-use Rattle.graph.specs.Forest.{number}
-use Rattle.graph.specs.Search.{forest}
-use Rattle.record.specs.Record.{blocks}
 use Prim.Native.Nat.{suc, _-_}
 use native.Mathlib.Omega.{arith}
-use mathlib.Core.Path.{refl, sym, _∙_}
+use mathlib.Core.Path.{refl, sym, ap, _∙_}
+use native.Mathlib.Numerals.{add-one}
 use Rattle.queries.proofs.columns.fill_visits.Statement.{statement}
 use Rattle.queries.proofs.columns.fill_visits.Tie as tie
 
 abbrev Inv-loop : tie.InvT-loop
-Inv-loop bytes index n m visits₀ v₀ visits v = Cells (λ u. u) (λ u. suc (number (forest (blocks bytes)) u)) n v visits
+Inv-loop index n m visits₀ v₀ visits v = Cells (λ u. u) (λ u. suc (numberOf n m index u)) n v visits
 
 abbrev μ-loop : tie.MeasureT-loop
-μ-loop bytes index n m visits₀ v₀ visits v = n - v
+μ-loop index n m visits₀ v₀ visits v = n - v
 
 loop-holds : tie.Need-loop-holds Inv-loop μ-loop
-loop-holds c = cells-begin (c .before .before .before .pre .1)
+loop-holds c = cells-begin (c .before .before .pre .1)
 
 stored-requires : tie.Need-stored-requires Inv-loop μ-loop
-stored-requires c κs =
-    (ready-beside (c .before .before .before .before .before .before .pre .0) .framed, c .before .loop-test .taken)
+stored-requires c κs = (c .before .before .before .before .before .pre .0, c .before .loop-test .taken)
 
 add-put : tie.Need-add-put Inv-loop μ-loop
 add-put c = let b = c .stored .ensures .1 in omega arith
@@ -36,8 +33,7 @@ put-requires c κs =
 
 add-v : tie.Need-add-v Inv-loop μ-loop
 add-v c =
-    let f = ready-beside
-    (c .before .before .before .before .before .before .before .before .before .before .pre .0) .framed .n-fits in
+    let f = c .before .before .before .before .before .before .before .before .before .pre .0 .n-fits in
     let t = c .before .before .before .before .before .loop-test .taken in
     omega arith
 
@@ -48,12 +44,10 @@ loop-again : tie.Need-loop-again Inv-loop μ-loop
 loop-again c =
     cells-put (c .before .before .before .before .before .before .loop .inv) apart-self refl
     (c .before .before .before .before .before .loop-test .taken)
-    (visit-cell (c .before .before .before .before .before .before .before .before .before .before .pre .0)
-    (c .before .before .before .before .before .loop-test .taken) (c .before .before .before .stored .ensures .0))
-    (c .before .before .put .ensures)
+    (add-one _ ∙ ap suc (c .before .before .before .stored .ensures .0)) (c .before .before .put .ensures)
 
 same-length : tie.Need-same-length Inv-loop μ-loop
-same-length c = c .before .loop .inv .size ∙ sym (c .before .before .before .before .before .pre .1)
+same-length c = c .before .loop .inv .size ∙ sym (c .before .before .before .before .pre .1)
 
 returns : tie.Need-returns Inv-loop μ-loop
 returns c = cells-end (c .loop-test .left) (c .before .loop .inv)

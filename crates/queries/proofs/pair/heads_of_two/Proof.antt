@@ -12,7 +12,7 @@ returns c =
     let (answer, buffer) = after-build .build .ensures in
     let x = c .before .before .head .ensures in
     let y = c .head2 .ensures in
-    let tell = paired (args .bytes .now) (args .work .now) (args .index .now) buffer x y in
+    let tell = paired (args .bytes .now) (args .start .0) (args .work .now) (args .index .now) buffer x y in
     (answer, buffer, x, y, λ e t r. tell (sym answer ∙ e) t r)
 
 pub heads-of-two-spec : {M : Type 1} → statement M

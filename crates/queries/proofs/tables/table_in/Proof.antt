@@ -1,33 +1,33 @@
 -- `tables::table_in` meets its contract.
-use mathlib.Core.Path.{sym, _∙_}
-use Prim.Native.Nat.{_≤_}
-use native.Mathlib.Omega.{arith}
+use mathlib.Core.Path.{sym, ap, _∙_}
+use mathlib.Core.Bool.{not}
+use Prim.Native.Nat.{ℕ}
 use borrow.Author.Needs.{needs}
+use lib.Dec.{eqb}
+use Rattle.record.specs.Operations.{otherLength}
+use Rattle.forest.specs.Index.{indexLength}
 use Rattle.adjacency.specs.Laws.Stores.{part-zeros}
-use Rattle.queries.proofs.Laws.Rooms.{index-short}
 use Rattle.queries.proofs.tables.table_in.Statement.{statement}
 use Rattle.queries.proofs.tables.table_in.Tie as tie
 
--- the index has room
-abbrev start : tie.After-index-length → tie.Start
-start c = c .before .before .before .before .before .before .before
+abbrev start : tie.After-lent-length → tie.Start
+start c = c .before .before .before .before .before .before .before .before .before .before .before
 
-short : (c : tie.After-index-length) → c .index-length .result ≤ 19968
-short c =
-    let e = c .index-length .ensures in
-    let l = index-short (start c .pre .n-fits) (start c .pre .m-fits) in
-    omega arith
-
+-- the buffer has room
 array-borrow-prefix-index : tie.Need-array-borrow-prefix-index
-array-borrow-prefix-index c = short (c .before)
+array-borrow-prefix-index c = c .before .lent-length .ensures .1
 
 slice-aggregate-table-by : tie.Need-slice-aggregate-table-by
-slice-aggregate-table-by c = sym (part-zeros 19968 _ (short (c .before .before)))
+slice-aggregate-table-by c = sym (part-zeros 19969 _ (c .before .before .lent-length .ensures .1))
 
 table-by-requires : tie.Need-table-by-requires
+unfolding otherLength
 table-by-requires c κs =
-    let i = c .before .before .before .before .before .before in
-    (start i .pre, part-zeros 19968 _ (short i) ∙ i .index-length .ensures)
+    let l = c .before .before .before .before .before .before in
+    let s = start l in
+    let (fits, short) = l .lent-length .ensures in
+    let size = part-zeros 19969 (l .lent-length .result) short in
+    (s .pre, ap (λ (k : ℕ). not (eqb k (indexLength (s .args .n) (s .args .m)))) size ∙ fits)
 
 pub table-in-spec : {M : Type 1} → statement M
 table-in-spec =
