@@ -57,13 +57,18 @@ pub extern "C" fn celduga_loop_figure(bytes: &[u8]) -> u32
 // ---- a record and its index
 
 #[no_mangle]
-pub extern "C" fn celduga_build(bytes: &[u8], work: &mut [u16], index: &mut [u8]) -> u32
+pub extern "C" fn celduga_build(
+    bytes: &[u8],
+    start: usize,
+    work: &mut [u16],
+    index: &mut [u8],
+) -> u32
     ensures { λ r. ⌜
-        (r ≡ code nothing (build (now (bytes .entry)) (now (work .entry)) (now (index .entry))))
-        × (now (index .exit) ≡ built (now (bytes .entry)) (now (work .entry)) (now (index .entry)))
+        (r ≡ code nothing (build (now (bytes .entry)) start (now (work .entry)) (now (index .entry))))
+        × (now (index .exit) ≡ built (now (bytes .entry)) start (now (work .entry)) (now (index .entry)))
         ⌝ }
 {
-    codes::of_verdict(forest::build(bytes, work, index))
+    codes::of_verdict(forest::build(bytes, Vertex(start), work, index))
 }
 
 #[no_mangle]
@@ -120,6 +125,7 @@ pub extern "C" fn celduga_visited(bytes: &[u8], index: &[u8], i: usize) -> u32
 #[no_mangle]
 pub extern "C" fn celduga_table(
     bytes: &[u8],
+    start: usize,
     work: &mut [u16],
     visits: &mut [u16],
     parents: &mut [u16],
@@ -127,14 +133,14 @@ pub extern "C" fn celduga_table(
     heads: &mut [u16],
 ) -> u32
     ensures { λ r. ⌜
-        (r ≡ code nothing (table (now (bytes .entry)) (now (work .entry))
+        (r ≡ code nothing (table (now (bytes .entry)) start (now (work .entry))
         (columns (now (visits .entry)) (now (parents .entry)) (now (children .entry)) (now (heads .entry)))))
         × (columns (now (visits .exit)) (now (parents .exit)) (now (children .exit)) (now (heads .exit))
-        ≡ tabled (now (bytes .entry)) (now (work .entry))
+        ≡ tabled (now (bytes .entry)) start (now (work .entry))
         (columns (now (visits .entry)) (now (parents .entry)) (now (children .entry)) (now (heads .entry))))
         ⌝ }
 {
-    codes::of_verdict(queries::table(bytes, work, visits, parents, children, heads))
+    codes::of_verdict(queries::table(bytes, Vertex(start), work, visits, parents, children, heads))
 }
 
 // ---- bit strings
@@ -157,13 +163,13 @@ pub extern "C" fn celduga_select(bytes: &[u8], start: usize, places: usize, k: u
 
 const MAJOR: u32 = 0;
 
-const MINOR: u32 = 2;
+const MINOR: u32 = 3;
 
 const PATCH: u32 = 0;
 
 #[no_mangle]
 pub extern "C" fn celduga_version() -> u32
-    ensures { λ r. ⌜ r ≡ version 0 2 0 ⌝ }
+    ensures { λ r. ⌜ r ≡ version 0 3 0 ⌝ }
 {
     65536 * MAJOR + 256 * MINOR + PATCH
 }

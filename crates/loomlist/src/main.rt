@@ -2,6 +2,7 @@
 // or `refused` and the refusal's number. An error of a read or a write is told on standard error.
 ghost use Prim.Native.Nat.{_≤_};
 ghost use Rattle.loomlist.specs.Listing.{Sized};
+use forest::start::first_start;
 use input::Input;
 use listing::refused;
 use record::Figure;
@@ -11,7 +12,7 @@ use record::Verdict;
 mod input; // input.rt: standard input
 mod listing; // listing.rt: what is printed
 
-// The table of a record, and the listing. The slices are room to work in.
+// The table of a record, from its first terminal on, and the listing. The slices are room to work in.
 fn list(
     bytes: &[u8],
     n: usize,
@@ -23,7 +24,7 @@ fn list(
 )
     requires { ⌜ Sized n (now visits) (now parents) (now counts) (now heads) ⌝ }
 {
-    match queries::table(bytes, work, visits, parents, counts, heads) {
+    match queries::table(bytes, first_start(n), work, visits, parents, counts, heads) {
         Verdict::Refused(r) => refused(r),
         Verdict::Accepted => match record::loop_figure(bytes) {
             Figure::Refused(r) => refused(r),
