@@ -1,4 +1,5 @@
-"""Compares the stored output of the program forest_vectors with a plain search, written from document 01's words alone.
+"""Compares the stored output of the program forest_vectors with a plain search, written from the words of documents 01
+and 02 alone.
 
 The stored output is what `rt ci` holds the proved program to. Here the index is plain.py's, where a wire is a bridge if taking it out
 leaves its ends unjoined; for the large trees and the ring that is told from the shape. With an argument it prints the lines instead.
@@ -9,60 +10,83 @@ from shapes import FIXED
 from stored import main, told
 
 N = 4096
+LARGEST = 2**64 - 1
 OFFSETS = [3, -1, 4, -2, -4, 1, -3, 2]
 
 
 # Build
 
-def line(name, before, data, work, given):
-    refusal, index = answer(build, data, work, len(given))
+def line(name, before, data, start, work, given):
+    refusal, index = answer(build, data, start, work, len(given))
     shown = "".join(f" {byte:02x}" for byte in (given if refusal else index))
-    return f"{name} {before} {work} {len(given)}: {told(refusal, 'accepted')},{shown}"
+    return f"{name} {before} {start} {work} {len(given)}: {told(refusal, 'accepted')},{shown}"
 
 
 def accepted():
-    """Each record with zeros in the work slice and in the buffer, with ones, and with ones and more work than is asked."""
-    for name, blocks in FIXED.items():
-        data = record(blocks)
-        cells, length = 8 * len(blocks), index_length(*sizes(data))
-        yield line(name, "zeros", data, cells, bytes(length))
-        yield line(name, "ones", data, cells, b"\xff" * length)
-        yield line(name, "ones", data, cells + 3, b"\xff" * length)
+    """Each record from its first terminal, and some from others, with zeros in the work slice and in the buffer, with
+    ones, and with ones and more work than is asked."""
+    starts = [(name, min(1, len(blocks))) for name, blocks in FIXED.items()]
+    starts += [("sample", start) for start in range(2, 7)]
+    for name, start in starts + [("wire", 2), ("path", 5), ("hub", 6), ("chord", 7), ("apart", 9), ("apart", 10)]:
+        data = record(FIXED[name])
+        cells, length = 8 * len(FIXED[name]), index_length(*sizes(data))
+        yield line(name, "zeros", data, start, cells, bytes(length))
+        yield line(name, "ones", data, start, cells, b"\xff" * length)
+        yield line(name, "ones", data, start, cells + 3, b"\xff" * length)
 
 
 def refused():
-    """Calls that are refused, and one that is not, by the lengths of the work slice and of the buffer, which holds marks."""
-    sample = record(SAMPLE)
+    """Calls that are refused, and two that are not, by the start and the lengths of the work slice and of the buffer,
+    which holds marks."""
+    sample, single, empty = record(SAMPLE), record([[]]), record([])
     spare = flipped(sample, -1)
     one_sided = record([[2, 3], [1], [2]])
-    for name, data, work, length in (
+    for name, data, start, work, length in (
         # 1 to 8
-        ("none", b"", 0, 0),
-        ("wide", layout(4097, 0, "", []), 64, 16),
-        ("short", sample[:-1], 48, 15),
-        ("few_ones", flipped(sample, 43), 48, 15),
-        ("spare", spare, 48, 15),
-        ("own", record(SAMPLE[:5] + [[6]]), 48, 15),
-        ("doubled", record([[2, 2], [1, 1]]), 16, 6),
-        ("one_sided", one_sided, 24, 8),
+        ("none", b"", 1, 0, 0),
+        ("wide", layout(4097, 0, "", []), 1, 64, 16),
+        ("short", sample[:-1], 1, 48, 15),
+        ("few_ones", flipped(sample, 43), 1, 48, 15),
+        ("spare", spare, 1, 48, 15),
+        ("own", record(SAMPLE[:5] + [[6]]), 1, 48, 15),
+        ("doubled", record([[2, 2], [1, 1]]), 1, 16, 6),
+        ("one_sided", one_sided, 1, 24, 8),
         # 9
-        ("sample", sample, 47, 15),
-        ("sample", sample, 0, 15),
-        ("single", record([[]]), 7, 5),
+        ("sample", sample, 1, 47, 15),
+        ("sample", sample, 1, 0, 15),
+        ("single", single, 1, 7, 5),
         # 10
-        ("sample", sample, 48, 14),
-        ("sample", sample, 48, 16),
-        ("sample", sample, 48, 0),
-        ("empty", record([]), 0, 1),
+        ("sample", sample, 1, 48, 14),
+        ("sample", sample, 1, 48, 16),
+        ("sample", sample, 1, 48, 0),
+        ("empty", empty, 0, 0, 1),
         # 9 before 10, and Check's before both
-        ("sample", sample, 47, 14),
-        ("spare", spare, 47, 15),
-        ("spare", spare, 48, 16),
-        ("one_sided", one_sided, 23, 9),
+        ("sample", sample, 1, 47, 14),
+        ("spare", spare, 1, 47, 15),
+        ("spare", spare, 1, 48, 16),
+        ("one_sided", one_sided, 1, 23, 9),
         # accepted: the marks are written over
-        ("sample", sample, 48, 15),
+        ("sample", sample, 1, 48, 15),
+        # 14
+        ("sample", sample, 0, 48, 15),
+        ("sample", sample, 7, 48, 15),
+        ("sample", sample, 65537, 48, 15),
+        ("sample", sample, LARGEST, 48, 15),
+        ("single", single, 0, 8, 5),
+        ("single", single, 2, 8, 5),
+        ("empty", empty, 1, 0, 0),
+        ("empty", empty, LARGEST, 0, 0),
+        # Check's, 9 and 10 before 14
+        ("spare", spare, 0, 48, 15),
+        ("one_sided", one_sided, 4, 24, 8),
+        ("sample", sample, 0, 47, 15),
+        ("sample", sample, 7, 48, 14),
+        ("sample", sample, 7, 47, 14),
+        ("empty", empty, 1, 0, 1),
+        # accepted
+        ("sample", sample, 6, 48, 15),
     ):
-        yield line(name, "marks", data, work, bytes(range(0xA1, 0xA1 + length)))
+        yield line(name, "marks", data, start, work, bytes(range(0xA1, 0xA1 + length)))
 
 
 # The largest sizes
@@ -98,24 +122,28 @@ def digest(data):
     return f"{d:08x}"
 
 
-def large():
-    """A line for each record, and one for its index with the ones of E, P and B."""
-    for name, blocks, single in shapes():
-        # what is said of the shape holds of a few wires that are tried
-        assert all(((v, w) in single) == is_bridge(blocks, v, w) for v, w in sorted(wires(blocks))[::1000])
-        data = record(blocks)
-        yield f"{name} record {len(data)}: {digest(data)}"
-        refusal, _ = answer(check, data)
-        index = index_of(blocks, single)
-        size = whole(len(blocks) + sum(map(len, blocks)))
-        ones = [bits_of(index[i * size : i * size + size]).count("1") for i in range(3)]
-        yield f"{name} ones {8 * N} {len(index)}: {told(refusal, 'accepted')}, {ones[0]} {ones[1]} {ones[2]}, {digest(index)}"
+def large(name, blocks, single, start):
+    """A line for the record, and one for its index with the ones of E, P and B."""
+    # what is said of the shape holds of a few wires that are tried
+    assert all(((v, w) in single) == is_bridge(blocks, v, w) for v, w in sorted(wires(blocks))[::1000])
+    data = record(blocks)
+    yield f"{name} record {len(data)}: {digest(data)}"
+    refusal, _ = answer(check, data)
+    index = index_of(blocks, single, start)
+    size = whole(len(blocks) + sum(map(len, blocks)))
+    ones = [bits_of(index[i * size : i * size + size]).count("1") for i in range(3)]
+    lengths = f"{start} {8 * N} {len(index)}"
+    yield f"{name} ones {lengths}: {told(refusal, 'accepted')}, {ones[0]} {ones[1]} {ones[2]}, {digest(index)}"
 
 
 def lines():
     yield from accepted()
     yield from refused()
-    yield from large()
+    known = list(shapes())
+    for shape in known:
+        yield from large(*shape, 1)
+    for shape in known:
+        yield from large(*shape, 2048 if shape[0] == "path" else N)
 
 
 if __name__ == "__main__":

@@ -151,9 +151,44 @@ def sample_index(page):
     same("what the index comes to", expected, taken_apart(text, SAMPLE_INDEX, parts))
     heads = [head for *_, head in rows(SAMPLE)]
     same("the heads", [spaced(heads)], sought(r"The heads of 1 to 6 are ([\d ]+):", text))
-    sections = [[v for v, h in enumerate(heads, 1) if h == head] for head in sorted(set(heads))]
-    shown = sought(r"the sections are (.*?)\.", text)[0].split("; ")
-    same("the sections", sections, [[int(v) for v in re.findall(r"\d+", section)] for section in shown])
+    same("the sections", grouped(heads), sections_in(text))
+
+
+def grouped(heads):
+    """The terminals by their heads, in order of the least of each."""
+    return [[v for v, h in enumerate(heads, 1) if h == head] for head in dict.fromkeys(heads)]
+
+
+def sections_in(text):
+    shown = sought(r"the\ssections are (.*?)\.", text)[0].split("; ")
+    return [[int(v) for v in re.findall(r"\d+", section)] for section in shown]
+
+
+def sample_from_4(page):
+    """The bytes, and what is told of them in words."""
+    text = titled(page, "The sample's index from start 4")
+    order, _ = plain.search(SAMPLE, 4)
+    _, _, parents, _, heads = zip(*rows(SAMPLE, 4))
+    same("the index", [hexadecimal(built(SAMPLE_RECORD, 4))], drawn(text))
+    same("the order of visits", [spaced(order)], sought(r"In order\sof\svisits the terminals are ([\d ]+)\.", text))
+    same("the parents", [spaced(parents)], sought(r"The parents of 1 to 6 are ([\d ]+)\.", text))
+    same("the heads", [spaced(heads)], sought(r"The heads of 1 to 6 are ([\d ]+):", text))
+    same("the sections", grouped(heads), sections_in(text))
+
+
+def starts(page):
+    """What the page says of every start holds of its records: the start is visited first, and B and the groups of
+    terminals with one head are the same."""
+    for name, data in small_records(page).items():
+        if answer(check, data)[0]:
+            continue
+        terminals, first = range(1, sizes(data)[0] + 1), built(data)
+        groups = lambda index: grouped([plain.head(data, index, v) for v in terminals])
+        for start in terminals:
+            index = built(data, start)
+            same(f"the first visit in {name} from {start}", start, plain.visited(data, index, 1))
+            same(f"B of {name} from {start}", plain.sections_of(data, first)[2], plain.sections_of(data, index)[2])
+            same(f"the groups in {name} from {start}", groups(first), groups(index))
 
 
 # Offsets and lengths
@@ -358,7 +393,7 @@ def examples(page):
         operation, refusal, found = called(page, call)
         plainly = lambda number: str(number).replace("-", "−")
         same(call, f"refused {refusal}" if refusal else WORDS.get(operation, plainly)(found), words)
-    missing = {f"refused {number}" for number in range(9, 14)} - {row[1] for row in shown}
+    missing = {f"refused {number}" for number in range(9, 15)} - {row[1] for row in shown}
     demand(not missing, f"there is no example of {missing}")
 
 
@@ -383,8 +418,8 @@ def program(page):
     same("the listing", plain.listing(SAMPLE_RECORD).splitlines(), drawn(titled(page, "The program `loomlist`")))
 
 
-TESTS = [definitions, sample_record, sample_index, record_layout, index_sections, limits, small_records, refused_records]
-TESTS += [indexes, refusals, operations, examples, results, figures, program]
+TESTS = [definitions, sample_record, sample_index, sample_from_4, starts, record_layout, index_sections, limits]
+TESTS += [small_records, refused_records, indexes, refusals, operations, examples, results, figures, program]
 
 
 def main():

@@ -7,6 +7,7 @@ import faulthandler
 import mmap
 import re
 import subprocess
+from itertools import chain
 from pathlib import Path
 
 import plain
@@ -19,26 +20,27 @@ GUARD = bytes(range(0xC0, 0x100))
 LISTS = ["visits", "parents", "children", "heads"]
 WIDTHS = {"record": 1, "index": 1, "work": 2, "list": 2, **dict.fromkeys(LISTS, 2)}
 
-# What each returns, the slices that it takes, and how many numbers after them
+# What each returns, and what it takes: slices by their names above, all others are numbers
 FUNCTIONS = {
-    "version": (ctypes.c_uint32, [], 0),
-    "check": (ctypes.c_uint32, ["record"], 0),
-    "build": (ctypes.c_uint32, ["record", "work", "index"], 0),
-    "table": (ctypes.c_uint32, ["record", "work", *LISTS], 0),
-    "parent": (ctypes.c_uint32, ["record", "index"], 1),
-    "head": (ctypes.c_uint32, ["record", "index"], 1),
-    "ancestor": (ctypes.c_uint32, ["record", "index"], 2),
-    "children": (ctypes.c_uint32, ["record", "index"], 1),
-    "child": (ctypes.c_uint32, ["record", "index"], 2),
-    "visit": (ctypes.c_uint32, ["record", "index"], 1),
-    "visited": (ctypes.c_uint32, ["record", "index"], 1),
-    "degree": (ctypes.c_uint32, ["record"], 1),
-    "unpack": (ctypes.c_uint32, ["record", "list"], 0),
-    "neighbours": (ctypes.c_uint64, ["record"], 2),
-    "loop_figure": (ctypes.c_uint32, ["record"], 0),
-    "rank": (ctypes.c_size_t, ["record"], 3),
-    "select": (ctypes.c_size_t, ["record"], 3),
+    "version": (ctypes.c_uint32, []),
+    "check": (ctypes.c_uint32, ["record"]),
+    "build": (ctypes.c_uint32, ["record", "start", "work", "index"]),
+    "table": (ctypes.c_uint32, ["record", "start", "work", *LISTS]),
+    "parent": (ctypes.c_uint32, ["record", "index", "v"]),
+    "head": (ctypes.c_uint32, ["record", "index", "v"]),
+    "ancestor": (ctypes.c_uint32, ["record", "index", "u", "v"]),
+    "children": (ctypes.c_uint32, ["record", "index", "v"]),
+    "child": (ctypes.c_uint32, ["record", "index", "v", "j"]),
+    "visit": (ctypes.c_uint32, ["record", "index", "v"]),
+    "visited": (ctypes.c_uint32, ["record", "index", "i"]),
+    "degree": (ctypes.c_uint32, ["record", "v"]),
+    "unpack": (ctypes.c_uint32, ["record", "list"]),
+    "neighbours": (ctypes.c_uint64, ["record", "room", "v"]),
+    "loop_figure": (ctypes.c_uint32, ["record"]),
+    "rank": (ctypes.c_size_t, ["record", "start", "places", "p"]),
+    "select": (ctypes.c_size_t, ["record", "start", "places", "k"]),
 }
+SLICE, NUMBER = [ctypes.c_void_p, ctypes.c_size_t], [ctypes.c_size_t]
 
 
 # The library
@@ -70,10 +72,10 @@ def load(library):
     """Makes them ready."""
     faulthandler.enable()
     opened = ctypes.CDLL(str(library))
-    for name, (kind, slices, numbers) in FUNCTIONS.items():
+    for name, (kind, taken) in FUNCTIONS.items():
         calls[name] = opened[f"celduga_{name}"]
         calls[name].restype = kind
-        calls[name].argtypes = [ctypes.c_void_p, ctypes.c_size_t] * len(slices) + [ctypes.c_size_t] * numbers
+        calls[name].argtypes = [part for argument in taken for part in (SLICE if argument in WIDTHS else NUMBER)]
     for name, width in WIDTHS.items():
         lent[name] = Lent(width)
 
@@ -97,8 +99,12 @@ class Lent:
         self.pages[self.ROOM - self.size - len(GUARD) : self.ROOM] = GUARD + data
         return self.end - self.size, self.size // self.width
 
+    def held(self):
+        """What the slice holds."""
+        return self.pages[self.ROOM - self.size : self.ROOM]
+
     def holds(self, data):
-        return self.pages[self.ROOM - self.size : self.ROOM] == data
+        return self.held() == data
 
     def guarded(self):
         """Whether nothing was written before the slice."""
@@ -148,21 +154,23 @@ class Compared:
         found, expected = self.call("neighbours", *self.record, room, v), before << 32 | count
         self.settle(found == expected, "neighbours", room, v, "gives", hex(found), "for", hex(expected))
 
-    def write(self, name, outcome, *held):
-        """An operation that writes: the refusal and what is written to each buffer of the result, as plain.py says, and what the lent slices
-        hold before, those buffers last."""
+    def write(self, name, outcome, *given):
+        """An operation that writes: the refusal and what is written to each buffer of the result, as plain.py says.
+        Behind the record, in order, come its numbers and what the lent slices hold before, those buffers last."""
         refusal, written = outcome
-        memories = [lent[taken] for taken in FUNCTIONS[name][1][1:]]
-        slices = [part for memory, data in zip(memories, held) for part in memory.hold(data)]
-        found, expected = self.call(name, *self.record, *slices), returned(refusal, None)
-        lengths = "with " + " and ".join(str(len(data)) for data in held) + " bytes"
-        self.settle(found == expected, name, lengths, "gives", hex(found), "for", hex(expected))
-        buffers = [taken for taken in FUNCTIONS[name][1][1:] if taken != "work"]
-        left = held[-len(buffers) :] if refusal else written
+        taken = list(zip(FUNCTIONS[name][1][1:], given))
+        held = {argument: data for argument, data in taken if argument in WIDTHS}
+        passed = [lent[argument].hold(value) if argument in held else (value,) for argument, value in taken]
+        found, expected = self.call(name, *self.record, *chain(*passed)), returned(refusal, None)
+        told = (f"{argument} {f'of {len(value)} bytes' if argument in held else value}" for argument, value in taken)
+        words = "with " + ", ".join(told)
+        self.settle(found == expected, name, words, "gives", hex(found), "for", hex(expected))
+        buffers = [argument for argument in held if argument != "work"]
+        left = [held[argument] for argument in buffers] if refusal else written
         assert len(left) == len(buffers)
-        for taken, data in zip(buffers, left):
-            self.settle(lent[taken].holds(data), name, lengths, f"leaves other bytes in the {taken}")
-        self.settle(all(memory.guarded() for memory in memories), name, lengths, "writes outside a slice")
+        for argument, data in zip(buffers, left):
+            self.settle(lent[argument].holds(data), name, words, f"leaves other bytes in the {argument}")
+        self.settle(all(lent[argument].guarded() for argument in held), name, words, "writes outside a slice")
 
     def rank_and_select(self, start, places, numbers):
         """Of a string in these bytes, for each of the numbers."""

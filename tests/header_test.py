@@ -7,15 +7,15 @@ import subprocess
 import sys
 import tempfile
 from array import array
-from itertools import combinations, product
+from itertools import chain, combinations, product
 from random import Random
 
 import shapes
 from families import fail, tally
-from header import FUNCTIONS, LISTS, Compared, exported, header_version, load, shared
+from header import FUNCTIONS, LISTS, Compared, exported, header_version, lent, load, shared
 from packing import WIRE, bits_of, index_layout, index_length, layout, packed, record
-from plain import MOST_TERMINALS, MOST_WIRES, answer, blocks_of, build, built, check, children, columns, head, joined, order_r, sizes, table
-from plain import unpack, wires, without
+from plain import MOST_TERMINALS, MOST_WIRES, answer, blocks_of, bridges_of, build, built, check, children, columns
+from plain import head, index_by, joined, order_r, sizes, table, unpack, wires, without
 from programs import ARCHIVE
 
 LARGE = [65536, 65537, 2**32 + 1, 2**63, 2**64 - 1]
@@ -26,6 +26,21 @@ LARGE = [65536, 65537, 2**32 + 1, 2**63, 2**64 - 1]
 def terminals(rng, n, most):
     """0 to n + 1, or some of them."""
     return sorted({0, 1, n, n + 1, *rng.sample(range(1, n + 1), min(n, most))})
+
+
+def first(n):
+    """The start that gives document 01's index."""
+    return 1 if n else 0
+
+
+def starts(rng, n):
+    """Every start of a small record, or some of them, and starts that are refused."""
+    return terminals(rng, n, 12 if n <= 12 else 2) + LARGE
+
+
+def no_starts(n):
+    """Starts that are refused."""
+    return [0, n + 1, 2**64 - 1] if n else [1, 2, 2**64 - 1]
 
 
 def junk(rng, size):
@@ -63,35 +78,43 @@ def alone(data):
 
 
 def building(data):
-    """Build, with a work slice and a buffer of the right lengths and of others."""
+    """Build with every start, or some; and with a work slice and a buffer of other lengths, with a start that is taken
+    and with one that is not."""
     rng, compared = Random(data), Compared(data)
     n, m = asked_sizes(data)
     least, length = 8 * n, index_length(n, m)
     short = abs(least - 1)
     fitting = product((least, least + rng.randint(1, 99), short, 0), [length])
     other = product((least, short), (length + 1, abs(length - 1), 0))
-    for work, room in [*fitting, *other]:
-        refusal, index = answer(build, data, work, room)
-        compared.write("build", (refusal, [index]), junk(rng, 2 * work), junk(rng, room))
+    trials = [(start, least, length) for start in starts(rng, n)]
+    trials += [(start, *rooms) for rooms in [*fitting, *other] for start in (first(n), rng.choice(no_starts(n)))]
+    for start, work, room in trials:
+        refusal, index = answer(build, data, start, work, room)
+        compared.write("build", (refusal, [index]), start, junk(rng, 2 * work), junk(rng, room))
     return compared.result()
 
 
 def tabling(data):
-    """The table, with a work slice and lists of the right lengths, and with each of the lists one shorter or longer."""
+    """The table with every start, or some; and with a work slice and lists of other lengths, each of the lists one
+    shorter or longer, with a start that is taken and with one that is not."""
     rng, compared = Random(data), Compared(data)
     n, _ = asked_sizes(data)
     least = 8 * n
     short, fitting = abs(least - 1), [n] * len(LISTS)
     other = [[*fitting[:i], length, *fitting[i + 1 :]] for i in range(len(LISTS)) for length in (abs(n - 1), n + 1)]
-    trials = [(work, fitting) for work in (least, least + rng.randint(1, 99), short, 0)]
-    trials += [(least, rooms) for rooms in other] + [(short, rng.choice(other)), (least, [n + 1] * len(LISTS)), (least, [0] * len(LISTS))]
-    for work, rooms in trials:
-        refusal, filled = answer(table, data, work, *rooms)
-        held = [junk(rng, 2 * room) for room in rooms]
-        compared.write("table", (refusal, [cells(column) for column in filled or []]), junk(rng, 2 * work), *held)
+    rooms = [(work, fitting) for work in (least + rng.randint(1, 99), short, 0)] + [(short, rng.choice(other))]
+    rooms += [(least, lists) for lists in [*other, [n + 1] * len(LISTS), [0] * len(LISTS)]]
+    trials = [(start, least, fitting) for start in starts(rng, n)]
+    trials += [(start, work, lists) for work, lists in rooms for start in (first(n), rng.choice(no_starts(n)))]
+    for start, work, lists in trials:
+        refusal, filled = answer(table, data, start, work, *lists)
+        held = [junk(rng, 2 * room) for room in lists]
+        outcome = refusal, [cells(column) for column in filled or []]
+        compared.write("table", outcome, start, junk(rng, 2 * work), *held)
     if n <= 40 and not answer(check, data)[0]:
-        climbed = [head(data, built(data), v) for v in range(1, n + 1)]
-        compared.settle(columns(data)[3] == climbed, "plain.py's table has other heads than its climbs")
+        start = rng.randint(first(n), n)
+        climbed = [head(data, built(data, start), v) for v in range(1, n + 1)]
+        compared.settle(columns(data, start)[3] == climbed, "plain.py's table has other heads than its climbs")
     return compared.result()
 
 
@@ -120,26 +143,90 @@ def asking(pair, most=14, large=LARGE):
 
 
 def as_built(data):
-    return asking((data, built(data)))
+    """On the index from the first terminal or from another one."""
+    rng, (n, _) = Random(data), sizes(data)
+    return asking((data, built(data, rng.choice([first(n), rng.randint(first(n), n)]))))
 
 
-def largest(data):
-    """Every operation on a record of the largest size, and the queries on its index."""
-    refusal, _ = answer(check, data)
-    queries = [] if refusal else [asking((data, built(data)), most=8)]
-    return summed([alone(data), building(data), tabling(data)] + queries)
+# Starts
+
+def former_search(blocks):
+    """Document 01's search, which has no start: the terminals in order of first visit, and the parent of each. It goes
+    down and back without a call inside a call."""
+    order, parent, left = [], {}, [iter(block) for block in blocks]
+    for root in range(1, len(blocks) + 1):
+        v, found = 0, root if root not in parent else 0
+        while v or found:
+            if found:
+                parent[found] = v
+                order.append(found)
+            v = found or parent[v]
+            found = next((w for w in left[v - 1] if w not in parent), 0) if v else 0
+    return order, parent
+
+
+def groups(heads):
+    """For each terminal the least one with the same head."""
+    least = {}
+    return [least.setdefault(head, v) for v, head in enumerate(heads, 1)]
+
+
+def tabled(compared, start, n):
+    """The table's columns by the library, for a start that is taken."""
+    rooms = {"work": 8 * n, **dict.fromkeys(LISTS, n)}
+    slices = [lent[name].hold(bytes(2 * room)) for name, room in rooms.items()]
+    found = compared.call("table", *compared.record, start, *chain(*slices))
+    compared.settle(found == 0, "table from", start, "gives", hex(found))
+    return [array("H", lent[name].held()) for name in LISTS]
+
+
+def started(data):
+    """The first start gives the index of a search that has none. From every start, or from some, that terminal is
+    visited first, and is a root, and the heads make the same groups."""
+    rng, compared = Random(data), Compared(data)
+    n, m = sizes(data)
+    index = index_by(blocks_of(data), bridges_of(data), *former_search(blocks_of(data)))
+    compared.write("build", (0, [index]), first(n), bytes(16 * n), bytes(index_length(n, m)))
+    *_, heads = tabled(compared, first(n), n)
+    for start in range(1, n + 1) if n <= 40 else {2, n, *rng.sample(range(1, n + 1), 3)}:
+        visits, parents, _, others = tabled(compared, start, n)
+        compared.settle((visits[start - 1], parents[start - 1]) == (1, 0), f"the search from {start} begins elsewhere")
+        compared.settle(groups(others) == groups(heads), f"the heads from {start} make other groups")
+    return compared.result()
+
+
+def from_start(data, start, together):
+    """Heads are equal exactly for these pairs."""
+    compared = Compared(data, built(data, start))
+    heads = {v: compared.call("head", *compared.both, v) for v in range(1, sizes(data)[0] + 1)}
+    for (u, v), same in together.items():
+        told = f"the heads of {u} and {v} are {heads[u]} and {heads[v]}"
+        compared.settle((heads[u] == heads[v]) == same, f"from {start}", told)
+    return compared.result()
 
 
 def sections(data):
-    """Heads are equal exactly where two terminals are joined, and stay so whichever wire is taken out."""
-    compared, blocks = Compared(data, built(data)), blocks_of(data)
+    """From every start, heads are equal exactly where two terminals are joined, and stay so whichever wire is taken
+    out."""
+    blocks = blocks_of(data)
     looms = [blocks] + [without(blocks, u, w) for u, w in wires(blocks)]
-    for u, v in combinations(range(1, len(blocks) + 1), 2):
-        together = all(joined(loom, u, v) for loom in looms)
-        heads = [compared.call("head", *compared.both, x) for x in (u, v)]
-        compared.settle((heads[0] == heads[1]) == together, f"heads of {u} and {v}: {heads}")
-    return compared.result()
+    everyone = range(1, len(blocks) + 1)
+    together = {(u, v): all(joined(loom, u, v) for loom in looms) for u, v in combinations(everyone, 2)}
+    return summed(from_start(data, start, together) for start in everyone)
 
+
+# All of it on one record
+
+def largest(data):
+    """Every operation on a record of the largest size, and the queries on its indexes from the first and the last
+    terminal."""
+    results = [alone(data), building(data), tabling(data)]
+    if not answer(check, data)[0]:
+        results += [asking((data, built(data, start)), most=8) for start in (1, sizes(data)[0])] + [started(data)]
+    return summed(results)
+
+
+# Other indexes
 
 def on_altered(data):
     return summed(asking((data, index)) for index in shapes.altered(Random(data), blocks_of(data), built(data)))
@@ -176,15 +263,18 @@ def on_other_lengths(data):
     return summed(asking((data, bytes(length)), most=2) for length in sorted({0, 1, size, size + 1, size + 2, 2 * size, abs(size - 1)}))
 
 
-# Document 01's own words
+# Document 01's own words, and the sample from another start
 
+SAMPLE_BYTES = "00 30 00 59 22 A0 02 00 10 00 00 20 01 00 30 00 00 20 05 00 40"
 # a record that is accepted, its index and its heads
 STATED = [
-    ("00 30 00 59 22 A0 02 00 10 00 00 20 01 00 30 00 00 20 05 00 40", "41 84 04 51 00 95 00 00 02 00 10 03 00 40 05", [1, 1, 1, 4, 5, 6]),
+    (SAMPLE_BYTES, "41 84 04 51 00 95 00 00 02 00 10 03 00 40 05", [1, 1, 1, 4, 5, 6]),
     ("00 00 00 00", "", []),
     ("00 08 00 08", "00 00 00 00 00", [1]),
     ("00 10 00 1A 00 10 00", "40 10 50 00 00 01", [1, 2]),
 ]
+# the same for the sample from a start, worked by hand: 4, 3, 2, 1, 5, 6 are visited in this order
+WORKED = (SAMPLE_BYTES, "09 14 24 81 00 95 00 30 02 00 10 00 00 40 05", [3, 3, 3, 4, 5, 6], 4)
 # a record that is refused, and the number
 STATED_REFUSALS = [
     (bytes.fromhex("00 30 00 59 22 A0 02 00 10 00 00 20 01 00 30 00 00 20 05 00 41"), 5),
@@ -196,12 +286,14 @@ STATED_REFUSALS = [
 
 
 def stated(case):
-    """The functions, and plain.py too, against the bytes and numbers that document 01 gives."""
-    data, index, heads = bytes.fromhex(case[0]), bytes.fromhex(case[1]), case[2]
+    """The functions, and plain.py too, against the bytes and numbers that are given."""
+    data, index, heads, *given = bytes.fromhex(case[0]), bytes.fromhex(case[1]), *case[2:]
     compared, terminals = Compared(data, index), range(1, len(heads) + 1)
-    compared.settle(answer(build, data, 8 * len(heads), len(index)) == (0, index), "plain.py builds another index")
+    start = given[0] if given else first(len(heads))
+    found = answer(build, data, start, 8 * len(heads), len(index))
+    compared.settle(found == (0, index), "plain.py builds another index")
     compared.settle([head(data, index, v) for v in terminals] == heads, "plain.py finds other heads")
-    compared.write("build", (0, [index]), bytes(16 * len(heads)), bytes(len(index)))
+    compared.write("build", (0, [index]), start, bytes(16 * len(heads)), bytes(len(index)))
     found = [compared.call("head", *compared.both, v) for v in terminals]
     compared.settle(found == heads, "heads", found)
     return compared.result()
@@ -293,7 +385,7 @@ def families():
     small, medium, damaged = (records(*named.values()) for named in (shapes.small(), shapes.medium(), shapes.damaged()))
     marked = [[[1, 1]], WIRE, [[3], [1]], [[2], [1], []], [[2, 2], [1, 1]]]
     return {
-        "document 01's records": (stated, STATED),
+        "document 01's records, and a start": (stated, [*STATED, WORKED]),
         "document 01's refusals": (stated_refusal, STATED_REFUSALS),
         "the header's version": (version, [header_version()]),
         "largest": (largest, large),
@@ -310,6 +402,7 @@ def families():
         "every set of marks": (on_every_mark, marked),
         "indexes of other lengths": (on_other_lengths, some(rng, small, 40, 60) + rng.sample(damaged, 300)),
         "sections": (sections, some(rng, small, 12, 400)),
+        "starts": (started, every + small + medium),
         "short strings": (counting, short_strings()),
         "strings": (counting, strings("strings", range(8, 200, 3), 20)),
         "long strings": (counting, strings("long strings", (1000, 6720, 53764, 100000), 4)),

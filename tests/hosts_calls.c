@@ -1,5 +1,6 @@
 /* Prints what the inline functions of celduga.h give, and what each call gives on the sample. It is both C99 and C++11. */
 #include <stdio.h>
+#include <string.h>
 
 #include "celduga.h"
 
@@ -11,6 +12,7 @@ static uint16_t work[8 * N];
 static uint16_t list[2 * M];
 static uint8_t forest[15];
 static uint16_t visits[N], parents[N], children[N], heads[N];
+static const uint8_t empty[] = {0, 0, 0, 0};
 
 static void sizes(size_t n, size_t m)
 {
@@ -34,6 +36,42 @@ static void numbers(const char *name, const uint16_t *from, size_t count)
     for (size_t i = 0; i < count; i++)
         printf(" %u", (unsigned)from[i]);
     putchar('\n');
+}
+
+static void shown(const uint8_t *from, size_t count)
+{
+    printf("index:");
+    for (size_t i = 0; i < count; i++)
+        printf(" %02X", (unsigned)from[i]);
+    putchar('\n');
+}
+
+/* Build of the sample with these slices. */
+static void build(const char *call, size_t start, size_t work_len, size_t index_len)
+{
+    told(call, celduga_build(sample, sizeof sample, start, work, work_len, forest, index_len));
+}
+
+/* The same of Table; the last list has this length. */
+static void table(const char *call, size_t start, size_t work_len, size_t heads_len)
+{
+    told(call, celduga_table(sample, sizeof sample, start, work, work_len, visits, N, parents, N, children, N,
+                             heads, heads_len));
+}
+
+/* Build and Table of the empty record. */
+static void on_empty(size_t start)
+{
+    told("build of the empty record", celduga_build(empty, sizeof empty, start, work, 0, forest, 0));
+    told("its table", celduga_table(empty, sizeof empty, start, work, 0, visits, 0, parents, 0, children, 0, heads, 0));
+}
+
+static void columns(void)
+{
+    numbers("visits", visits, N);
+    numbers("parents", parents, N);
+    numbers("children", children, N);
+    numbers("heads", heads, N);
 }
 
 /* Where the part of terminal v stands in a list of so many numbers, and its numbers. */
@@ -69,7 +107,7 @@ int main(void)
     header(highest);
     printf("figures: %d %d %d %d %d\n", celduga_figure(0), celduga_figure(0x4001), celduga_figure(0x7FFF), celduga_figure(0x8000),
            celduga_figure(0xF001));
-    for (unsigned refusal = 0; refusal <= 15; refusal++)
+    for (unsigned refusal = 0; refusal <= 16; refusal++)
         printf("refusal %u: %s\n", refusal, celduga_refusal_text(refusal));
     printf("refusal %u: %s\n", 0xFFFFFFFFu, celduga_refusal_text(0xFFFFFFFFu));
 
@@ -82,18 +120,30 @@ int main(void)
         part(2 * M, v);
     part(2 * M - 1, 3);
     part(2 * M + 1, 3);
-    told("build", celduga_build(r, rl, work, 8 * N, forest, xl));
-    for (size_t i = 0; i < xl; i++)
-        printf("%s%02X", i == 0 ? "index: " : " ", (unsigned)forest[i]);
-    putchar('\n');
-    told("table of 5", celduga_table(r, rl, work, 8 * N, visits, N, parents, N, children, N, heads, N - 1));
-    told("table in 47", celduga_table(r, rl, work, 8 * N - 1, visits, N, parents, N, children, N, heads, N));
+    memset(forest, 0xA5, sizeof forest);
+    build("build from 0", 0, 8 * N, xl);
+    build("build from 7", N + 1, 8 * N, xl);
+    build("build from the largest", SIZE_MAX, 8 * N, xl);
+    build("build from 0 in 47", 0, 8 * N - 1, xl);
+    build("build from 0 to 14", 0, 8 * N, xl - 1);
+    shown(forest, xl);
+    build("build from 4", 4, 8 * N, xl);
+    shown(forest, xl);
+    build("build from 1", 1, 8 * N, xl);
+    shown(forest, xl);
+    memset(heads, 1, sizeof heads);
+    table("table of 5", 1, 8 * N, N - 1);
+    table("table in 47", 1, 8 * N - 1, N);
+    table("table from 7", N + 1, 8 * N, N);
+    table("table from the largest of 5", SIZE_MAX, 8 * N, N - 1);
     numbers("heads", heads, N);
-    told("table", celduga_table(r, rl, work, 8 * N, visits, N, parents, N, children, N, heads, N));
-    numbers("visits", visits, N);
-    numbers("parents", parents, N);
-    numbers("children", children, N);
-    numbers("heads", heads, N);
+    table("table from 4", 4, 8 * N, N);
+    columns();
+    table("table from 1", 1, 8 * N, N);
+    columns();
+    on_empty(0);
+    on_empty(1);
+    on_empty(SIZE_MAX);
     for (size_t v = 1; v <= N + 1; v++) {
         told("degree", celduga_degree(r, rl, v));
         told("visit", celduga_visit(r, rl, x, xl, v));

@@ -76,7 +76,7 @@ def header_sizes(data):
 
 
 def calls():
-    """What the program of tests/hosts_calls.c must print; the answers on the sample are those of document 01."""
+    """What the program of tests/hosts_calls.c must print; the answers on the sample from 1 are those of document 01."""
     spaced = lambda numbers: " ".join(map(str, numbers))
     version = header_version()
     whole = int.from_bytes(bytes(version), "big")
@@ -95,10 +95,18 @@ def calls():
         yield from (f"part {v} of 10: {place}", f"neighbours:{''.join(f' {w}' for w in block)}")
     for room in 9, 11:
         yield from (f"part 3 of {room}: 0 0 at 0", "neighbours:")
-    yield "build: 0 0"
-    yield "index: 41 84 04 51 00 95 00 00 02 00 10 03 00 40 05"
-    yield from ("table of 5: 10 0", "table in 47: 9 0", "heads: 0 0 0 0 0 0", "table: 0 0")
+    yield from ("build from 0: 14 0", "build from 7: 14 0", "build from the largest: 14 0")
+    yield from ("build from 0 in 47: 9 0", "build from 0 to 14: 10 0", f"index: {spaced(['A5'] * 15)}")
+    # 4 enters 3, 3 enters 2 and 2 enters 1; then come 5 and 6
+    yield from ("build from 4: 0 0", "index: 09 14 24 81 00 95 00 30 02 00 10 00 00 40 05")
+    yield from ("build from 1: 0 0", "index: 41 84 04 51 00 95 00 00 02 00 10 03 00 40 05")
+    yield from ("table of 5: 10 0", "table in 47: 9 0", "table from 7: 14 0", "table from the largest of 5: 10 0")
+    yield from (f"heads: {spaced([257] * 6)}", "table from 4: 0 0")
+    yield from ("visits: 4 3 2 1 5 6", "parents: 2 3 4 0 0 5", "children: 0 1 1 1 1 0", "heads: 3 3 3 4 5 6")
+    yield "table from 1: 0 0"
     yield from ("visits: 1 3 2 4 5 6", "parents: 0 3 1 3 0 5", "children: 1 0 2 0 1 0", "heads: 1 1 1 4 5 6")
+    for refusal in 0, 14, 14:
+        yield from (f"build of the empty record: {refusal} 0", f"its table: {refusal} 0")
     rows = [(1, 1, 1, 0, 1, 1), (2, 3, 3, 3, 0, 1), (3, 2, 2, 1, 2, 1), (4, 4, 4, 3, 0, 4), (5, 5, 5, 0, 1, 5), (6, 6, 6, 5, 0, 6)]
     for v, *answers in rows:
         for call, answer in zip(("degree", "visit", "visited", "parent", "children", "head"), (len(SAMPLE[v - 1]), *answers)):
@@ -128,7 +136,7 @@ def header_calls(compiler, room):
 
 RUST_WORDS = """
 fn main() {
-    for number in 0..=15 {
+    for number in 0..=16 {
         match celduga::Refusal::from_number(number) {
             Some(refusal) => println!("{refusal}"),
             None => println!(),
@@ -139,12 +147,15 @@ fn main() {
 
 
 def refusals_in_words(room):
-    """The header's words for a refusal are those of the Rust package, 1 to 13, and it has others for 0 and for all above."""
+    """The header's words for a refusal are those of the Rust package, 1 to 14, and it has others for 0 and for all
+    above."""
     rust = rust_program(room, "words", RUST_WORDS).splitlines()
-    demand(len(rust) == 16 and len(set(rust[1:14])) == 13 and all(rust[1:14]), f"the Rust package has other refusals than 1 to 13: {rust}")
-    demand(not rust[0] and not any(rust[14:]), f"the Rust package has more refusals than 1 to 13: {rust}")
+    known = rust[1:15]
+    whole = len(rust) == 17 and len(set(known)) == 14 and all(known)
+    demand(whole, f"the Rust package has other refusals than 1 to 14: {rust}")
+    demand(not rust[0] and not any(rust[15:]), f"the Rust package has more refusals than 1 to 14: {rust}")
     none = "no refusal has this number"
-    expected = [f"refusal {number}: {words}" for number, words in enumerate(["nothing is refused", *rust[1:14], none, none])]
+    expected = [f"refusal {number}: {words}" for number, words in enumerate(["nothing is refused", *known, none, none])]
     for compiler in C, CPP:
         same_lines(called(compiler, room)[1], [*expected, f"refusal {2**32 - 1}: {none}"])
 

@@ -1,4 +1,5 @@
-"""A plain program for document 01, in its order and from its sentences: bits, record, forest, operations, listing.
+"""A plain program for document 01, in its order and from its sentences: bits, record, forest, operations, listing; the
+start of the search is document 02's.
 
 It shares no idea with the product: a bit string is a string of characters, the search is a recursion, and a wire has its marks in B where
 taking it out leaves its ends unjoined. An operation returns its answer, or raises Refused with the refusal's number.
@@ -75,8 +76,9 @@ def blocks_of(data):
 
 # Forest
 
-def search(blocks):
-    """The terminals in order of first visit, and the parent of each, 0 for a root."""
+def search(blocks, start=1):
+    """The terminals in order of first visit, and the parent of each, 0 for a root. It begins at the start and then
+    takes the unvisited terminals from 1 upward; where there is no terminal, there is nothing to begin at."""
     order, parent = [], {}
 
     def enter(v, above):
@@ -86,7 +88,7 @@ def search(blocks):
             if w not in parent:
                 enter(w, v)
 
-    for v in range(1, len(blocks) + 1):
+    for v in [start, *range(1, len(blocks) + 1)] if blocks else []:
         if v not in parent:
             enter(v, 0)
     return order, parent
@@ -148,9 +150,8 @@ def marks(blocks, marked):
     return "".join("0" + "".join("01"[marked(v, w)] for w in block) for v, block in enumerate(blocks, 1))
 
 
-def index_of(blocks, single):
-    """The index of a record with these blocks, for the set of its bridges."""
-    order, parent = search(blocks)
+def index_by(blocks, single, order, parent):
+    """The index of a record with these blocks, for the set of its bridges and for what a search found."""
     visits = {v: i for i, v in enumerate(order, 1)}
     return index_layout(
         marks(blocks, lambda v, w: parent[w] == v),
@@ -160,10 +161,19 @@ def index_of(blocks, single):
     )
 
 
+def index_of(blocks, single, start=1):
+    return index_by(blocks, single, *search(blocks, start))
+
+
 @kept
-def built(data):
+def bridges_of(data):
+    return bridges(blocks_of(data))
+
+
+@kept
+def built(data, start=1):
     """The index of an accepted record."""
-    return index_of(blocks_of(data), bridges(blocks_of(data)))
+    return index_of(blocks_of(data), bridges_of(data), start)
 
 
 @kept
@@ -219,6 +229,11 @@ def refuse_11(data, v):
     refuse(11, v == 0 or v > n)
 
 
+def refuse_14(data, start):
+    n, _ = sizes(data)
+    refuse(14, start == 0 or start > n if n else start != 0)
+
+
 # Operations on a record, and Build
 
 @kept
@@ -234,13 +249,14 @@ def check(data):
     refuse(8, not {(w, v) for v, w in listings} <= set(listings))
 
 
-def build(data, work, room):
+def build(data, start, work, room):
     """The index, for the lengths of the work slice and of the index buffer."""
     check(data)
     n, m = sizes(data)
     refuse(9, work < 8 * n)
     refuse(10, room != index_length(n, m))
-    return built(data)
+    refuse_14(data, start)
+    return built(data, start)
 
 
 def degree(data, v):
@@ -364,9 +380,9 @@ def visited(data, index, i):
 # Table
 
 @kept
-def columns(data):
-    """What Visit, Parent, Children and Head answer for each terminal of an accepted record on its index."""
-    index = built(data)
+def columns(data, start=1):
+    """What Visit, Parent, Children and Head answer for each terminal of an accepted record on its index from the start."""
+    index = built(data, start)
     visits, parents, counts = ([asked(data, index, v) for v in range(1, sizes(data)[0] + 1)] for asked in (visit, parent, children))
     heads = {}
     # a parent is visited before its children; where Head doesn't stop, it goes to the parent and stops where it stops from there
@@ -376,20 +392,21 @@ def columns(data):
     return visits, parents, counts, [heads[v] for v in sorted(heads)]
 
 
-def table(data, work, *rooms):
+def table(data, start, work, *rooms):
     """The four columns, for the lengths of the work slice and of the four lists."""
     check(data)
     n, _ = sizes(data)
     refuse(9, work < 8 * n)
     refuse(10, rooms != (n, n, n, n))
-    return columns(data)
+    refuse_14(data, start)
+    return columns(data, start)
 
 
 # Listing
 
-def rows(blocks):
+def rows(blocks, start=1):
     """The forest's own answers for each terminal: its number, visit number, parent, count of children and head."""
-    order, parent = search(blocks)
+    order, parent = search(blocks, start)
     visits = {v: i for i, v in enumerate(order, 1)}
     heads = {}
     # a parent is visited before its children

@@ -1,10 +1,12 @@
-"""Compares the stored output of the program queries_vectors with a plain reading of document 01's sentences.
+"""Compares the stored output of the program queries_vectors with a plain reading of the sentences of documents 01 and
+02.
 
 The stored output is what `rt ci` holds the proved program to. Here the answers are plain.py's, and a query's refusal is shown as its number
 in brackets. With an argument it prints the lines instead.
 """
 from packing import SAMPLE, WIRE, flipped, index_layout, layout, ones_at, record, whole
-from plain import ancestor, answer, blocks_of, bridges, check, child, children, head, index_of, parent, refuse, sizes, visit, visited
+from plain import ancestor, answer, blocks_of, bridges, check, child, children, head, index_of, parent, refuse
+from plain import refuse_14, sizes, visit, visited
 from shapes import FIXED, filled, places, with_ones
 from stored import main
 
@@ -48,8 +50,8 @@ def largest(name, data, index):
 
 # Indexes
 
-def built(blocks):
-    return index_of(blocks, bridges(blocks))
+def built(blocks, start=1):
+    return index_of(blocks, bridges(blocks), start)
 
 
 def made(blocks, e, p, b, numbers):
@@ -67,6 +69,12 @@ def as_built():
     for name in BUILT:
         blocks = FIXED[name]
         yield name, record(blocks), built(blocks), len(blocks) + 1
+
+
+def started():
+    """From other starts."""
+    for name, start in ("sample", 4), ("path", 5):
+        yield f"{name}_from_{start}", record(FIXED[name]), built(FIXED[name], start), len(FIXED[name]) + 1
 
 
 # the marks and stored numbers of the sample's index
@@ -150,6 +158,7 @@ def refusals():
 
 def pairs():
     yield from as_built()
+    yield from started()
     yield from on_sample()
     yield from climbs()
     yield from unaccepted()
@@ -159,39 +168,51 @@ def pairs():
 
 # Table
 
-def table(data, work, *rooms):
+def table(data, start, work, *rooms):
     """The four lists, for the lengths of the work slice and of the lists."""
     check(data)
     n, _ = sizes(data)
     refuse(9, work < 8 * n)
     refuse(10, any(room != n for room in rooms))
-    index = built(blocks_of(data))
+    refuse_14(data, start)
+    index = built(blocks_of(data), start)
     return [[query(data, index, v) for v in range(1, n + 1)] for query in (visit, parent, children, head)]
 
 
-def tabled(name, data, work, *rooms):
+def tabled(name, data, start, work, *rooms):
     """The verdict, and then each list; a refused call leaves the marks that it held: from 901 on, from 911 on, and so on."""
-    refusal, lists = answer(table, data, work, *rooms)
+    refusal, lists = answer(table, data, start, work, *rooms)
     marks = [range(first, first + room) for first, room in zip((901, 911, 921, 931), rooms)]
-    yield f"{name} table {work} " + " ".join(map(str, rooms)) + ": " + (f"refused {refusal}" if refusal else "accepted")
+    given = " ".join(map(str, (start, work, *rooms)))
+    yield f"{name} table {given}: " + (f"refused {refusal}" if refusal else "accepted")
     for title, numbers in zip(("visits", "parents", "counts", "heads"), marks if refusal else lists):
         yield " ".join([f"{name} {title}:", *map(str, numbers)])
 
 
 def tables():
-    """Accepted records and one for each of 1 to 8, with what they ask for. The sample with one number of work more; with 9, before 10; with
-    10, for each list in turn, too short and too long; and 5 before both."""
+    """Accepted records and one for each of 1 to 8, with what they ask for. The sample with one number of work more;
+    with 9, before 10; with 10, for each list in turn, too short and too long; and 5 before both. Then other starts:
+    accepted; 14; and after 9, 10 and 5."""
     data = {name: given for name, given, _, _ in pairs()}
     accepted = [(name, len(FIXED[name])) for name in BUILT]
     bad = [("three_bytes", 2), ("wide", 2), ("short", 6), ("few_ones", 6), ("spare", 6), ("stray", 6), ("doubled", 2), ("one_sided", 3)]
     for name, n in accepted + bad:
-        yield name, data[name], 8 * n, n, n, n, n
+        yield name, data[name], min(1, n), 8 * n, n, n, n, n
     for work, first in (49, 6), (47, 6), (47, 5):
-        yield "sample", data["sample"], work, first, 6, 6, 6
+        yield "sample", data["sample"], 1, work, first, 6, 6, 6
     for other in range(4):
         for room in 5, 7:
-            yield "sample", data["sample"], 48, *(room if i == other else 6 for i in range(4))
-    yield "spare", data["spare"], 47, 6, 6, 6, 7
+            yield "sample", data["sample"], 1, 48, *(room if i == other else 6 for i in range(4))
+    yield "spare", data["spare"], 1, 47, 6, 6, 6, 7
+    for name, start in *(("sample", start) for start in range(2, 7)), ("wire", 2), ("path", 5), ("apart", 9):
+        n = len(FIXED[name])
+        yield name, data[name], start, 8 * n, n, n, n, n
+    for start in 0, 7, 65537, LARGEST:
+        yield "sample", data["sample"], start, 48, 6, 6, 6, 6
+    yield "empty", data["empty"], 1, 0, 0, 0, 0, 0
+    for start, work, first, last in (0, 47, 6, 6), (7, 48, 6, 5), (0, 48, 7, 6):
+        yield "sample", data["sample"], start, work, first, 6, 6, last
+    yield "spare", data["spare"], 0, 48, 6, 6, 6, 6
 
 
 def lines():
