@@ -8,15 +8,17 @@ use print::show_bytes;
 use print::text;
 use print::value;
 use record::Verdict;
+use record::Vertex;
 use shapes::Shape;
 
 mod shapes; // shapes.rt: the largest records
 
-// The record, what the work slice and the buffer hold before the call, and their lengths.
-fn heading(name: &[u8], before: &[u8], work: usize, buffer: usize) {
+// The record, what the work slice and the buffer hold before the call, the start, and their lengths.
+fn heading(name: &[u8], before: &[u8], start: usize, work: usize, buffer: usize) {
     text(name);
     text(b" ");
     text(before);
+    value(start);
     value(work);
     value(buffer);
     text(b": ");
@@ -32,9 +34,16 @@ fn verdict(answer: Verdict) {
 }
 
 // Build, with the buffer after it.
-fn build(name: &[u8], before: &[u8], bytes: &[u8], work: &mut [u16], index: &mut [u8]) {
-    heading(name, before, work.len(), index.len());
-    verdict(forest::build(bytes, work, index));
+fn build(
+    name: &[u8],
+    before: &[u8],
+    bytes: &[u8],
+    start: usize,
+    work: &mut [u16],
+    index: &mut [u8],
+) {
+    heading(name, before, start, work.len(), index.len());
+    verdict(forest::build(bytes, Vertex(start), work, index));
     show_bytes(index);
 }
 
@@ -55,7 +64,16 @@ fn index_length(n: usize, m: usize) -> usize
 }
 
 // Build with a work slice and a buffer of these lengths, each full of one number.
-fn lent(name: &[u8], before: &[u8], bytes: &[u8], cell: u16, byte: u8, work: usize, length: usize)
+fn lent(
+    name: &[u8],
+    before: &[u8],
+    bytes: &[u8],
+    start: usize,
+    cell: u16,
+    byte: u8,
+    work: usize,
+    length: usize,
+)
     requires { ⌜ (work ≤ 99) × (length ≤ 36) ⌝ }
 {
     let mut cells = [cell; 99];
@@ -64,21 +82,29 @@ fn lent(name: &[u8], before: &[u8], bytes: &[u8], cell: u16, byte: u8, work: usi
         name,
         before,
         bytes,
+        start,
         &mut cells[..work],
         &mut buffer[..length],
     );
 }
 
-// A record of n terminals and m wires that is accepted. What the work slice and the buffer hold before does not matter,
-// nor does more work.
-fn run(name: &[u8], bytes: &[u8], n: usize, m: usize)
+// A record of n terminals and m wires that is accepted with this start. What the work slice and the buffer hold before
+// does not matter, nor does more work.
+fn run_from(name: &[u8], bytes: &[u8], start: usize, n: usize, m: usize)
     requires { ⌜ (n ≤ 12) × (m ≤ 14) ⌝ }
 {
     let cells = 8 * n;
     let length = index_length(n, m);
-    lent(name, b"zeros", bytes, 0, 0, cells, length);
-    lent(name, b"ones", bytes, 0xFFFF, 0xFF, cells, length);
-    lent(name, b"ones", bytes, 0xFFFF, 0xFF, cells + 3, length);
+    lent(name, b"zeros", bytes, start, 0, 0, cells, length);
+    lent(name, b"ones", bytes, start, 0xFFFF, 0xFF, cells, length);
+    lent(name, b"ones", bytes, start, 0xFFFF, 0xFF, cells + 3, length);
+}
+
+// The same from terminal 1.
+fn run(name: &[u8], bytes: &[u8], n: usize, m: usize)
+    requires { ⌜ (n ≤ 12) × (m ≤ 14) ⌝ }
+{
+    run_from(name, bytes, 1, n, m);
 }
 
 // Document 01's records.
@@ -89,7 +115,7 @@ fn stated() {
         6,
         5,
     );
-    run(b"empty", b"\x00\x00\x00\x00", 0, 0);
+    run_from(b"empty", b"\x00\x00\x00\x00", 0, 0, 0);
     run(b"single", b"\x00\x08\x00\x08", 1, 0);
     run(b"wire", b"\x00\x10\x00\x1A\x00\x10\x00", 2, 1);
 }
@@ -173,8 +199,65 @@ fn mixtures() {
     );
 }
 
+// The sample from another terminal.
+fn sample_from(start: usize) {
+    run_from(
+        b"sample",
+        b"\x00\x30\x00\x59\x22\xA0\x02\x00\x10\x00\x00\x20\x01\x00\x30\x00\x00\x20\x05\x00\x40",
+        start,
+        6,
+        5,
+    );
+}
+
+// The sample from each of its other terminals; others from the end of a wire, inside a path, from a hub, from the end
+// of a tail, inside a component and from an isolated terminal.
+fn other_starts() {
+    sample_from(2);
+    sample_from(3);
+    sample_from(4);
+    sample_from(5);
+    sample_from(6);
+    run_from(b"wire", b"\x00\x10\x00\x1A\x00\x10\x00", 2, 2, 1);
+    run_from(
+        b"path",
+        b"\x00\x30\x00\x59\x2A\x40\x04\x00\x20\x05\x00\x40\x00\x00\x50\x01\x00\x00\x03\x00\x10",
+        5,
+        6,
+        5,
+    );
+    run_from(
+        b"hub",
+        b"\x00\x30\x00\x5A\xAA\x00\x05\x00\x50\x05\x00\x50\x05\x00\x30\x00\x00\x40\x02\x00\x10",
+        6,
+        6,
+        5,
+    );
+    run_from(
+        b"chord",
+        b"\x00\x38\x00\x89\x11\x12\x40\x06\x00\x40\x0A\x00\x80\x06\x00\x60\x0A\x00\x00\x02\x00\x00\x04\x00\xC0\x02\x00\x40\x02\x00\x80",
+        7,
+        7,
+        8,
+    );
+    run_from(
+        b"apart",
+        b"\x00\x50\x00\x5C\xB4\x69\x00\x80\x05\x00\x40\x02\x00\x70\x01\x00\x80\x05\x00\x50\x01",
+        9,
+        10,
+        5,
+    );
+    run_from(
+        b"apart",
+        b"\x00\x50\x00\x5C\xB4\x69\x00\x80\x05\x00\x40\x02\x00\x70\x01\x00\x80\x05\x00\x50\x01",
+        10,
+        10,
+        5,
+    );
+}
+
 // Build with a buffer of marks, which a refused call leaves.
-fn on_marks(name: &[u8], bytes: &[u8], work: usize, length: usize)
+fn on_marks(name: &[u8], bytes: &[u8], start: usize, work: usize, length: usize)
     requires { ⌜ (work ≤ 64) × (length ≤ 16) ⌝ }
 {
     let mut cells = [0u16; 64];
@@ -183,41 +266,45 @@ fn on_marks(name: &[u8], bytes: &[u8], work: usize, length: usize)
         name,
         b"marks",
         bytes,
+        start,
         &mut cells[..work],
         &mut buffer[..length],
     );
 }
 
-fn sample(work: usize, length: usize)
+fn sample(start: usize, work: usize, length: usize)
     requires { ⌜ (work ≤ 64) × (length ≤ 16) ⌝ }
 {
     on_marks(
         b"sample",
         b"\x00\x30\x00\x59\x22\xA0\x02\x00\x10\x00\x00\x20\x01\x00\x30\x00\x00\x20\x05\x00\x40",
+        start,
         work,
         length,
     );
 }
 
 // The sample with a spare bit set.
-fn spare(work: usize, length: usize)
+fn spare(start: usize, work: usize, length: usize)
     requires { ⌜ (work ≤ 64) × (length ≤ 16) ⌝ }
 {
     on_marks(
         b"spare",
         b"\x00\x30\x00\x59\x22\xA0\x02\x00\x10\x00\x00\x20\x01\x00\x30\x00\x00\x20\x05\x00\x41",
+        start,
         work,
         length,
     );
 }
 
 // A wire that is listed at one end only.
-fn one_sided(work: usize, length: usize)
+fn one_sided(start: usize, work: usize, length: usize)
     requires { ⌜ (work ≤ 64) × (length ≤ 16) ⌝ }
 {
     on_marks(
         b"one_sided",
         b"\x00\x18\x00\x29\x40\x02\x00\x40\x00\x00\x20",
+        start,
         work,
         length,
     );
@@ -225,54 +312,81 @@ fn one_sided(work: usize, length: usize)
 
 // 1 to 8.
 fn unaccepted() {
-    on_marks(b"none", b"", 0, 0);
-    on_marks(b"wide", b"\x80\x08\x00\x00", 64, 16);
+    on_marks(b"none", b"", 1, 0, 0);
+    on_marks(b"wide", b"\x80\x08\x00\x00", 1, 64, 16);
     on_marks(
         b"short",
         b"\x00\x30\x00\x59\x22\xA0\x02\x00\x10\x00\x00\x20\x01\x00\x30\x00\x00\x20\x05\x00",
+        1,
         48,
         15,
     );
     on_marks(
         b"few_ones",
         b"\x00\x30\x00\x59\x22\x80\x02\x00\x10\x00\x00\x20\x01\x00\x30\x00\x00\x20\x05\x00\x40",
+        1,
         48,
         15,
     );
-    spare(48, 15);
+    spare(1, 48, 15);
     on_marks(
         b"own",
         b"\x00\x30\x00\x59\x22\xA0\x02\x00\x10\x00\x00\x20\x01\x00\x30\x00\x00\x20\x05\x00\x50",
+        1,
         48,
         15,
     );
     on_marks(
         b"doubled",
         b"\x00\x10\x00\x29\x00\x04\x00\x40\x00\x00\x00",
+        1,
         16,
         6,
     );
-    one_sided(24, 8);
+    one_sided(1, 24, 8);
 }
 
 // 9: the work slice is too short. 10: the buffer has another length than the index.
 fn wrong_room() {
-    sample(47, 15);
-    sample(0, 15);
-    on_marks(b"single", b"\x00\x08\x00\x08", 7, 5);
-    sample(48, 14);
-    sample(48, 16);
-    sample(48, 0);
-    on_marks(b"empty", b"\x00\x00\x00\x00", 0, 1);
+    sample(1, 47, 15);
+    sample(1, 0, 15);
+    on_marks(b"single", b"\x00\x08\x00\x08", 1, 7, 5);
+    sample(1, 48, 14);
+    sample(1, 48, 16);
+    sample(1, 48, 0);
+    on_marks(b"empty", b"\x00\x00\x00\x00", 0, 0, 1);
 }
 
 // 9 before 10, and Check's before both; then a call that is accepted.
 fn several() {
-    sample(47, 14);
-    spare(47, 15);
-    spare(48, 16);
-    one_sided(23, 9);
-    sample(48, 15);
+    sample(1, 47, 14);
+    spare(1, 47, 15);
+    spare(1, 48, 16);
+    one_sided(1, 23, 9);
+    sample(1, 48, 15);
+}
+
+// 14: the start is 0 or above n, and the empty record takes 0 only.
+fn bad_starts() {
+    sample(0, 48, 15);
+    sample(7, 48, 15);
+    sample(65537, 48, 15);
+    sample(0xFFFF_FFFF_FFFF_FFFF, 48, 15);
+    on_marks(b"single", b"\x00\x08\x00\x08", 0, 8, 5);
+    on_marks(b"single", b"\x00\x08\x00\x08", 2, 8, 5);
+    on_marks(b"empty", b"\x00\x00\x00\x00", 1, 0, 0);
+    on_marks(b"empty", b"\x00\x00\x00\x00", 0xFFFF_FFFF_FFFF_FFFF, 0, 0);
+}
+
+// Check's, 9 and 10 before 14; then a call that is accepted.
+fn late_starts() {
+    spare(0, 48, 15);
+    one_sided(4, 24, 8);
+    sample(0, 47, 15);
+    sample(7, 48, 14);
+    sample(7, 47, 14);
+    on_marks(b"empty", b"\x00\x00\x00\x00", 1, 0, 1);
+    sample(6, 48, 15);
 }
 
 // The ones of a section that starts at this bit of the index.
@@ -293,13 +407,20 @@ fn ones(index: &[u8], m: usize)
 }
 
 // Packs a record and has its index built. Each is shown by a digest, and the sections of marks by their ones too.
-fn measure(name: &[u8], s: Shape, bytes: &mut [u8], work: &mut [u16], index: &mut [u8]) {
+fn measure(
+    name: &[u8],
+    s: Shape,
+    start: usize,
+    bytes: &mut [u8],
+    work: &mut [u16],
+    index: &mut [u8],
+) {
     shapes::pack(bytes, s);
     text(name);
     label(b" record ", bytes.len());
     digest(bytes);
-    heading(name, b"ones", work.len(), index.len());
-    verdict(forest::build(bytes, work, index));
+    heading(name, b"ones", start, work.len(), index.len());
+    verdict(forest::build(bytes, Vertex(start), work, index));
     ones(index, shapes::wires(s));
     digest(index);
 }
@@ -312,24 +433,41 @@ fn record_length(m: usize) -> usize
     (28 + (4096 + 2 * m) + 12 * (2 * m) + 7) / 8
 }
 
-// A record of the largest sizes.
-fn large(name: &[u8], s: Shape) {
+// A record of the largest sizes, from this start.
+fn large(name: &[u8], s: Shape, start: usize) {
     let mut bytes = [0u8; 53764];
     let mut work = [0xFFFFu16; 32768];
     let mut index = [0xFFu8; 19968];
     let m = shapes::wires(s);
     let held = record_length(m);
     let length = index_length(4096, m);
-    measure(name, s, &mut bytes[..held], &mut work, &mut index[..length]);
+    measure(
+        name,
+        s,
+        start,
+        &mut bytes[..held],
+        &mut work,
+        &mut index[..length],
+    );
 }
 
 fn largest() {
-    large(b"path", Shape::Path);
-    large(b"star", Shape::Star);
-    large(b"ring", Shape::Ring);
-    large(b"circulant", Shape::Circulant);
-    large(b"isolated", Shape::Isolated);
-    large(b"pairs", Shape::Pairs);
+    large(b"path", Shape::Path, 1);
+    large(b"star", Shape::Star, 1);
+    large(b"ring", Shape::Ring, 1);
+    large(b"circulant", Shape::Circulant, 1);
+    large(b"isolated", Shape::Isolated, 1);
+    large(b"pairs", Shape::Pairs, 1);
+}
+
+// From the last terminal, and the path from its middle.
+fn largest_starts() {
+    large(b"path", Shape::Path, 2048);
+    large(b"star", Shape::Star, 4096);
+    large(b"ring", Shape::Ring, 4096);
+    large(b"circulant", Shape::Circulant, 4096);
+    large(b"isolated", Shape::Isolated, 4096);
+    large(b"pairs", Shape::Pairs, 4096);
 }
 
 fn main() {
@@ -337,8 +475,12 @@ fn main() {
     forests();
     blocks();
     mixtures();
+    other_starts();
     unaccepted();
     wrong_room();
     several();
+    bad_starts();
+    late_starts();
     largest();
+    largest_starts();
 }

@@ -122,8 +122,8 @@ fn stated() {
     run(b"empty", b"\x00\x00\x00\x00", b"", 1);
 }
 
-// The indexes that Build writes: for a path, components with isolated terminals between them, two triangles joined by a
-// bridge, a cycle with a chord and a tail.
+// The indexes that Build writes from terminal 1: for a path, components with isolated terminals between them, two
+// triangles joined by a bridge, a cycle with a chord and a tail.
 fn built() {
     run(
         b"path",
@@ -148,6 +148,22 @@ fn built() {
         b"\x00\x38\x00\x89\x11\x12\x40\x06\x00\x40\x0A\x00\x80\x06\x00\x60\x0A\x00\x00\x02\x00\x00\x04\x00\xC0\x02\x00\x40\x02\x00\x80",
         b"\x4C\x08\x90\x02\x44\x4A\x04\x00\xC2\x00\x00\x02\x00\x40\x01\x00\x50\x03\x00\x60",
         8,
+    );
+}
+
+// The indexes that Build writes from other starts: for the sample from 4, for the path from 5.
+fn started() {
+    run(
+        b"sample_from_4",
+        b"\x00\x30\x00\x59\x22\xA0\x02\x00\x10\x00\x00\x20\x01\x00\x30\x00\x00\x20\x05\x00\x40",
+        b"\x09\x14\x24\x81\x00\x95\x00\x30\x02\x00\x10\x00\x00\x40\x05",
+        7,
+    );
+    run(
+        b"path_from_5",
+        b"\x00\x30\x00\x59\x2A\x40\x04\x00\x20\x05\x00\x40\x00\x00\x50\x01\x00\x00\x03\x00\x10",
+        b"\x28\x1A\x45\x41\x6D\x5B\x00\x40\x01\x00\x50\x03\x00\x00\x02",
+        7,
     );
 }
 
@@ -414,6 +430,7 @@ fn largest(name: &[u8], bytes: &[u8], index: &[u8]) {
 fn main() {
     stated();
     built();
+    started();
     parents();
     others();
     climbs();
@@ -432,4 +449,6 @@ fn main() {
     tables::accepted();
     tables::bad_records();
     tables::bad_lengths();
+    tables::other_starts();
+    tables::bad_starts();
 }

@@ -1,16 +1,26 @@
-// Table, for all terminals at once: a line with the lengths that are lent and the verdict, and one for each list after
-// the call.
+// Table, for all terminals at once: a line with the start, the lengths that are lent and the verdict, and one for each
+// list after the call.
 ghost use Prim.Native.Nat.{_≤_};
 use print::refused;
 use print::show_numbers;
 use print::text;
 use print::value;
 use record::Verdict;
+use record::Vertex;
 
-// The lengths of the work slice and of the four lists.
-fn heading(name: &[u8], work: usize, visits: usize, parents: usize, counts: usize, heads: usize) {
+// The start, and the lengths of the work slice and of the four lists.
+fn heading(
+    name: &[u8],
+    start: usize,
+    work: usize,
+    visits: usize,
+    parents: usize,
+    counts: usize,
+    heads: usize,
+) {
     text(name);
     text(b" table");
+    value(start);
     value(work);
     value(visits);
     value(parents);
@@ -37,6 +47,7 @@ fn column(name: &[u8], title: &[u8], list: &[u16]) {
 fn table(
     name: &[u8],
     bytes: &[u8],
+    start: usize,
     work: &mut [u16],
     visits: &mut [u16],
     parents: &mut [u16],
@@ -45,13 +56,14 @@ fn table(
 ) {
     heading(
         name,
+        start,
         work.len(),
         visits.len(),
         parents.len(),
         counts.len(),
         heads.len(),
     );
-    verdict(queries::table(bytes, work, visits, parents, counts, heads));
+    verdict(queries::table(bytes, Vertex(start), work, visits, parents, counts, heads));
     column(name, b" visits:", visits);
     column(name, b" parents:", parents);
     column(name, b" counts:", counts);
@@ -63,6 +75,7 @@ fn table(
 fn lent(
     name: &[u8],
     bytes: &[u8],
+    start: usize,
     work: usize,
     visits: usize,
     parents: usize,
@@ -79,6 +92,7 @@ fn lent(
     table(
         name,
         bytes,
+        start,
         &mut cells[..work],
         &mut first[..visits],
         &mut second[..parents],
@@ -87,11 +101,18 @@ fn lent(
     );
 }
 
-// Table with what a record of n terminals asks for.
+// Table with this start and with what a record of n terminals asks for.
+fn run_from(name: &[u8], bytes: &[u8], start: usize, n: usize)
+    requires { ⌜ n ≤ 10 ⌝ }
+{
+    lent(name, bytes, start, 8 * n, n, n, n, n);
+}
+
+// The same from terminal 1.
 fn run(name: &[u8], bytes: &[u8], n: usize)
     requires { ⌜ n ≤ 10 ⌝ }
 {
-    lent(name, bytes, 8 * n, n, n, n, n);
+    run_from(name, bytes, 1, n);
 }
 
 // Document 01's records, a path, components with isolated terminals between them, two triangles joined by a bridge, a
@@ -104,7 +125,7 @@ pub fn accepted() {
     );
     run(b"wire", b"\x00\x10\x00\x1A\x00\x10\x00", 2);
     run(b"single", b"\x00\x08\x00\x08", 1);
-    run(b"empty", b"\x00\x00\x00\x00", 0);
+    run_from(b"empty", b"\x00\x00\x00\x00", 0, 0);
     run(
         b"path",
         b"\x00\x30\x00\x59\x2A\x40\x04\x00\x20\x05\x00\x40\x00\x00\x50\x01\x00\x00\x03\x00\x10",
@@ -163,13 +184,14 @@ pub fn bad_records() {
     );
 }
 
-// The sample with a work slice and lists of these lengths.
-fn on_sample(work: usize, visits: usize, parents: usize, counts: usize, heads: usize)
+// The sample with this start, and a work slice and lists of these lengths.
+fn on_sample(start: usize, work: usize, visits: usize, parents: usize, counts: usize, heads: usize)
     requires { ⌜ (work ≤ 81) × (visits ≤ 10) × (parents ≤ 10) × (counts ≤ 10) × (heads ≤ 10) ⌝ }
 {
     lent(
         b"sample",
         b"\x00\x30\x00\x59\x22\xA0\x02\x00\x10\x00\x00\x20\x01\x00\x30\x00\x00\x20\x05\x00\x40",
+        start,
         work,
         visits,
         parents,
@@ -181,24 +203,69 @@ fn on_sample(work: usize, visits: usize, parents: usize, counts: usize, heads: u
 // Work of one number more, which is accepted; 9, before 10; 10, for each list in turn, too short and too long; and 5
 // before both.
 pub fn bad_lengths() {
-    on_sample(49, 6, 6, 6, 6);
-    on_sample(47, 6, 6, 6, 6);
-    on_sample(47, 5, 6, 6, 6);
-    on_sample(48, 5, 6, 6, 6);
-    on_sample(48, 7, 6, 6, 6);
-    on_sample(48, 6, 5, 6, 6);
-    on_sample(48, 6, 7, 6, 6);
-    on_sample(48, 6, 6, 5, 6);
-    on_sample(48, 6, 6, 7, 6);
-    on_sample(48, 6, 6, 6, 5);
-    on_sample(48, 6, 6, 6, 7);
+    on_sample(1, 49, 6, 6, 6, 6);
+    on_sample(1, 47, 6, 6, 6, 6);
+    on_sample(1, 47, 5, 6, 6, 6);
+    on_sample(1, 48, 5, 6, 6, 6);
+    on_sample(1, 48, 7, 6, 6, 6);
+    on_sample(1, 48, 6, 5, 6, 6);
+    on_sample(1, 48, 6, 7, 6, 6);
+    on_sample(1, 48, 6, 6, 5, 6);
+    on_sample(1, 48, 6, 6, 7, 6);
+    on_sample(1, 48, 6, 6, 6, 5);
+    on_sample(1, 48, 6, 6, 6, 7);
     lent(
         b"spare",
         b"\x00\x30\x00\x59\x22\xA0\x02\x00\x10\x00\x00\x20\x01\x00\x30\x00\x00\x20\x05\x00\x4F",
+        1,
         47,
         6,
         6,
         6,
         7,
+    );
+}
+
+// The sample from each of its other terminals; others from the end of a wire, inside a path and inside a component.
+pub fn other_starts() {
+    on_sample(2, 48, 6, 6, 6, 6);
+    on_sample(3, 48, 6, 6, 6, 6);
+    on_sample(4, 48, 6, 6, 6, 6);
+    on_sample(5, 48, 6, 6, 6, 6);
+    on_sample(6, 48, 6, 6, 6, 6);
+    run_from(b"wire", b"\x00\x10\x00\x1A\x00\x10\x00", 2, 2);
+    run_from(
+        b"path",
+        b"\x00\x30\x00\x59\x2A\x40\x04\x00\x20\x05\x00\x40\x00\x00\x50\x01\x00\x00\x03\x00\x10",
+        5,
+        6,
+    );
+    run_from(
+        b"apart",
+        b"\x00\x50\x00\x5C\xB4\x69\x00\x80\x05\x00\x40\x02\x00\x70\x01\x00\x80\x05\x00\x50\x01",
+        9,
+        10,
+    );
+}
+
+// 14: the start is 0 or above n, and the empty record takes 0 only. Then 9 and 10 before 14, and 5 before all.
+pub fn bad_starts() {
+    on_sample(0, 48, 6, 6, 6, 6);
+    on_sample(7, 48, 6, 6, 6, 6);
+    on_sample(65537, 48, 6, 6, 6, 6);
+    on_sample(0xFFFF_FFFF_FFFF_FFFF, 48, 6, 6, 6, 6);
+    run_from(b"empty", b"\x00\x00\x00\x00", 1, 0);
+    on_sample(0, 47, 6, 6, 6, 6);
+    on_sample(7, 48, 6, 6, 6, 5);
+    on_sample(0, 48, 7, 6, 6, 6);
+    lent(
+        b"spare",
+        b"\x00\x30\x00\x59\x22\xA0\x02\x00\x10\x00\x00\x20\x01\x00\x30\x00\x00\x20\x05\x00\x4F",
+        0,
+        48,
+        6,
+        6,
+        6,
+        6,
     );
 }
