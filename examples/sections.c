@@ -44,8 +44,9 @@ int main(void)
     size_t n = celduga_terminals(record);
     if (n > CELDUGA_MAX_TERMINALS)
         n = CELDUGA_MAX_TERMINALS;
+    size_t start = n > 0 ? 1 : 0; /* any terminal will do */
     unsigned refusal = celduga_refusal(
-        celduga_table(record, len, work, celduga_work_len(n), visits, n, parents, n, children, n, heads, n));
+        celduga_table(record, len, start, work, celduga_work_len(n), visits, n, parents, n, children, n, heads, n));
     if (refusal == 0)
         print_sections(n);
     else

@@ -35,7 +35,7 @@ extern "C" {
 
 /* The header's version. Each part of it is below 256. */
 #define CELDUGA_VERSION_MAJOR 0
-#define CELDUGA_VERSION_MINOR 2
+#define CELDUGA_VERSION_MINOR 3
 #define CELDUGA_VERSION_PATCH 0
 #define CELDUGA_VERSION (CELDUGA_VERSION_MAJOR * 65536 + CELDUGA_VERSION_MINOR * 256 + CELDUGA_VERSION_PATCH)
 
@@ -69,7 +69,8 @@ enum celduga_refusal_number {
     CELDUGA_WRONG_BUFFER = 10,     /* the index or a list has another length than n and m give */
     CELDUGA_NO_TERMINAL = 11,      /* the terminal, or the visit number, is 0 or above n */
     CELDUGA_BAD_INDEX = 12,        /* the index shows what no forest does */
-    CELDUGA_NO_CHILD = 13          /* j is 0 or above the number of children */
+    CELDUGA_NO_CHILD = 13,         /* j is 0 or above the number of children */
+    CELDUGA_NO_START = 14          /* the start is 0 or above n, unless both are 0 */
 };
 
 /* Results */
@@ -111,6 +112,7 @@ static inline const char *celduga_refusal_text(unsigned refusal)
     case CELDUGA_NO_TERMINAL: return "there is no such terminal or visit number";
     case CELDUGA_BAD_INDEX: return "the index shows what no forest does";
     case CELDUGA_NO_CHILD: return "there is no such child";
+    case CELDUGA_NO_START: return "there is no such terminal to start from";
     default: return "no refusal has this number";
     }
 }
@@ -182,19 +184,21 @@ static inline const uint16_t *celduga_neighbours_of(const uint8_t *record, size_
 uint32_t celduga_loop_figure(const uint8_t *record, size_t record_len);
 
 /*
- * Writes the record's index. The work slice may hold anything before and after the call, refused or not.
- * No value. Refuses 1 to 8, 9, 10.
+ * Writes the record's index. The search begins at the terminal start and then takes the unvisited terminals from 1
+ * upward, so start is a root and has visit number 1; a record without terminals takes 0 only. Which terminals share a
+ * head is the same for every start. The work slice may hold anything before and after the call, refused or not. No
+ * value. Refuses 1 to 8, 9, 10, 14.
  */
-uint32_t celduga_build(const uint8_t *record, size_t record_len, uint16_t *work, size_t work_len,
+uint32_t celduga_build(const uint8_t *record, size_t record_len, size_t start, uint16_t *work, size_t work_len,
     uint8_t *index, size_t index_len);
 
 /*
  * Writes what celduga_visit, celduga_parent, celduga_children and celduga_head answer for every terminal on the index
- * that celduga_build writes; element v - 1 of each list is terminal v's. No index is lent, and all together take time
- * linear in the record's bits. The work slice may hold anything before and after the call, refused or not. No value.
- * Refuses 1 to 8, 9, 10 where one of the four lists is not n numbers long.
+ * that celduga_build writes with this start; element v - 1 of each list is terminal v's. No index is lent, and all
+ * together take time linear in the record's bits. The work slice may hold anything before and after the call, refused
+ * or not. No value. Refuses 1 to 8, 9, 10 where one of the four lists is not n numbers long, 14.
  */
-uint32_t celduga_table(const uint8_t *record, size_t record_len, uint16_t *work, size_t work_len,
+uint32_t celduga_table(const uint8_t *record, size_t record_len, size_t start, uint16_t *work, size_t work_len,
     uint16_t *visits, size_t visits_len, uint16_t *parents, size_t parents_len,
     uint16_t *children, size_t children_len, uint16_t *heads, size_t heads_len);
 
