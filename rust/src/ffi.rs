@@ -18,6 +18,7 @@ mod c {
         pub fn celduga_build(
             record: *const u8,
             record_len: usize,
+            start: usize,
             work: *mut u16,
             work_len: usize,
             index: *mut u8,
@@ -26,6 +27,7 @@ mod c {
         pub fn celduga_table(
             record: *const u8,
             record_len: usize,
+            start: usize,
             work: *mut u16,
             work_len: usize,
             visits: *mut u16,
@@ -128,12 +130,13 @@ pub fn loop_figure(record: &[u8]) -> Result<u16, Refusal> {
     decode(unsafe { c::celduga_loop_figure(record.as_ptr(), record.len()) })
 }
 
-pub fn build(record: &[u8], work: &mut [u16], index: &mut [u8]) -> Result<u16, Refusal> {
+pub fn build(record: &[u8], start: usize, work: &mut [u16], index: &mut [u8]) -> Result<u16, Refusal> {
     // SAFETY: the work slice and the index are borrowed to be written, so neither overlaps another slice.
     decode(unsafe {
         c::celduga_build(
             record.as_ptr(),
             record.len(),
+            start,
             work.as_mut_ptr(),
             work.len(),
             index.as_mut_ptr(),
@@ -144,6 +147,7 @@ pub fn build(record: &[u8], work: &mut [u16], index: &mut [u8]) -> Result<u16, R
 
 pub fn table(
     record: &[u8],
+    start: usize,
     work: &mut [u16],
     visits: &mut [u16],
     parents: &mut [u16],
@@ -155,6 +159,7 @@ pub fn table(
         c::celduga_table(
             record.as_ptr(),
             record.len(),
+            start,
             work.as_mut_ptr(),
             work.len(),
             visits.as_mut_ptr(),
@@ -226,7 +231,7 @@ mod tests {
 
     #[test]
     fn the_high_half_is_the_number_of_the_refusal() {
-        for number in 1..=13 {
+        for number in 1..=14 {
             assert_eq!(
                 decode(number << 16).map_err(|refusal| u32::from(refusal.number())),
                 Err(number)
@@ -242,8 +247,8 @@ mod tests {
     }
 
     #[test]
-    #[should_panic(expected = "no name: 14")]
+    #[should_panic(expected = "no name: 15")]
     fn another_number_is_no_answer() {
-        let _ = decode(14 << 16);
+        let _ = decode(15 << 16);
     }
 }

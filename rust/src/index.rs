@@ -42,16 +42,15 @@ impl<'a> Index<'a> {
         }
     }
 
-    /// Builds the record's index.
-    pub(crate) fn build(record: Record<'a>) -> Self {
+    /// Builds the record's index. The record is accepted and the slices have its lengths, so 14 alone may be refused.
+    pub(crate) fn build(record: Record<'a>, start: Vertex) -> Result<Self, Refusal> {
         let mut work = vec![0; record.sizes().work_len()];
         let mut bytes = vec![0; record.sizes().index_len()];
-        operations::build(record.as_bytes(), &mut work, &mut bytes)
-            .expect("the record is accepted, and the slices have its lengths");
-        Index {
+        operations::build(record.as_bytes(), start, &mut work, &mut bytes)?;
+        Ok(Index {
             record,
             bytes: bytes.into(),
-        }
+        })
     }
 
     /// The record.

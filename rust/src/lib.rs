@@ -5,7 +5,7 @@
 //!
 //! A *record* is such a graph as bytes, of at most 4,096 *terminals* (vertices, which count from 1) and 16,384 *wires*
 //! (edges). Its *index* holds the forest, the visit numbers, and a mark on each wire that is a bridge. `docs/FORMAT.md`
-//! of the project describes both, bit by bit.
+//! of the project describes both, bit by bit. The search begins at terminal 1, or at the one that the caller names.
 //!
 //! # Example
 //!
@@ -64,9 +64,9 @@
 //!
 //! | call | stack |
 //! |---|---|
-//! | [`table`](fn@table), [`Record::table`], [`Record::sections`] | 192 KiB |
+//! | [`table`](fn@table), [`Record::table`], [`Record::table_from`], [`Record::sections`] | 192 KiB |
 //! | [`check`], [`unpack`], [`loop_figure`], [`Record::new`], [`Record::unpack`], [`Record::loop_figure`] | 152 KiB |
-//! | [`build`], [`Record::index`] | 152 KiB |
+//! | [`build`], [`Record::index`], [`Record::index_from`] | 152 KiB |
 //! | all others | 16 KiB |
 //!
 //! The calls of the first three lines take time linear in the record's bits.

@@ -86,56 +86,62 @@ pub fn loop_figure(record: &[u8]) -> Result<i32, Refusal> {
 /// Writes the record's index, of [`Sizes::index_len`](crate::Sizes::index_len) bytes. The work slice has
 /// [`Sizes::work_len`](crate::Sizes::work_len) numbers or more, and may hold anything before and after the call.
 ///
+/// The search begins at the terminal `start`, which so is a root and has visit number 1, and then takes the unvisited
+/// terminals from 1 upward. A record without terminals takes 0 only. Which terminals share a head is the same for every
+/// start.
+///
 /// # Errors
 ///
-/// Refusals 1 to 8, 9, 10, tried in this order.
+/// Refusals 1 to 8, 9, 10, 14, tried in this order.
 ///
 /// # Examples
 ///
 /// ```
-/// use celduga::{build, Refusal};
+/// use celduga::{build, Refusal, Vertex};
 ///
 /// let wire = [0x00, 0x10, 0x00, 0x1A, 0x00, 0x10, 0x00];
 /// let mut index = [0; 6];
-/// build(&wire, &mut [0; 16], &mut index)?;
+/// build(&wire, Vertex(1), &mut [0; 16], &mut index)?;
 /// assert_eq!(index, [0x40, 0x10, 0x50, 0x00, 0x00, 0x01]);
+/// assert_eq!(build(&wire, Vertex(3), &mut [0; 16], &mut index), Err(Refusal::NoStart));
 /// # Ok::<(), Refusal>(())
 /// ```
-pub fn build(record: &[u8], work: &mut [u16], index: &mut [u8]) -> Result<(), Refusal> {
-    ffi::build(record, work, index).map(drop)
+pub fn build(record: &[u8], start: Vertex, work: &mut [u16], index: &mut [u8]) -> Result<(), Refusal> {
+    ffi::build(record, start.0, work, index).map(drop)
 }
 
 /// Writes what [`visit`], [`parent`] (0 for a root), [`children`] and [`head`] answer for every terminal, on the index
-/// that [`build`] writes; number `v − 1` of each list is terminal `v`'s. No index is lent, and it takes time linear in
-/// the record's bits.
+/// that [`build`] writes with this start; number `v − 1` of each list is terminal `v`'s. No index is lent, and it takes
+/// time linear in the record's bits.
 ///
 /// The four lists have n numbers each, for n terminals. The work slice has [`Sizes::work_len`](crate::Sizes::work_len)
 /// numbers or more, and may hold anything before and after the call.
 ///
 /// # Errors
 ///
-/// Refusals 1 to 8, 9, 10, tried in this order.
+/// Refusals 1 to 8, 9, 10, 14, tried in this order.
 ///
 /// # Examples
 ///
 /// ```
-/// use celduga::{table, Refusal};
+/// use celduga::{table, Refusal, Vertex};
 ///
 /// let wire = [0x00, 0x10, 0x00, 0x1A, 0x00, 0x10, 0x00];
 /// let [mut visits, mut parents, mut children, mut heads] = [[0; 2]; 4];
-/// table(&wire, &mut [0; 16], &mut visits, &mut parents, &mut children, &mut heads)?;
-/// assert_eq!((visits, parents, children, heads), ([1, 2], [0, 1], [1, 0], [1, 2]));
+/// table(&wire, Vertex(2), &mut [0; 16], &mut visits, &mut parents, &mut children, &mut heads)?;
+/// assert_eq!((visits, parents, children, heads), ([2, 1], [2, 0], [0, 1], [1, 2]));
 /// # Ok::<(), Refusal>(())
 /// ```
 pub fn table(
     record: &[u8],
+    start: Vertex,
     work: &mut [u16],
     visits: &mut [u16],
     parents: &mut [u16],
     children: &mut [u16],
     heads: &mut [u16],
 ) -> Result<(), Refusal> {
-    ffi::table(record, work, visits, parents, children, heads).map(drop)
+    ffi::table(record, start.0, work, visits, parents, children, heads).map(drop)
 }
 
 /// The parent of terminal `v` in the forest, `None` for a root.

@@ -102,13 +102,45 @@ impl<'a> Record<'a> {
         operations::loop_figure(self.bytes).expect("the record is accepted")
     }
 
-    /// Builds the index.
-    #[must_use]
-    pub fn index(self) -> Index<'a> {
-        Index::build(self)
+    /// The start of [`index`](Record::index) and [`table`](Record::table): 1, or 0 where there is no terminal.
+    fn first(self) -> Vertex {
+        Vertex(self.sizes.terminals().min(1))
     }
 
-    /// Finds the visit number, the parent, the number of children and the head of every terminal, in linear time.
+    /// Builds the index of the search that begins at terminal 1.
+    #[must_use]
+    pub fn index(self) -> Index<'a> {
+        self.index_from(self.first()).expect("the record has this start")
+    }
+
+    /// Builds the index of the search that begins at the terminal `start` and then takes the unvisited terminals from 1
+    /// upward. The start is a root and has visit number 1. Which terminals share a head is the same for every start.
+    ///
+    /// # Errors
+    ///
+    /// Refusal 14: the start is no terminal of the record or, where it has none, is not 0.
+    ///
+    /// # Examples
+    ///
+    /// ```
+    /// use celduga::{Dfi, Record, Refusal, Vertex};
+    ///
+    /// // 1: 3; 2: 3; 3: 1 2
+    /// let bytes = [0x00, 0x18, 0x00, 0x2A, 0x80, 0x04, 0x00, 0x40, 0x00, 0x00, 0x20];
+    /// let record = Record::new(&bytes)?;
+    /// let index = record.index_from(Vertex(2))?;
+    /// assert_eq!(index.visited(Dfi(1))?, Vertex(2));
+    /// assert_eq!(index.parent(Vertex(1))?, Some(Vertex(3)));
+    /// assert_eq!(record.index_from(Vertex(4)), Err(Refusal::NoStart));
+    /// assert_eq!(record.index_from(Vertex(1))?, record.index());
+    /// # Ok::<(), Refusal>(())
+    /// ```
+    pub fn index_from(self, start: Vertex) -> Result<Index<'a>, Refusal> {
+        Index::build(self, start)
+    }
+
+    /// Finds the visit number, the parent, the number of children and the head of every terminal, in linear time, for
+    /// the search that begins at terminal 1.
     ///
     /// # Examples
     ///
@@ -124,11 +156,34 @@ impl<'a> Record<'a> {
     /// ```
     #[must_use]
     pub fn table(self) -> Table {
-        Table::of(self)
+        self.table_from(self.first()).expect("the record has this start")
+    }
+
+    /// The same for the search that begins at the terminal `start`, as [`index_from`](Record::index_from) does.
+    ///
+    /// # Errors
+    ///
+    /// Refusal 14.
+    ///
+    /// # Examples
+    ///
+    /// ```
+    /// use celduga::{Dfi, Record, Refusal, Vertex};
+    ///
+    /// // 1: 3; 2: 3; 3: 1 2
+    /// let bytes = [0x00, 0x18, 0x00, 0x2A, 0x80, 0x04, 0x00, 0x40, 0x00, 0x00, 0x20];
+    /// let table = Record::new(&bytes)?.table_from(Vertex(3))?;
+    /// let visits: Vec<Dfi> = table.rows().map(|row| row.visit).collect();
+    /// assert_eq!(visits, [Dfi(2), Dfi(3), Dfi(1)]);
+    /// # Ok::<(), Refusal>(())
+    /// ```
+    pub fn table_from(self, start: Vertex) -> Result<Table, Refusal> {
+        Table::of(self, start)
     }
 
     /// The sections: the classes of terminals that stay joined whichever one wire is taken out, in order of the least
-    /// terminal of each. Each terminal is in one section. This is [`Table::sections`], and takes linear time.
+    /// terminal of each. Each terminal is in one section. This is [`Table::sections`], and takes linear time. The
+    /// terminals of each are the same for every start of the search; the heads are those of [`table`](Record::table).
     ///
     /// # Examples
     ///

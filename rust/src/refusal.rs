@@ -46,10 +46,12 @@ pub enum Refusal {
     BadIndex = 12,
     /// 13: the number of the child is 0 or above the count of children.
     NoChild = 13,
+    /// 14: the start of the search is 0 or above n, unless both are 0.
+    NoStart = 14,
 }
 
 impl Refusal {
-    const ALL: [Refusal; 13] = [
+    const ALL: [Refusal; 14] = [
         Refusal::TooShort,
         Refusal::OverLimit,
         Refusal::WrongLength,
@@ -63,6 +65,7 @@ impl Refusal {
         Refusal::NoTerminal,
         Refusal::BadIndex,
         Refusal::NoChild,
+        Refusal::NoStart,
     ];
 
     /// The refusal's number, from 1.
@@ -94,6 +97,7 @@ impl fmt::Display for Refusal {
             Refusal::NoTerminal => "there is no such terminal or visit number",
             Refusal::BadIndex => "the index shows what no forest does",
             Refusal::NoChild => "there is no such child",
+            Refusal::NoStart => "there is no such terminal to start from",
         };
         f.pad(words)
     }

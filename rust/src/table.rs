@@ -6,7 +6,8 @@ use core::iter::FusedIterator;
 
 use crate::{operations, Dfi, Record, Refusal, Vertex};
 
-/// What [`Index`](crate::Index) answers for every terminal of a record, found at once. [`Record::table`] gives it.
+/// What [`Index`](crate::Index) answers for every terminal of a record, found at once. [`Record::table`] and
+/// [`Record::table_from`] give it.
 ///
 /// It owns its numbers and outlives the record.
 ///
@@ -88,7 +89,8 @@ impl ExactSizeIterator for Sections {}
 impl FusedIterator for Sections {}
 
 impl Table {
-    pub(crate) fn of(record: Record<'_>) -> Self {
+    /// The record's table. The record is accepted and the slices have its lengths, so 14 alone may be refused.
+    pub(crate) fn of(record: Record<'_>, start: Vertex) -> Result<Self, Refusal> {
         let sizes = record.sizes();
         let list = vec![0; sizes.terminals()];
         let mut table = Table {
@@ -99,14 +101,14 @@ impl Table {
         };
         operations::table(
             record.as_bytes(),
+            start,
             &mut vec![0; sizes.work_len()],
             &mut table.visits,
             &mut table.parents,
             &mut table.children,
             &mut table.heads,
-        )
-        .expect("the record is accepted, and the slices have its lengths");
-        table
+        )?;
+        Ok(table)
     }
 
     /// The answers for terminal `v`.

@@ -22,15 +22,25 @@ fn refused_records() -> [Vec<u8>; 8] {
 }
 
 fn refusal(number: usize) -> Refusal {
-    Refusal::from_number(number as u16).expect("a number from 1 to 13")
+    Refusal::from_number(number as u16).expect("a number from 1 to 14")
 }
 
-/// Build refuses, and the buffer stays.
-fn build_refuses(record: &[u8], work_len: usize, index_len: usize, number: usize) {
+/// Build refuses with this start, and the buffer stays.
+fn build_from_refuses(record: &[u8], start: usize, work_len: usize, index_len: usize, number: usize) {
     let before: Vec<u8> = (0..index_len).map(|i| 0xA1 + i as u8).collect();
     let mut index = before.clone();
-    assert_eq!(build(record, &mut vec![7; work_len], &mut index), Err(refusal(number)));
+    assert_eq!(
+        build(record, Vertex(start), &mut vec![7; work_len], &mut index),
+        Err(refusal(number))
+    );
     assert_eq!(index, before);
+}
+
+/// The same with a start that is taken, and with some that are not.
+fn build_refuses(record: &[u8], work_len: usize, index_len: usize, number: usize) {
+    for start in [0, 1, usize::MAX] {
+        build_from_refuses(record, start, work_len, index_len, number);
+    }
 }
 
 /// Unpack refuses, and the list stays.
@@ -41,13 +51,14 @@ fn unpack_refuses(record: &[u8], list_len: usize, number: usize) {
     assert_eq!(list, before);
 }
 
-/// Table refuses, and the four lists stay.
-fn table_refuses(record: &[u8], work_len: usize, lens: [usize; 4], number: usize) {
+/// Table refuses with this start, and the four lists stay.
+fn table_from_refuses(record: &[u8], start: usize, work_len: usize, lens: [usize; 4], number: usize) {
     let before = lens.map(|len| (0..len).map(|i| 0xA0B1 + i as u16).collect::<Vec<u16>>());
     let [mut visits, mut parents, mut children, mut heads] = before.clone();
     assert_eq!(
         table(
             record,
+            Vertex(start),
             &mut vec![7; work_len],
             &mut visits,
             &mut parents,
@@ -57,6 +68,13 @@ fn table_refuses(record: &[u8], work_len: usize, lens: [usize; 4], number: usize
         Err(refusal(number))
     );
     assert_eq!([visits, parents, children, heads], before);
+}
+
+/// The same with a start that is taken, and with some that are not.
+fn table_refuses(record: &[u8], work_len: usize, lens: [usize; 4], number: usize) {
+    for start in [0, 1, usize::MAX] {
+        table_from_refuses(record, start, work_len, lens, number);
+    }
 }
 
 /// Neighbours gives the empty part at the front.
@@ -210,11 +228,30 @@ fn refusal_13() {
 }
 
 #[test]
+fn refusal_14() {
+    let no = Refusal::NoStart;
+    let sample = Record::new(&SAMPLE).unwrap();
+    for start in [0, 7, 65536, 65537, usize::MAX] {
+        build_from_refuses(&SAMPLE, start, 48, 15, 14);
+        table_from_refuses(&SAMPLE, start, 48, [6; 4], 14);
+        assert_eq!(sample.index_from(Vertex(start)), Err(no));
+        assert_eq!(sample.table_from(Vertex(start)), Err(no));
+    }
+    let empty = Record::new(&EMPTY).unwrap();
+    for start in [1, 2, 65536, usize::MAX] {
+        build_from_refuses(&EMPTY, start, 0, 0, 14);
+        table_from_refuses(&EMPTY, start, 0, [0; 4], 14);
+        assert_eq!(empty.index_from(Vertex(start)), Err(no));
+        assert_eq!(empty.table_from(Vertex(start)), Err(no));
+    }
+}
+
+#[test]
 fn numbers_and_words() {
     let refusals: Vec<Refusal> = (0..=20).filter_map(Refusal::from_number).collect();
-    assert!(refusals.iter().map(|refusal| refusal.number()).eq(1..=13));
+    assert!(refusals.iter().map(|refusal| refusal.number()).eq(1..=14));
     assert_eq!(refusals[0], Refusal::TooShort);
-    assert_eq!(refusals[12], Refusal::NoChild);
+    assert_eq!(refusals[13], Refusal::NoStart);
     // celduga_refusal_text in include/celduga.h has the same words
     let words = [
         "the record has under 4 bytes",
@@ -230,6 +267,7 @@ fn numbers_and_words() {
         "there is no such terminal or visit number",
         "the index shows what no forest does",
         "there is no such child",
+        "there is no such terminal to start from",
     ];
     assert!(refusals.iter().map(|refusal| refusal.to_string()).eq(words));
     let error: Box<dyn std::error::Error> = Refusal::OneSidedWire.into();

@@ -4,10 +4,10 @@ use crate::packing::*;
 use celduga::*;
 
 /// What Build answers and writes.
-fn built(record: &[u8], index_len: usize) -> Vec<u8> {
+fn built(record: &[u8], start: usize, index_len: usize) -> Vec<u8> {
     let mut work = vec![0xFFFF; Sizes::of(record).unwrap().work_len()];
     let mut index = vec![0xFF; index_len];
-    assert_eq!(build(record, &mut work, &mut index), Ok(()));
+    assert_eq!(build(record, Vertex(start), &mut work, &mut index), Ok(()));
     index
 }
 
@@ -21,10 +21,16 @@ fn the_blocks_pack_to_the_bytes() {
 
 #[test]
 fn accepted_records_and_their_indexes() {
-    assert_eq!(built(&SAMPLE, 15), SAMPLE_INDEX);
-    assert_eq!(built(&EMPTY, 0), []);
-    assert_eq!(built(&TERMINAL, 5), [0; 5]);
-    assert_eq!(built(&WIRE, 6), [0x40, 0x10, 0x50, 0x00, 0x00, 0x01]);
+    assert_eq!(built(&SAMPLE, 1, 15), SAMPLE_INDEX);
+    assert_eq!(built(&EMPTY, 0, 0), []);
+    assert_eq!(built(&TERMINAL, 1, 5), [0; 5]);
+    assert_eq!(built(&WIRE, 1, 6), [0x40, 0x10, 0x50, 0x00, 0x00, 0x01]);
+}
+
+#[test]
+fn indexes_from_other_starts() {
+    assert_eq!(built(&SAMPLE, 4, 15), SAMPLE_INDEX_FROM_4);
+    assert_eq!(built(&WIRE, 2, 6), [0x10, 0x40, 0x50, 0x00, 0x10, 0x00]);
 }
 
 #[test]
@@ -66,12 +72,20 @@ fn the_listing() {
 }
 
 /// What Table answers and writes: visit numbers, parents, children and heads.
-fn tabled(record: &[u8], work_len: usize) -> [Vec<u16>; 4] {
+fn tabled(record: &[u8], start: usize, work_len: usize) -> [Vec<u16>; 4] {
     let n = Sizes::of(record).unwrap().terminals();
     let [mut visits, mut parents, mut children, mut heads] = [(); 4].map(|()| vec![0xFFFF; n]);
     let mut work = vec![0xFFFF; work_len];
     assert_eq!(
-        table(record, &mut work, &mut visits, &mut parents, &mut children, &mut heads),
+        table(
+            record,
+            Vertex(start),
+            &mut work,
+            &mut visits,
+            &mut parents,
+            &mut children,
+            &mut heads
+        ),
         Ok(())
     );
     [visits, parents, children, heads]
@@ -87,11 +101,23 @@ fn the_table() {
     ];
     // a longer work slice does as well
     for work_len in [48, 49, 1000] {
-        assert_eq!(tabled(&SAMPLE, work_len), columns);
+        assert_eq!(tabled(&SAMPLE, 1, work_len), columns);
     }
-    assert_eq!(tabled(&EMPTY, 0), [[]; 4]);
-    assert_eq!(tabled(&TERMINAL, 8), [[1], [0], [0], [1]]);
-    assert_eq!(tabled(&WIRE, 16), [[1, 2], [0, 1], [1, 0], [1, 2]]);
+    assert_eq!(tabled(&EMPTY, 0, 0), [[]; 4]);
+    assert_eq!(tabled(&TERMINAL, 1, 8), [[1], [0], [0], [1]]);
+    assert_eq!(tabled(&WIRE, 1, 16), [[1, 2], [0, 1], [1, 0], [1, 2]]);
+}
+
+#[test]
+fn the_table_from_other_starts() {
+    let from_4 = [
+        [4, 3, 2, 1, 5, 6],
+        [2, 3, 4, 0, 0, 5],
+        [0, 1, 1, 1, 1, 0],
+        [3, 3, 3, 4, 5, 6],
+    ];
+    assert_eq!(tabled(&SAMPLE, 4, 48), from_4);
+    assert_eq!(tabled(&WIRE, 2, 16), [[2, 1], [2, 0], [0, 1], [1, 2]]);
 }
 
 #[test]

@@ -48,6 +48,63 @@ fn the_empty_record() {
     let index = record.index();
     assert_eq!(index.as_bytes(), []);
     assert_eq!(index.head(Vertex(1)), Err(Refusal::NoTerminal));
+    assert_eq!(record.index_from(Vertex(0)), Ok(index));
+    assert_eq!(record.table_from(Vertex(0)), Ok(record.table()));
+    assert_eq!(record.sections().len(), 0);
+}
+
+#[test]
+fn the_sample_from_another_terminal() {
+    let record = Record::new(&SAMPLE).unwrap();
+    let index = record.index_from(Vertex(4)).unwrap();
+    assert_eq!(index.as_bytes(), SAMPLE_INDEX_FROM_4);
+    assert_eq!(index.visited(Dfi(1)), Ok(Vertex(4)));
+    assert_eq!(index.parent(Vertex(4)), Ok(None));
+    assert_eq!(index.parent(Vertex(1)), Ok(Some(Vertex(2))));
+    let heads: Vec<usize> = record.vertices().map(|v| index.head(v).unwrap().0).collect();
+    assert_eq!(heads, [3, 3, 3, 4, 5, 6]);
+}
+
+/// Some starts of a record, its first and its last among them.
+fn starts(record: Record<'_>) -> impl Iterator<Item = Vertex> {
+    let n = record.sizes().terminals();
+    record.vertices().filter(move |v| n < 40 || v.0 % 1000 == 1 || v.0 == n)
+}
+
+#[test]
+fn a_start_is_a_root_and_the_first_visit() {
+    for blocks in shapes() {
+        let bytes = record(&blocks);
+        let record = Record::new(&bytes).unwrap();
+        for start in starts(record) {
+            let row = record.table_from(start).unwrap().row(start).unwrap();
+            assert_eq!((row.visit, row.parent, row.head), (Dfi(1), None, start));
+        }
+        if let Some(first) = record.vertices().next() {
+            assert_eq!(record.index_from(first), Ok(record.index()));
+            assert_eq!(record.table_from(first), Ok(record.table()));
+        }
+    }
+}
+
+#[test]
+fn the_sections_have_the_same_terminals_from_every_start() {
+    let mut moved = 0;
+    for blocks in shapes() {
+        let bytes = record(&blocks);
+        let record = Record::new(&bytes).unwrap();
+        for start in starts(record) {
+            let sections = record.table_from(start).unwrap().sections();
+            assert_eq!(sections.len(), record.sections().len());
+            for (from, first) in sections.zip(record.sections()) {
+                assert_eq!(from.terminals, first.terminals);
+                assert!(from.terminals.contains(&from.head));
+                moved += usize::from(from.head != first.head);
+            }
+        }
+    }
+    // the heads themselves often differ
+    assert!(moved > 100, "{moved}");
 }
 
 #[test]
@@ -98,21 +155,29 @@ fn the_table_is_what_the_index_answers() {
     for blocks in shapes() {
         let bytes = record(&blocks);
         let record = Record::new(&bytes).unwrap();
-        let (index, table) = (record.index(), record.table());
-        assert!(table.rows().map(|row| row.terminal).eq(record.vertices()));
-        assert!(table.rows().rev().map(|row| row.terminal).eq(record.vertices().rev()));
-        for (v, row) in record.vertices().zip(table.rows()) {
-            let answers = Row {
-                terminal: v,
-                visit: index.visit(v).unwrap(),
-                parent: index.parent(v).unwrap(),
-                children: index.children(v).unwrap(),
-                head: index.head(v).unwrap(),
-            };
-            assert_eq!((row, table.row(v)), (answers, Ok(answers)));
-            assert_eq!((table.visit(v), table.parent(v)), (Ok(row.visit), Ok(row.parent)));
-            assert_eq!((table.children(v), table.head(v)), (Ok(row.children), Ok(row.head)));
+        same_answers(&record.index(), &record.table());
+        if let Some(last) = record.vertices().next_back() {
+            same_answers(&record.index_from(last).unwrap(), &record.table_from(last).unwrap());
         }
+    }
+}
+
+/// The rows of a table are what an index answers.
+fn same_answers(index: &Index<'_>, table: &Table) {
+    let record = index.record();
+    assert!(table.rows().map(|row| row.terminal).eq(record.vertices()));
+    assert!(table.rows().rev().map(|row| row.terminal).eq(record.vertices().rev()));
+    for (v, row) in record.vertices().zip(table.rows()) {
+        let answers = Row {
+            terminal: v,
+            visit: index.visit(v).unwrap(),
+            parent: index.parent(v).unwrap(),
+            children: index.children(v).unwrap(),
+            head: index.head(v).unwrap(),
+        };
+        assert_eq!((row, table.row(v)), (answers, Ok(answers)));
+        assert_eq!((table.visit(v), table.parent(v)), (Ok(row.visit), Ok(row.parent)));
+        assert_eq!((table.children(v), table.head(v)), (Ok(row.children), Ok(row.head)));
     }
 }
 
