@@ -33,10 +33,10 @@ enum { COPIES = 1 << 2 * (SIZES - 1), RECORDS = (4 * COPIES - 1) / 3 };
 /* All operations under one name each. */
 struct side {
     uint32_t (*check)(const uint8_t *, size_t);
-    uint32_t (*build)(const uint8_t *, size_t, uint16_t *, size_t, uint8_t *, size_t);
+    uint32_t (*build)(const uint8_t *, size_t, size_t, uint16_t *, size_t, uint8_t *, size_t);
     uint32_t (*unpack)(const uint8_t *, size_t, uint16_t *, size_t);
     uint32_t (*loop_figure)(const uint8_t *, size_t);
-    uint32_t (*table)(const uint8_t *, size_t, uint16_t *, size_t, uint16_t *, size_t, uint16_t *, size_t,
+    uint32_t (*table)(const uint8_t *, size_t, size_t, uint16_t *, size_t, uint16_t *, size_t, uint16_t *, size_t,
         uint16_t *, size_t, uint16_t *, size_t);
     uint32_t (*degree)(const uint8_t *, size_t, size_t);
     uint64_t (*neighbours)(const uint8_t *, size_t, size_t, size_t);
@@ -57,12 +57,13 @@ static const struct side plain = { plain_check, plain_build, plain_unpack, plain
     { plain_parent, plain_head, plain_children, plain_visit, plain_visited }, { plain_ancestor, plain_child },
     plain_rank, plain_select };
 
-/* What is called. PARENT to VISITED are the side's queries of one argument, ANCESTOR and CHILD those of two. */
-enum op { CHECK, BUILD, UNPACK, LOOPS, TABLE, WHOLE, DEGREE = WHOLE, NEIGHBOURS, PARENT, HEAD, CHILDREN, VISIT, VISITED,
-          ANCESTOR, CHILD, RANK, SELECT, OPS };
+/* What is called. BUILD and TABLE have the start that is asked, which is 1 where they are timed; BUILD_LAST is Build
+   from the last terminal. PARENT to VISITED are the side's queries of one argument, ANCESTOR and CHILD those of two. */
+enum op { CHECK, BUILD, BUILD_LAST, UNPACK, LOOPS, TABLE, WHOLE, DEGREE = WHOLE, NEIGHBOURS, PARENT, HEAD, CHILDREN,
+          VISIT, VISITED, ANCESTOR, CHILD, RANK, SELECT, OPS };
 
-static const char *const op_names[OPS] = { "Check", "Build", "Unpack", "Loop figure", "Table", "Degree", "Neighbours",
-    "Parent", "Head", "Children", "Visit", "Visited", "Ancestor", "Child", "Rank", "Select" };
+static const char *const op_names[OPS] = { "Check", "Build", "Build from n", "Unpack", "Loop figure", "Table", "Degree",
+    "Neighbours", "Parent", "Head", "Children", "Visit", "Visited", "Ancestor", "Child", "Rank", "Select" };
 
 /* What one side writes to. The columns are Table's: visit numbers, parents, counts of children and heads. */
 struct room {
@@ -72,13 +73,13 @@ struct room {
 
 static struct room rooms[2];
 static size_t arguments[RANK][ARGUMENTS][2], string_arguments[LENGTHS][2][ARGUMENTS][2];
-static size_t answers, refusals[14];
+static size_t answers, refusals[15];
 static volatile size_t sink;
 
-/* What is asked: a record, its buffers' lengths, or a string. */
+/* What is asked: a record, the start and its buffers' lengths, or a string. */
 static struct record records[RECORDS];
 static const struct record *asked;
-static size_t work_len, index_len, list_len, column_lens[COLUMNS];
+static size_t start, work_len, index_len, list_len, column_lens[COLUMNS];
 static const uint8_t *string;
 static size_t string_len, string_start, string_places;
 
@@ -92,6 +93,7 @@ static void ask(const struct record *r)
 {
     int i;
     asked = r;
+    start = 1;
     work_len = 8 * r->n;
     index_len = r->index_len;
     list_len = 2 * r->m;
@@ -107,14 +109,16 @@ static inline size_t call(const struct side *s, struct room *r, enum op op, size
     case CHECK:
         return s->check(bytes, len);
     case BUILD:
-        return s->build(bytes, len, r->work, work_len, r->index, index_len);
+        return s->build(bytes, len, start, r->work, work_len, r->index, index_len);
+    case BUILD_LAST:
+        return s->build(bytes, len, asked->n, r->work, work_len, r->index, index_len);
     case UNPACK:
         return s->unpack(bytes, len, r->list, list_len);
     case LOOPS:
         return s->loop_figure(bytes, len);
     case TABLE:
-        return s->table(bytes, len, r->work, work_len, r->columns[0], column_lens[0], r->columns[1], column_lens[1],
-            r->columns[2], column_lens[2], r->columns[3], column_lens[3]);
+        return s->table(bytes, len, start, r->work, work_len, r->columns[0], column_lens[0], r->columns[1],
+            column_lens[1], r->columns[2], column_lens[2], r->columns[3], column_lens[3]);
     case DEGREE:
         return s->degree(bytes, len, a);
     case NEIGHBOURS:
@@ -134,8 +138,8 @@ static inline size_t call(const struct side *s, struct room *r, enum op op, size
 
 static void differ(const char *what, size_t a, size_t b, size_t left, size_t right)
 {
-    fprintf(stderr, "n = %zu, m = %zu: %s(%zu, %zu) differs: product %zx, plain %zx\n", asked->n, asked->m, what, a, b,
-        left, right);
+    fprintf(stderr, "n = %zu, m = %zu, start %zu: %s(%zu, %zu) differs: product %zx, plain %zx\n", asked->n, asked->m,
+        start, what, a, b, left, right);
     exit(1);
 }
 
@@ -151,8 +155,22 @@ static size_t same(enum op op, size_t a, size_t b)
     return left;
 }
 
+/* Build, from the start that is asked or from the last terminal. */
+static void compare_build(enum op op, const struct room *before)
+{
+    int s;
+    for (s = 0; s < 2; s++)
+        memcpy(rooms[s].index, before[s].index, sizeof rooms[s].index);
+    if (same(op, 0, 0) == 0) {
+        if (memcmp(rooms[0].index, rooms[1].index, index_len) != 0)
+            differ("the index written by Build", 0, 0, 0, 0);
+    } else if (memcmp(rooms[0].index, before[0].index, sizeof rooms[0].index) != 0) {
+        differ("the index left by Build", 0, 0, 0, 0);
+    }
+}
+
 /* Check, Loop figure, Build, Unpack and Table. The two sides' buffers hold different bytes before, so that a byte left
-   out shows; a refused call must leave its own. */
+   out shows; a refused call must leave its own. The index that stays is that of the start that is asked. */
 static void compare_whole(void)
 {
     static struct room before[2];
@@ -165,12 +183,8 @@ static void compare_whole(void)
     }
     same(CHECK, 0, 0);
     same(LOOPS, 0, 0);
-    if (same(BUILD, 0, 0) == 0) {
-        if (memcmp(rooms[0].index, rooms[1].index, index_len) != 0)
-            differ("the index written by Build", 0, 0, 0, 0);
-    } else if (memcmp(rooms[0].index, before[0].index, sizeof rooms[0].index) != 0) {
-        differ("the index left by Build", 0, 0, 0, 0);
-    }
+    compare_build(BUILD_LAST, before);
+    compare_build(BUILD, before);
     if (same(UNPACK, 0, 0) == 0) {
         if (memcmp(rooms[0].list, rooms[1].list, list_len * sizeof rooms[0].list[0]) != 0)
             differ("the list written by Unpack", 0, 0, 0, 0);
@@ -208,11 +222,11 @@ static int bit(const uint8_t *bytes, size_t at)
     return bytes[at / 8] >> (7 - at % 8) & 1;
 }
 
-/* Breaks a record in one of several ways. */
+/* Breaks a record in one of several ways, or asks for another start. */
 static void harm(struct record *r, uint64_t *state)
 {
     size_t d = r->n + 2 * r->m, fields = 28 + d, at, from, i;
-    switch (draw(state, 7)) {
+    switch (draw(state, 8)) {
     case 0: /* any bits */
         for (i = draw(state, 3); i > 0; i--)
             turn_bit(r->bytes, draw(state, 8 * r->len));
@@ -249,7 +263,12 @@ static void harm(struct record *r, uint64_t *state)
     case 5: /* a bit of n or m */
         turn_bit(r->bytes, draw(state, 28));
         break;
-    default: /* another length, or other lengths of the buffers */
+    case 6: /* any start, also one that is refused */
+        start = draw(state, 8) == 0 ? SIZE_MAX - draw(state, 2) : draw(state, r->n + 2);
+        break;
+    default: /* another length, other lengths of the buffers, or no start */
+        if (draw(state, 2) == 0)
+            start = 0;
         if (draw(state, 2) == 0)
             r->len = draw(state, draw(state, 8) == 0 ? 4 : r->len + 1);
         if (draw(state, 4) == 0)
@@ -271,7 +290,7 @@ static void compare_harmed(const struct record *r, uint64_t *state)
     static uint8_t index[MOST_INDEX];
     size_t i, turn;
     ask(r);
-    plain_build(r->bytes, r->len, rooms[1].work, work_len, index, index_len);
+    plain_build(r->bytes, r->len, start, rooms[1].work, work_len, index, index_len);
     for (turn = 0; turn < 200; turn++) {
         harmed = *r;
         ask(&harmed);
@@ -431,9 +450,9 @@ static void try_records(struct times *t, enum op op, const struct record *first,
     keep_least(t, a, pass_over(&plain, &rooms[1], op, first, count));
 }
 
-/* One shape: Check, Build, Unpack, Loop figure and Table at all sizes, in turn. At each size there are as many records
-   as make up the same volume, since the processor learns the branches of a small record that it meets again and again.
-   */
+/* One shape: Check, Build from 1 and from n, Unpack, Loop figure and Table at all sizes, in turn. At each size there
+   are as many records as make up the same volume, since the processor learns the branches of a small record that it
+   meets again and again. */
 static void measure_shape(int shape)
 {
     const struct record *first[SIZES];
@@ -683,8 +702,8 @@ static int compare(void)
     int i;
     compare_all();
     printf("The two sides gave %zu equal answers. Refusals among them:", answers);
-    for (i = 1; i < 14; i++)
-        printf(" %zu of %d%s", refusals[i], i, i < 13 ? "," : ".\n");
+    for (i = 1; i < 15; i++)
+        printf(" %zu of %d%s", refusals[i], i, i < 14 ? "," : ".\n");
     return 0;
 }
 

@@ -1,5 +1,5 @@
-/* Every operation of document 01 in plain C: linear time, by 64-bit words where that pays. Vertices, places and bits count from 0 here;
-   terminals, visit numbers and places of a bit string count from 1 where a caller sees them. */
+/* Every operation of celduga.h in plain C: linear time, by 64-bit words where that pays. Vertices, places and bits
+   count from 0 here; terminals, visit numbers and places of a bit string count from 1 where a caller sees them. */
 #include "plain.h"
 
 #include <string.h>
@@ -19,7 +19,8 @@ enum {
     WRONG_BUFFER,
     NO_TERMINAL,
     BAD_INDEX,
-    NO_CHILD
+    NO_CHILD,
+    NO_START
 };
 
 static uint32_t refused(uint32_t number)
@@ -360,6 +361,12 @@ uint64_t plain_neighbours(const uint8_t *record, size_t len, size_t list_len, si
 
 /* ---- forest ---- */
 
+/* Whether the search can't begin at this terminal: without terminals it begins at 0. */
+static inline int no_start(size_t n, size_t start)
+{
+    return n == 0 ? start != 0 : start == 0 || start > n;
+}
+
 static inline size_t mark_bytes(size_t n, size_t m)
 {
     return (n + 2 * m + 7) / 8;
@@ -375,14 +382,15 @@ static inline void mark(uint8_t *section, size_t bit)
     section[bit / 8] |= (uint8_t)(0x80 >> bit % 8);
 }
 
-/* The search, with the marks set on the way. Place p of block u is bit p + u + 1 of a section. Visit numbers count from 1 here, and 0 is a
-   vertex not visited yet. A vertex keeps its parent, the place to go on from, its lowpoint, and both places of the edge to its parent. */
-static void search(const struct graph *g, uint16_t *work, uint8_t *e, uint8_t *p, uint8_t *b)
+/* The search from the vertex `first` and then from all in order, with the marks set on the way. Place p of block u is
+   bit p + u + 1 of a section. Visit numbers count from 1 here, and 0 is a vertex not visited yet. A vertex keeps its
+   parent, the place to go on from, its lowpoint, and both places of the edge to its parent. */
+static void search(const struct graph *g, size_t first, uint16_t *work, uint8_t *e, uint8_t *p, uint8_t *b)
 {
-    size_t n = g->n, count = 0, root;
+    size_t n = g->n, count = 0, root, others = 0;
     uint16_t *number = work, *parent = work + n, *next = work + 2 * n, *low = work + 3 * n, *down = work + 4 * n, *back = work + 5 * n;
     memset(number, 0, n * sizeof number[0]);
-    for (root = 0; root < n; root++) {
+    for (root = first; root < n; root = others++) {
         size_t u = root, up = NO_PARENT, at = g->starts[u], end = g->starts[u + 1], lowest;
         if (number[root] != 0)
             continue;
@@ -446,7 +454,8 @@ static void write_numbers(const uint16_t *number, size_t n, uint8_t *out)
     }
 }
 
-uint32_t plain_build(const uint8_t *record, size_t len, uint16_t *work, size_t work_len, uint8_t *index, size_t index_len)
+uint32_t plain_build(const uint8_t *record, size_t len, size_t start, uint16_t *work, size_t work_len, uint8_t *index,
+                     size_t index_len)
 {
     struct graph g;
     size_t k;
@@ -457,22 +466,25 @@ uint32_t plain_build(const uint8_t *record, size_t len, uint16_t *work, size_t w
         return refused(SHORT_WORK);
     if (index_len != index_length(g.n, g.m))
         return refused(WRONG_BUFFER);
+    if (no_start(g.n, start))
+        return refused(NO_START);
     k = mark_bytes(g.n, g.m);
     memset(index, 0, 3 * k);
-    search(&g, work, index, index + k, index + 2 * k);
+    search(&g, start - 1, work, index, index + k, index + 2 * k);
     write_numbers(work, g.n, index + 3 * k);
     return 0;
 }
 
 /* The same search without marks. Parents count from 1 here, and 0 is a root's. `open` is a stack of the vertices that have no head yet: one
    that is left without a way back above it is a root or below a bridge, and the head of all that stand from it on. */
-static void search_table(const struct graph *g, uint16_t *work, uint16_t *visits, uint16_t *parents, uint16_t *children, uint16_t *heads)
+static void search_table(const struct graph *g, size_t first, uint16_t *work, uint16_t *visits, uint16_t *parents,
+                         uint16_t *children, uint16_t *heads)
 {
-    size_t n = g->n, count = 0, top = 0, root;
+    size_t n = g->n, count = 0, top = 0, root, others = 0;
     uint16_t *next = work, *low = work + n, *open = work + 2 * n;
     memset(visits, 0, n * sizeof visits[0]);
     memset(children, 0, n * sizeof children[0]);
-    for (root = 0; root < n; root++) {
+    for (root = first; root < n; root = others++) {
         size_t u = root, up = 0, at = g->starts[u], end = g->starts[u + 1], lowest;
         if (visits[root] != 0)
             continue;
@@ -520,8 +532,9 @@ static void search_table(const struct graph *g, uint16_t *work, uint16_t *visits
     }
 }
 
-uint32_t plain_table(const uint8_t *record, size_t len, uint16_t *work, size_t work_len, uint16_t *visits, size_t visits_len,
-                     uint16_t *parents, size_t parents_len, uint16_t *children, size_t children_len, uint16_t *heads, size_t heads_len)
+uint32_t plain_table(const uint8_t *record, size_t len, size_t start, uint16_t *work, size_t work_len,
+                     uint16_t *visits, size_t visits_len, uint16_t *parents, size_t parents_len, uint16_t *children,
+                     size_t children_len, uint16_t *heads, size_t heads_len)
 {
     struct graph g;
     uint32_t why = take_apart(record, len, &g);
@@ -531,7 +544,9 @@ uint32_t plain_table(const uint8_t *record, size_t len, uint16_t *work, size_t w
         return refused(SHORT_WORK);
     if (visits_len != g.n || parents_len != g.n || children_len != g.n || heads_len != g.n)
         return refused(WRONG_BUFFER);
-    search_table(&g, work, visits, parents, children, heads);
+    if (no_start(g.n, start))
+        return refused(NO_START);
+    search_table(&g, start - 1, work, visits, parents, children, heads);
     return 0;
 }
 

@@ -1,4 +1,4 @@
-/* Every operation of document 01 in plain C: what the product is measured against. Arguments and answers are those of celduga.h. */
+/* Every operation of celduga.h in plain C: what the product is measured against. Arguments and answers are the same. */
 #ifndef PLAIN_H
 #define PLAIN_H
 
@@ -6,13 +6,15 @@
 #include <stdint.h>
 
 uint32_t plain_check(const uint8_t *record, size_t len);
-uint32_t plain_build(const uint8_t *record, size_t len, uint16_t *work, size_t work_len, uint8_t *index, size_t index_len);
+uint32_t plain_build(const uint8_t *record, size_t len, size_t start, uint16_t *work, size_t work_len, uint8_t *index,
+                     size_t index_len);
 uint32_t plain_degree(const uint8_t *record, size_t len, size_t v);
 uint32_t plain_unpack(const uint8_t *record, size_t len, uint16_t *list, size_t list_len);
 uint64_t plain_neighbours(const uint8_t *record, size_t len, size_t list_len, size_t v);
 uint32_t plain_loop_figure(const uint8_t *record, size_t len);
-uint32_t plain_table(const uint8_t *record, size_t len, uint16_t *work, size_t work_len, uint16_t *visits, size_t visits_len,
-                     uint16_t *parents, size_t parents_len, uint16_t *children, size_t children_len, uint16_t *heads, size_t heads_len);
+uint32_t plain_table(const uint8_t *record, size_t len, size_t start, uint16_t *work, size_t work_len,
+                     uint16_t *visits, size_t visits_len, uint16_t *parents, size_t parents_len, uint16_t *children,
+                     size_t children_len, uint16_t *heads, size_t heads_len);
 
 uint32_t plain_parent(const uint8_t *record, size_t len, const uint8_t *index, size_t index_len, size_t v);
 uint32_t plain_head(const uint8_t *record, size_t len, const uint8_t *index, size_t index_len, size_t v);
