@@ -1,6 +1,8 @@
--- The sample of document 01, from two starts, and a pair of doubled wires, computed. Vertices and visit numbers count from 0.
-use Prim.Native.Nat.{ℕ, suc}
-use mathlib.Core.Path.{_≡_, refl}
+-- The sample of document 01, from two starts, and a pair of doubled wires, computed. Vertices and visit numbers count
+-- from 0.
+use Prim.Native.Nat.{ℕ, suc, _<_}
+use mathlib.Core.Path.{_≡_, refl, sym, ap, _∙_}
+use mathlib.Core.Logic.{_↔_}
 use mathlib.Core.Bool.{Bool, true, false, not, _&&_}
 use mathlib.Core.List.{List, [], _∷_, map, flatten}
 use native.Mathlib.Omega.{arith}
@@ -8,7 +10,8 @@ use lib.Dec.{eqb, ltb}
 use lib.ListN.{length}
 use borrow.Author.Tests.{ltb-true, eqb-true, eq-eqb, not-true}
 use Rattle.graph.specs.Graph.{Blocks, block, Place, mentions, position, pair, twin, WellFormed}
-use Rattle.graph.specs.Search.{root, via, PlaceTest, entered, arcs, run, search, countUp, startsFrom, forest}
+use Rattle.graph.specs.Search.{root, via, Forest, PlaceTest, entered, arcs, run, search, countUp, startsFrom}
+use Rattle.graph.specs.Search.{forest}
 use Rattle.graph.specs.Joined.{without, joined, bridge, DoublyJoined}
 use Rattle.graph.specs.Forest.{number, vertexAt, climb, parent, rootOf, head, children, childMark, parentMark}
 use Rattle.graph.specs.Theorems.{start-covers, same-heads}
@@ -61,41 +64,44 @@ sample-well-formed = sound-well-formed sample refl
 abbrev vertices : List ℕ
 vertices = 0 ∷ 1 ∷ 2 ∷ 3 ∷ 4 ∷ 5 ∷ []
 
-sample-forest : forest sample 0 ≡ via 4 0 5 ∷ root 4 ∷ via 2 1 3 ∷ via 2 0 1 ∷ via 0 0 2 ∷ root 0 ∷ []
+-- from vertex 0
+abbrev sampleForest : Forest
+sampleForest = via 4 0 5 ∷ root 4 ∷ via 2 1 3 ∷ via 2 0 1 ∷ via 0 0 2 ∷ root 0 ∷ []
+
+sample-forest : forest sample 0 ≡ sampleForest
 unfolding search run startsFrom countUp arcs entered flatten
 sample-forest = refl
 
-sample-numbers : map (number (forest sample 0)) vertices ≡ 0 ∷ 2 ∷ 1 ∷ 3 ∷ 4 ∷ 5 ∷ []
-unfolding number search run startsFrom countUp arcs entered flatten
+sample-numbers : map (number sampleForest) vertices ≡ 0 ∷ 2 ∷ 1 ∷ 3 ∷ 4 ∷ 5 ∷ []
+unfolding number
 sample-numbers = refl
 
-sample-order : map (vertexAt (forest sample 0)) vertices ≡ 0 ∷ 2 ∷ 1 ∷ 3 ∷ 4 ∷ 5 ∷ []
-unfolding vertexAt search run startsFrom countUp arcs entered flatten
+sample-order : map (vertexAt sampleForest) vertices ≡ 0 ∷ 2 ∷ 1 ∷ 3 ∷ 4 ∷ 5 ∷ []
+unfolding vertexAt
 sample-order = refl
 
 -- 0 for a root, else 1 + the parent
-sample-parents : map (parent (forest sample 0)) vertices ≡ 0 ∷ 3 ∷ 1 ∷ 3 ∷ 0 ∷ 5 ∷ []
-unfolding parent climb search run startsFrom countUp arcs entered flatten
+sample-parents : map (parent sampleForest) vertices ≡ 0 ∷ 3 ∷ 1 ∷ 3 ∷ 0 ∷ 5 ∷ []
+unfolding parent climb
 sample-parents = refl
 
-sample-children : map (children (forest sample 0)) vertices ≡ (2 ∷ []) ∷ [] ∷ (1 ∷ 3 ∷ []) ∷ [] ∷ (5 ∷ []) ∷ [] ∷ []
-unfolding children search run startsFrom countUp arcs entered flatten
+sample-children : map (children sampleForest) vertices ≡ (2 ∷ []) ∷ [] ∷ (1 ∷ 3 ∷ []) ∷ [] ∷ (5 ∷ []) ∷ [] ∷ []
+unfolding children
 sample-children = refl
 
-sample-roots : map (rootOf (forest sample 0)) vertices ≡ 0 ∷ 0 ∷ 0 ∷ 0 ∷ 4 ∷ 4 ∷ []
-unfolding rootOf climb search run startsFrom countUp arcs entered flatten
+sample-roots : map (rootOf sampleForest) vertices ≡ 0 ∷ 0 ∷ 0 ∷ 0 ∷ 4 ∷ 4 ∷ []
+unfolding rootOf climb
 sample-roots = refl
 
 -- the marks E, P and B, block by block
-sample-E : marksFrom (childMark (forest sample 0)) 0 sample ≡ (1 ∷ 0 ∷ []) ∷ (0 ∷ 0 ∷ []) ∷ (1 ∷ 1 ∷ 0 ∷ []) ∷ (0 ∷ [])
+sample-E : marksFrom (childMark sampleForest) 0 sample ≡ (1 ∷ 0 ∷ []) ∷ (0 ∷ 0 ∷ []) ∷ (1 ∷ 1 ∷ 0 ∷ []) ∷ (0 ∷ [])
     ∷ (1 ∷ []) ∷ (0 ∷ []) ∷ []
-unfolding marksFrom marksOf childMark search run startsFrom countUp arcs entered flatten
+unfolding marksFrom marksOf childMark
 sample-E = refl
 
-sample-P : marksFrom (parentMark sample sample (forest sample 0)) 0 sample ≡ (0 ∷ 0 ∷ []) ∷ (0 ∷ 1 ∷ [])
+sample-P : marksFrom (parentMark sample sample sampleForest) 0 sample ≡ (0 ∷ 0 ∷ []) ∷ (0 ∷ 1 ∷ [])
     ∷ (0 ∷ 0 ∷ 1 ∷ []) ∷ (1 ∷ []) ∷ (0 ∷ []) ∷ (1 ∷ []) ∷ []
-unfolding marksFrom marksOf parentMark pair position mentions childMark search run startsFrom countUp arcs entered
-    flatten
+unfolding marksFrom marksOf parentMark pair position mentions childMark
 sample-P = refl
 
 sample-B : marksFrom (bridge sample) 0 sample ≡ (0 ∷ 0 ∷ []) ∷ (0 ∷ 0 ∷ []) ∷ (0 ∷ 1 ∷ 0 ∷ []) ∷ (1 ∷ []) ∷ (1 ∷ [])
@@ -103,20 +109,28 @@ sample-B : marksFrom (bridge sample) 0 sample ≡ (0 ∷ 0 ∷ []) ∷ (0 ∷ 0 
 unfolding marksFrom marksOf bridge joined without pair position mentions search run arcs entered flatten
 sample-B = refl
 
-sample-heads : map (head sample (forest sample 0)) vertices ≡ 0 ∷ 0 ∷ 0 ∷ 3 ∷ 4 ∷ 5 ∷ []
-unfolding head climb bridge joined without pair position mentions search run startsFrom countUp arcs entered flatten
+sample-heads : map (head sample sampleForest) vertices ≡ 0 ∷ 0 ∷ 0 ∷ 3 ∷ 4 ∷ 5 ∷ []
+unfolding head climb bridge joined without pair position mentions search run arcs entered flatten
 sample-heads = refl
 
 -- so the theorem says that 0 and 1 are doubly joined, and that 2 and 3 are not
+sample-head : (v : ℕ) → head sample (forest sample 0) v ≡ head sample sampleForest v
+sample-head v = ap (λ (F : Forest). head sample F v) sample-forest
+
+sample-heads-tell : (u v : ℕ) → u < 6 → v < 6
+    → (head sample sampleForest u ≡ head sample sampleForest v) ↔ DoublyJoined sample u v
+sample-heads-tell u v hu hv =
+    let (there, back) = same-heads sample-well-formed (start-covers sample 0 (λ h. h)) u v hu hv in
+    (λ e. there (sample-head u ∙ e ∙ sym (sample-head v)), λ d. sym (sample-head u) ∙ back d ∙ sample-head v)
+
 sample-section : DoublyJoined sample 0 1
-unfolding head climb bridge joined without pair position mentions search run startsFrom countUp arcs entered flatten
-sample-section = same-heads sample-well-formed (start-covers sample 0 (λ h. h)) 0 1 (omega arith) (omega arith) .0 refl
+unfolding head climb bridge joined without pair position mentions search run arcs entered flatten
+sample-section = sample-heads-tell 0 1 (omega arith) (omega arith) .0 refl
 
 sample-apart : DoublyJoined sample 2 3 → ⊥
-unfolding head climb bridge joined without pair position mentions search run startsFrom countUp arcs entered flatten
+unfolding head climb bridge joined without pair position mentions search run arcs entered flatten
 sample-apart d =
-    let e : _≡_ {A = ℕ} 0 3 =
-    same-heads sample-well-formed (start-covers sample 0 (λ h. h)) 2 3 (omega arith) (omega arith) .1 d in
+    let e : _≡_ {A = ℕ} 0 3 = sample-heads-tell 2 3 (omega arith) (omega arith) .1 d in
     omega arith
 
 -- from vertex 3: the same groups, in which 0, 1 and 2 have the head 2

@@ -1,7 +1,7 @@
--- Demands 2 and 3 as theorems, and what document 02 says of the start: open this file first. The index is any that Build
--- writes for the record, with any start (`Written`), and the marks are the bits of that index; the answers are those of
--- the operations, as `Operations` defines them and as the contracts of the code say. Vertex v - 1 of the graph is
--- terminal v; positions of a block count from 0.
+-- Demands 2 and 3 as theorems, and what document 02 says of the start: open this file first. The index is any that
+-- Build writes for the record, with any start (`Written`), and the marks are the bits of that index; the answers are
+-- those of the operations, as `Operations` defines them and as the contracts of the code say. Vertex v - 1 of the graph
+-- is terminal v; positions of a block count from 0.
 use mathlib.Core.Path.{_≡_, sym, ap, subst, _∙_}
 use mathlib.Core.Logic.{_⊎_, _↔_}
 use mathlib.Core.Bool.{Bool, true, false}
