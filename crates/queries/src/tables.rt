@@ -1,9 +1,8 @@
 // Table behind order R: Build to an index of its own, and then the four lists.
 ghost use mathlib.Core.Path.{_≡_};
-ghost use mathlib.Core.Bool.{not};
-ghost use Prim.Native.Nat.{_≤_};
-ghost use lib.Dec.{eqb};
+ghost use Prim.Native.Nat.{_+_, _≤_};
 ghost use lib.ListN.{length};
+ghost use Rattle.bits.specs.Bits.{bit};
 ghost use Rattle.record.specs.Answers.{verdict};
 ghost use Rattle.record.specs.Operations.{otherLength};
 ghost use Rattle.record.specs.Steps.{Sound};
@@ -85,9 +84,10 @@ fn lent_length(
 ) -> usize
     requires { ⌜ (n ≤ 4096) × (m ≤ 16384) ⌝ }
     ensures { λ r. ⌜
-        (not (eqb r (indexLength n m))
-        ≡ misfits n (columns (now (visits .entry)) (now (parents .entry)) (now (counts .entry)) (now (heads .entry))))
-        × (r ≤ 19969)
+        r
+        ≡ indexLength n m
+        + bit (misfits n
+        (columns (now (visits .entry)) (now (parents .entry)) (now (counts .entry)) (now (heads .entry))))
         ⌝ }
 {
     let size = index_length(n, m);

@@ -1,12 +1,8 @@
 -- `tables::lent_length` meets its contract.
-use mathlib.Core.Path.{sym, ap, _∙_}
-use mathlib.Core.Bool.{not}
-use Prim.Native.Nat.{_+_}
+use mathlib.Core.Path.{sym, _∙_}
 use native.Mathlib.Omega.{arith}
 use borrow.Author.Needs.{needs}
-use borrow.Author.Tests.{eq-eqb, ne-eqb}
-use Rattle.forest.specs.Index.{indexLength}
-use Rattle.queries.proofs.Laws.Rooms.{index-short}
+use Rattle.queries.proofs.Laws.Rooms.{index-short, one-more, as-long}
 use Rattle.queries.proofs.tables.lent_length.Statement.{statement}
 use Rattle.queries.proofs.tables.lent_length.Tie as tie
 
@@ -21,22 +17,10 @@ add-result c =
     omega (arith, short, l .index-length .ensures)
 
 returns : tie.Need-returns
-returns c =
-    let l = c .before .before in
-    let size = l .index-length .ensures in
-    let misfit = sym (c .before .some-misfit .ensures) ∙ c .if1 .taken in
-    let short = index-short (start l .pre .0) (start l .pre .1) in
-    let args = start l .args in
-    let more = ne-eqb (l .index-length .result + 1) (indexLength (args .n) (args .m)) (λ q. omega (arith, q, size)) in
-    (ap not more ∙ sym misfit, omega (arith, short, size))
+returns c = one-more (c .before .before .index-length .ensures) (sym (c .before .some-misfit .ensures) ∙ c .if1 .taken)
 
 returns-2 : tie.Need-returns-2
-returns-2 c =
-    let l = c .before .before in
-    let size = l .index-length .ensures in
-    let fits = sym (c .before .some-misfit .ensures) ∙ c .if1 .left in
-    let short = index-short (start l .pre .0) (start l .pre .1) in
-    (ap not (eq-eqb _ _ size) ∙ sym fits, omega (arith, short, size))
+returns-2 c = as-long (c .before .before .index-length .ensures) (sym (c .before .some-misfit .ensures) ∙ c .if1 .left)
 
 pub lent-length-spec : {M : Type 1} → statement M
 lent-length-spec =
