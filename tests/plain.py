@@ -381,7 +381,7 @@ def visited(data, index, i):
 
 @kept
 def columns(data, start=1):
-    """What Visit, Parent, Children and Head answer for each terminal of an accepted record, on its index of the start."""
+    """What Visit, Parent, Children and Head answer for each terminal of an accepted record, on the start's index."""
     index = built(data, start)
     visits, parents, counts = ([asked(data, index, v) for v in range(1, sizes(data)[0] + 1)] for asked in (visit, parent, children))
     heads = {}

@@ -107,33 +107,73 @@ fn run(name: &[u8], bytes: &[u8], n: usize, m: usize)
     run_from(name, bytes, 1, n, m);
 }
 
-// Document 01's records.
-fn stated() {
-    run(
+// Records that are built from several starts.
+fn sample_from(start: usize) {
+    run_from(
         b"sample",
         b"\x00\x30\x00\x59\x22\xA0\x02\x00\x10\x00\x00\x20\x01\x00\x30\x00\x00\x20\x05\x00\x40",
+        start,
         6,
         5,
     );
+}
+
+fn wire(start: usize) {
+    run_from(b"wire", b"\x00\x10\x00\x1A\x00\x10\x00", start, 2, 1);
+}
+
+fn path(start: usize) {
+    run_from(
+        b"path",
+        b"\x00\x30\x00\x59\x2A\x40\x04\x00\x20\x05\x00\x40\x00\x00\x50\x01\x00\x00\x03\x00\x10",
+        start,
+        6,
+        5,
+    );
+}
+
+fn hub(start: usize) {
+    run_from(
+        b"hub",
+        b"\x00\x30\x00\x5A\xAA\x00\x05\x00\x50\x05\x00\x50\x05\x00\x30\x00\x00\x40\x02\x00\x10",
+        start,
+        6,
+        5,
+    );
+}
+
+fn chord(start: usize) {
+    run_from(
+        b"chord",
+        b"\x00\x38\x00\x89\x11\x12\x40\x06\x00\x40\x0A\x00\x80\x06\x00\x60\x0A\x00\x00\x02\x00\x00\x04\x00\xC0\x02\x00\x40\x02\x00\x80",
+        start,
+        7,
+        8,
+    );
+}
+
+fn apart(start: usize) {
+    run_from(
+        b"apart",
+        b"\x00\x50\x00\x5C\xB4\x69\x00\x80\x05\x00\x40\x02\x00\x70\x01\x00\x80\x05\x00\x50\x01",
+        start,
+        10,
+        5,
+    );
+}
+
+// Document 01's records.
+fn stated() {
+    sample_from(1);
     run_from(b"empty", b"\x00\x00\x00\x00", 0, 0, 0);
     run(b"single", b"\x00\x08\x00\x08", 1, 0);
-    run(b"wire", b"\x00\x10\x00\x1A\x00\x10\x00", 2, 1);
+    wire(1);
 }
 
 // Forests: a path whose labels are not in order, a star with the hub last, two trees.
 fn forests() {
-    run(
-        b"path",
-        b"\x00\x30\x00\x59\x2A\x40\x04\x00\x20\x05\x00\x40\x00\x00\x50\x01\x00\x00\x03\x00\x10",
-        6,
-        5,
-    );
-    run(
-        b"hub",
-        b"\x00\x30\x00\x5A\xAA\x00\x05\x00\x50\x05\x00\x50\x05\x00\x30\x00\x00\x40\x02\x00\x10",
-        6,
-        5,
-    );
+    path(1);
+    hub(1);
     run(
         b"trees",
         b"\x00\x48\x00\x79\x24\x55\x40\x0A\x00\x40\x0C\x00\x60\x0E\x00\x00\x10\x00\x20\x08\x00\x60\x00\x00\x20\x04\x00\x60",
@@ -179,35 +219,14 @@ fn mixtures() {
         6,
         7,
     );
-    run(
-        b"chord",
-        b"\x00\x38\x00\x89\x11\x12\x40\x06\x00\x40\x0A\x00\x80\x06\x00\x60\x0A\x00\x00\x02\x00\x00\x04\x00\xC0\x02\x00\x40\x02\x00\x80",
-        7,
-        8,
-    );
+    chord(1);
     run(
         b"mixed",
         b"\x00\x60\x00\xE9\x21\x08\xA4\x94\x40\x06\x00\x90\x02\x00\x40\x03\x00\x10\x04\x00\xA0\x0A\x00\x50\x08\x00\x20\x01\x00\xB0\x02\x00\x30\x07\x00\x00\x08\x00\x60\x03\x00\x70\x00\x00\x30\x0B\x00\x20\x0A\x00\x40",
         12,
         14,
     );
-    run(
-        b"apart",
-        b"\x00\x50\x00\x5C\xB4\x69\x00\x80\x05\x00\x40\x02\x00\x70\x01\x00\x80\x05\x00\x50\x01",
-        10,
-        5,
-    );
-}
-
-// The sample from another terminal.
-fn sample_from(start: usize) {
-    run_from(
-        b"sample",
-        b"\x00\x30\x00\x59\x22\xA0\x02\x00\x10\x00\x00\x20\x01\x00\x30\x00\x00\x20\x05\x00\x40",
-        start,
-        6,
-        5,
-    );
+    apart(1);
 }
 
 // The sample from each of its other terminals; others from the end of a wire, inside a path, from a hub, from the end
@@ -218,42 +237,12 @@ fn other_starts() {
     sample_from(4);
     sample_from(5);
     sample_from(6);
-    run_from(b"wire", b"\x00\x10\x00\x1A\x00\x10\x00", 2, 2, 1);
-    run_from(
-        b"path",
-        b"\x00\x30\x00\x59\x2A\x40\x04\x00\x20\x05\x00\x40\x00\x00\x50\x01\x00\x00\x03\x00\x10",
-        5,
-        6,
-        5,
-    );
-    run_from(
-        b"hub",
-        b"\x00\x30\x00\x5A\xAA\x00\x05\x00\x50\x05\x00\x50\x05\x00\x30\x00\x00\x40\x02\x00\x10",
-        6,
-        6,
-        5,
-    );
-    run_from(
-        b"chord",
-        b"\x00\x38\x00\x89\x11\x12\x40\x06\x00\x40\x0A\x00\x80\x06\x00\x60\x0A\x00\x00\x02\x00\x00\x04\x00\xC0\x02\x00\x40\x02\x00\x80",
-        7,
-        7,
-        8,
-    );
-    run_from(
-        b"apart",
-        b"\x00\x50\x00\x5C\xB4\x69\x00\x80\x05\x00\x40\x02\x00\x70\x01\x00\x80\x05\x00\x50\x01",
-        9,
-        10,
-        5,
-    );
-    run_from(
-        b"apart",
-        b"\x00\x50\x00\x5C\xB4\x69\x00\x80\x05\x00\x40\x02\x00\x70\x01\x00\x80\x05\x00\x50\x01",
-        10,
-        10,
-        5,
-    );
+    wire(2);
+    path(5);
+    hub(6);
+    chord(7);
+    apart(9);
+    apart(10);
 }
 
 // Build with a buffer of marks, which a refused call leaves.

@@ -115,27 +115,70 @@ fn run(name: &[u8], bytes: &[u8], n: usize)
     run_from(name, bytes, 1, n);
 }
 
+// The sample with this start, and a work slice and lists of these lengths.
+fn on_sample(start: usize, work: usize, visits: usize, parents: usize, counts: usize, heads: usize)
+    requires { ⌜ (work ≤ 81) × (visits ≤ 10) × (parents ≤ 10) × (counts ≤ 10) × (heads ≤ 10) ⌝ }
+{
+    lent(
+        b"sample",
+        b"\x00\x30\x00\x59\x22\xA0\x02\x00\x10\x00\x00\x20\x01\x00\x30\x00\x00\x20\x05\x00\x40",
+        start,
+        work,
+        visits,
+        parents,
+        counts,
+        heads,
+    );
+}
+
+// The sample with spare bits set, a work slice and a last list of these lengths.
+fn spare(start: usize, work: usize, heads: usize)
+    requires { ⌜ (work ≤ 81) × (heads ≤ 10) ⌝ }
+{
+    lent(
+        b"spare",
+        b"\x00\x30\x00\x59\x22\xA0\x02\x00\x10\x00\x00\x20\x01\x00\x30\x00\x00\x20\x05\x00\x4F",
+        start,
+        work,
+        6,
+        6,
+        6,
+        heads,
+    );
+}
+
+// Records that are searched from several starts.
+fn wire(start: usize) {
+    run_from(b"wire", b"\x00\x10\x00\x1A\x00\x10\x00", start, 2);
+}
+
+fn path(start: usize) {
+    run_from(
+        b"path",
+        b"\x00\x30\x00\x59\x2A\x40\x04\x00\x20\x05\x00\x40\x00\x00\x50\x01\x00\x00\x03\x00\x10",
+        start,
+        6,
+    );
+}
+
+fn apart(start: usize) {
+    run_from(
+        b"apart",
+        b"\x00\x50\x00\x5C\xB4\x69\x00\x80\x05\x00\x40\x02\x00\x70\x01\x00\x80\x05\x00\x50\x01",
+        start,
+        10,
+    );
+}
+
 // Document 01's records, a path, components with isolated terminals between them, two triangles joined by a bridge, a
 // cycle with a chord and a tail.
 pub fn accepted() {
-    run(
-        b"sample",
-        b"\x00\x30\x00\x59\x22\xA0\x02\x00\x10\x00\x00\x20\x01\x00\x30\x00\x00\x20\x05\x00\x40",
-        6,
-    );
-    run(b"wire", b"\x00\x10\x00\x1A\x00\x10\x00", 2);
+    on_sample(1, 48, 6, 6, 6, 6);
+    wire(1);
     run(b"single", b"\x00\x08\x00\x08", 1);
     run_from(b"empty", b"\x00\x00\x00\x00", 0, 0);
-    run(
-        b"path",
-        b"\x00\x30\x00\x59\x2A\x40\x04\x00\x20\x05\x00\x40\x00\x00\x50\x01\x00\x00\x03\x00\x10",
-        6,
-    );
-    run(
-        b"apart",
-        b"\x00\x50\x00\x5C\xB4\x69\x00\x80\x05\x00\x40\x02\x00\x70\x01\x00\x80\x05\x00\x50\x01",
-        10,
-    );
+    path(1);
+    apart(1);
     run(
         b"joined",
         b"\x00\x30\x00\x79\x22\x24\x00\x50\x03\x00\x40\x02\x00\x40\x03\x00\x10\x02\x00\x00\x05\x00\x10\x02\x00\x30\x00",
@@ -162,11 +205,7 @@ pub fn bad_records() {
         b"\x00\x30\x00\x59\x22\x80\x02\x00\x10\x00\x00\x20\x01\x00\x30\x00\x00\x20\x05\x00\x40",
         6,
     );
-    run(
-        b"spare",
-        b"\x00\x30\x00\x59\x22\xA0\x02\x00\x10\x00\x00\x20\x01\x00\x30\x00\x00\x20\x05\x00\x4F",
-        6,
-    );
+    spare(1, 48, 6);
     run(
         b"stray",
         b"\x00\x30\x00\x59\x22\xA0\x02\x00\x60\x00\x00\x20\x01\x00\x30\x00\x00\x20\x06\x00\x40",
@@ -184,22 +223,6 @@ pub fn bad_records() {
     );
 }
 
-// The sample with this start, and a work slice and lists of these lengths.
-fn on_sample(start: usize, work: usize, visits: usize, parents: usize, counts: usize, heads: usize)
-    requires { ⌜ (work ≤ 81) × (visits ≤ 10) × (parents ≤ 10) × (counts ≤ 10) × (heads ≤ 10) ⌝ }
-{
-    lent(
-        b"sample",
-        b"\x00\x30\x00\x59\x22\xA0\x02\x00\x10\x00\x00\x20\x01\x00\x30\x00\x00\x20\x05\x00\x40",
-        start,
-        work,
-        visits,
-        parents,
-        counts,
-        heads,
-    );
-}
-
 // Work of one number more, which is accepted; 9, before 10; 10, for each list in turn, too short and too long; and 5
 // before both.
 pub fn bad_lengths() {
@@ -214,16 +237,7 @@ pub fn bad_lengths() {
     on_sample(1, 48, 6, 6, 7, 6);
     on_sample(1, 48, 6, 6, 6, 5);
     on_sample(1, 48, 6, 6, 6, 7);
-    lent(
-        b"spare",
-        b"\x00\x30\x00\x59\x22\xA0\x02\x00\x10\x00\x00\x20\x01\x00\x30\x00\x00\x20\x05\x00\x4F",
-        1,
-        47,
-        6,
-        6,
-        6,
-        7,
-    );
+    spare(1, 47, 7);
 }
 
 // The sample from each of its other terminals; others from the end of a wire, inside a path and inside a component.
@@ -233,19 +247,9 @@ pub fn other_starts() {
     on_sample(4, 48, 6, 6, 6, 6);
     on_sample(5, 48, 6, 6, 6, 6);
     on_sample(6, 48, 6, 6, 6, 6);
-    run_from(b"wire", b"\x00\x10\x00\x1A\x00\x10\x00", 2, 2);
-    run_from(
-        b"path",
-        b"\x00\x30\x00\x59\x2A\x40\x04\x00\x20\x05\x00\x40\x00\x00\x50\x01\x00\x00\x03\x00\x10",
-        5,
-        6,
-    );
-    run_from(
-        b"apart",
-        b"\x00\x50\x00\x5C\xB4\x69\x00\x80\x05\x00\x40\x02\x00\x70\x01\x00\x80\x05\x00\x50\x01",
-        9,
-        10,
-    );
+    wire(2);
+    path(5);
+    apart(9);
 }
 
 // 14: the start is 0 or above n, and the empty record takes 0 only. Then 9 and 10 before 14, and 5 before all.
@@ -258,14 +262,5 @@ pub fn bad_starts() {
     on_sample(0, 47, 6, 6, 6, 6);
     on_sample(7, 48, 6, 6, 6, 5);
     on_sample(0, 48, 7, 6, 6, 6);
-    lent(
-        b"spare",
-        b"\x00\x30\x00\x59\x22\xA0\x02\x00\x10\x00\x00\x20\x01\x00\x30\x00\x00\x20\x05\x00\x4F",
-        0,
-        48,
-        6,
-        6,
-        6,
-        6,
-    );
+    spare(0, 48, 6);
 }
