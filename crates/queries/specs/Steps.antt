@@ -1,4 +1,5 @@
--- What contracts inside this crate say: of a record and an index that passed order Q, and of one step of a climb.
+-- What contracts inside this crate say: of a record and an index that passed order Q, of stored numbers, and of one
+-- step of a climb.
 use mathlib.Core.Path.{_≡_}
 use mathlib.Core.Bool.{Bool, true, false}
 use mathlib.Core.List.{List}
@@ -10,6 +11,7 @@ use Rattle.record.specs.Starts.{startsOf}
 use Rattle.record.specs.Answers.{Answer, refused, answered}
 use Rattle.record.specs.Steps.{Sound}
 use Rattle.forest.specs.Index.{indexLength}
+use Rattle.queries.specs.View.{numberOf}
 use Rattle.queries.specs.Queries as Queries
 use Rattle.queries.specs.declared.climbs.Step.{Step}
 use Rattle.queries.specs.declared.climbs.Step.the-variants as Step
@@ -38,6 +40,22 @@ pub record Ranged (n k : ℕ) : Type 0 where
 pub record FieldsOf (bytes : List ℕ) (u a b : ℕ) : Type 0 where
   pub from : a ≡ getD (startsOf (unary bytes)) u 0
   pub to : b ≡ getD (startsOf (unary bytes)) (u + 1) 0
+
+-- a, b, c and d are the numbers stored for u and the three vertices after it
+pub record StoredFour (index : List ℕ) (n m u a b c d : ℕ) : Type 0 where
+  pub first : a ≡ numberOf n m index u
+  pub second : b ≡ numberOf n m index (u + 1)
+  pub third : c ≡ numberOf n m index (u + 2)
+  pub fourth : d ≡ numberOf n m index (u + 3)
+
+-- before u, numbers are others than k
+abbrev pub OthersBefore : (ℕ → ℕ) → ℕ → ℕ → Type 0
+OthersBefore numbers k u = (v : ℕ) → v < u → numbers v ≡ k → ⊥
+
+-- none of the numbers stored before that of u is k
+pub record Passed (index : List ℕ) (n m k u : ℕ) : Type 0 where
+  pub upto : u ≤ n
+  pub others : OthersBefore (numberOf n m index) k u
 
 -- a step, as the definitions name it
 abbrev pub stepOf : Step → Queries.Step

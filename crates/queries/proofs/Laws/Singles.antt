@@ -2,11 +2,8 @@
 --   no-first          child 0 is refused
 --   visit-told        a stored number that is a vertex's
 --   visit-stray       one that is none
---   Unmet             the vertices before u have other numbers than k
---   unmet-begin       there are none before vertex 0
---   unmet-more        so has u
---   met               u has it
---   unmet-end         no vertex has it
+--   met               u is the first vertex that has number k
+--   unmet             no vertex has it
 --   Room              the numbers of a block are small
 --   block-room        so they are
 --   children-counted  Children
@@ -15,10 +12,10 @@
 --   child-room        the child's field is one of the record's
 --   there-told        it is a vertex
 --   stray-told        it is none
-use mathlib.Core.Path.{_≡_, refl, sym, ap, ap₂, _∙_}
+use mathlib.Core.Path.{_≡_, refl, sym, ap, _∙_}
 use mathlib.Core.Bool.{Bool, true, false}
 use mathlib.Core.List.{List, [], _∷_, map}
-use Prim.Native.Nat.{ℕ, _+_, _-_, _*_, _≤_, _<_}
+use Prim.Native.Nat.{ℕ, zero, suc, _+_, _-_, _*_, _≤_, _<_}
 use native.Mathlib.Numerals.{add-one}
 use native.Mathlib.Decide.{decLt}
 use native.Mathlib.Omega.{arith}
@@ -41,7 +38,7 @@ use Rattle.forest.specs.Laws.Sections.{length-each, each-at}
 use Rattle.queries.specs.View.{View, viewBy, blockMarks, sectionOf}
 use Rattle.queries.specs.Queries.{childCount, vertexOr, childOf, pastCount, visitOf, found, visitedOf}
 use Rattle.queries.proofs.Laws.Ones.{positive, part-length, count-next, found-here, found-none}
-use Rattle.queries.specs.Steps.{Beside, Ranged, FieldsOf}
+use Rattle.queries.specs.Steps.{Beside, Ranged, FieldsOf, OthersBefore}
 use Rattle.queries.specs.Laws.Asked.{vertex-in}
 use Rattle.queries.specs.Laws.Framed.{length-E}
 use Rattle.queries.proofs.Laws.Stepping.{block-bounds, block-marks, block-neighbour, below-end}
@@ -108,7 +105,7 @@ module _ (w : View) where
   unfolding visitOf
   visit-stray e l = vertex-no l ∙ ap (vertexOr w) e
 
-  -- ---- Visited: the vertices before u have other numbers
+  -- ---- Visited
 
   module _ (k : ℕ) where
     hits : List Bool
@@ -124,34 +121,33 @@ module _ (w : View) where
         let z : 0 + u ≡ u = omega arith in
         each-at (λ u. eqb (w .stored u) k) false 0 (length (w .graph)) u h ∙ ap (λ (x : ℕ). eqb (w .stored x) k) z
 
-    pub Unmet : ℕ → Type 0
-    Unmet u = 0 ≡ count (take u hits)
+    hits-next : (u : ℕ) → u < length (w .graph)
+        → count (take (u + 1) hits) ≡ count (take u hits) + bit (eqb (w .stored u) k)
+    hits-next u l =
+        count-next hits u (omega (arith, hits-long)) ∙ ap (λ (b : Bool). count (take u hits) + bit b) (hit-at u l)
 
-    pub unmet-begin : Unmet 0
-    unfolding count Unmet
-    unmet-begin = refl
+    no-hits : (u : ℕ) → u ≤ length (w .graph) → OthersBefore (w .stored) k u → count (take u hits) ≡ 0
+    unfolding count
+    no-hits zero l others = refl
+    no-hits (suc u) l others =
+        let before = no-hits u (omega arith) (λ v h. others v (omega arith)) in
+        let here = ap bit (ne-eqb (w .stored u) k (others u (omega arith))) in
+        ap (λ (x : ℕ). count (take x hits)) (sym (add-one u)) ∙ hits-next u (omega arith) ∙ omega (arith, before, here)
 
-    module _ {u x : ℕ} (l : u < length (w .graph)) (e : x ≡ w .stored u) (o : Unmet u) where
-      next : count (take (u + 1) hits) ≡ 0 + bit (eqb (w .stored u) k)
-      unfolding Unmet
-      next =
-          let d = hits-long in
-          count-next hits u (omega arith) ∙ ap₂ (λ (i : ℕ) (b : Bool). i + bit b) (sym o) (hit-at u l)
+    pub met : {u : ℕ} → u < length (w .graph) → OthersBefore (w .stored) k u → w .stored u ≡ k
+        → answered (u + 1) ≡ visitedOf w k
+    unfolding visitedOf hits
+    met {u} l others e =
+        let here : eqb (w .stored u) k ≡ true = eq-eqb (w .stored u) k e in
+        let before = no-hits u (omega arith) others in
+        let one : count (take (u + 1) hits) ≡ 1 = hits-next u l ∙ omega (arith, before, ap bit here) in
+        ap answered (add-one u) ∙ ap found (sym (add-one u) ∙ found-here hits u (hit-at u l ∙ here) one)
 
-      pub unmet-more : (x ≡ k → ⊥) → Unmet (u + 1)
-      unfolding Unmet
-      unmet-more d = sym (next ∙ ap (λ (b : Bool). 0 + bit b) (ne-eqb (w .stored u) k (λ z. d (e ∙ z))) ∙ omega arith)
-
-      pub met : x ≡ k → answered (u + 1) ≡ visitedOf w k
-      unfolding visitedOf hits
-      met d =
-          let t : eqb (w .stored u) k ≡ true = eq-eqb (w .stored u) k (sym e ∙ d) in
-          let c : count (take (u + 1) hits) ≡ 1 = next ∙ ap (λ (b : Bool). 0 + bit b) t ∙ omega arith in
-          ap answered (add-one u) ∙ ap found (sym (add-one u) ∙ found-here hits u (hit-at u l ∙ t) c)
-
-    pub unmet-end : {u : ℕ} → length (w .graph) ≤ u → Unmet u → refused 12 ≡ visitedOf w k
-    unfolding Unmet visitedOf hits
-    unmet-end {u} h o = ap found (found-none hits {i = u} (omega (arith, hits-long)) (omega (arith, o)))
+    pub unmet : OthersBefore (w .stored) k (length (w .graph)) → refused 12 ≡ visitedOf w k
+    unfolding visitedOf hits
+    unmet others =
+        let none = no-hits (length (w .graph)) (omega arith) others in
+        ap found (found-none hits {i = length (w .graph)} (omega (arith, hits-long)) (omega (arith, none)))
 
 -- ---- the block of u, whose fields are those from a up to b
 
