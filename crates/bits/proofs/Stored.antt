@@ -16,7 +16,8 @@ use Rattle.bits.specs.Laws.Digits.{toBits-agree, toBits-append, toBits-v
 use Rattle.bits.specs.Laws.Bytes.{AreBytes, length-bits, bits-append, take-bits, drop-bits}
 use Rattle.bits.specs.Laws.Puts.{put-number, put-part, put-one, put-beside}
 use Rattle.bits.specs.Steps.{joined, two, three, byteOf, IsByte, replace}
-use Rattle.bits.proofs.Joined.{field-joined, byte-field, two-bytes, three-bytes}
+use Rattle.bits.specs.Laws.Joined.{field-joined, two-bytes, three-bytes}
+use Rattle.bits.proofs.Joined.{byte-field}
 
 put-above : (hi w k v : ℕ) → hi * 2 ^ (w + k) + v * 2 ^ k ≡ (hi * 2 ^ w + v) * 2 ^ k
 put-above hi w k v = rw (pow-add 2 w k, ← mul-assoc hi (2 ^ w) (2 ^ k)) (sym (add-mul (hi * 2 ^ w) v (2 ^ k)))

@@ -13,7 +13,7 @@ use Rattle.bits.specs.Bits.{toBits, bits, count}
 use Rattle.bits.specs.Steps.{joined, eight, byteOf, lowBytes}
 use Rattle.bits.specs.Laws.Bytes.{AreBytes, part-bits}
 use Rattle.bits.specs.Laws.Rank.{count-append, count-toBits}
-use Rattle.bits.proofs.Joined.{eight-bytes}
+use Rattle.bits.specs.Laws.Joined.{eight-bytes}
 
 -- bytes that are given one by one
 data EachByte : List ℕ → Type 0 where

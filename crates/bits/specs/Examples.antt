@@ -4,6 +4,7 @@ use mathlib.Core.Bool.{true, false}
 use mathlib.Core.List.{List, [], _∷_, map}
 use Prim.Native.Nat.{ℕ}
 use Rattle.bits.specs.Bits.{toBits, bits, string, count, rank, onesAt, select, value, field, put, packed, pack}
+use Rattle.bits.specs.Formula.{fieldFormula}
 
 abbrev sample : List ℕ
 sample =
@@ -31,6 +32,21 @@ not-held : rank (string sample 1 168) 168 ∷ rank (string sample 0 168) 168 ∷
     ∷ 20 ∷ 0 ∷ []
 unfolding toBits bits string count rank onesAt select
 not-held = refl
+
+-- three bytes, each starting bit of the first one, and the last bit at which a field of 12 bits can start; the fields
+-- there as the bits have them, and by the formula
+abbrev three : List ℕ
+three = 0xAB ∷ 0xCD ∷ 0xEF ∷ []
+
+at-each-bit : map (field 12 (bits three)) (0 ∷ 1 ∷ 2 ∷ 3 ∷ 4 ∷ 5 ∷ 6 ∷ 7 ∷ 12 ∷ []) ≡ 0xABC ∷ 0x579 ∷ 0xAF3 ∷ 0x5E6
+    ∷ 0xBCD ∷ 0x79B ∷ 0xF37 ∷ 0xE6F ∷ 0xDEF ∷ []
+unfolding toBits bits value field
+at-each-bit = refl
+
+by-formula : map (fieldFormula 12 three) (0 ∷ 1 ∷ 2 ∷ 3 ∷ 4 ∷ 5 ∷ 6 ∷ 7 ∷ 12 ∷ []) ≡ 0xABC ∷ 0x579 ∷ 0xAF3 ∷ 0x5E6
+    ∷ 0xBCD ∷ 0x79B ∷ 0xF37 ∷ 0xE6F ∷ 0xDEF ∷ []
+unfolding fieldFormula
+by-formula = refl
 
 -- a field put, and bits packed with zero bits after them
 put-and-packed : pack (put 12 0xABC (bits (0xFF ∷ 0x00 ∷ 0xFF ∷ [])) 6) ≡ 0xFE ∷ 0xAF ∷ 0x3F ∷ []

@@ -2,6 +2,8 @@
 pub mod Digits
 pub mod Bytes
 pub mod Fields
+pub mod Joined
+pub mod Formula
 pub mod Puts
 pub mod Packing
 pub mod Rank

@@ -1,5 +1,5 @@
 -- What contracts inside this crate say of bytes joined to a number, of a byte, of a search for ones, and of a number
--- with a field replaced, and what callers are told of two and of four fields.
+-- with a field replaced, and what callers are told of four fields.
 --   joined    bytes joined to a number
 --   eight     eight bytes of a list
 --   two       two bytes of a list
@@ -9,7 +9,6 @@
 --   IsByte    a number is a byte of a list
 --   IsRest    a number is what is left of a byte from a bit on
 --   within    a place, or 0 past a limit
---   TwoAt     two numbers are the fields of 12 bits from a bit on
 --   FourAt    four numbers are the fields of 12 bits from a bit on
 --   replace   a number with a field replaced
 use mathlib.Core.Path.{_≡_}
@@ -63,12 +62,6 @@ pub record IsRest (bytes : List ℕ) (start b : ℕ) : Type 0 where
 -- the place p, or 0 where it is past the limit
 unfoldable pub within : ℕ → ℕ → ℕ
 within limit p = elim (leb p limit) [ true ↦ p | false ↦ 0 ]
-
--- a and b are the two fields of 12 bits from bit `start` on
-pub record TwoAt (s : List Bool) (start a b : ℕ) : Type 0 where
-  pub first : a ≡ field 12 s start
-  pub second : b ≡ field 12 s (start + 12)
-  pub small : (a < 4096) × (b < 4096)
 
 -- a, b, c and d are the four fields of 12 bits from bit `start` on
 pub record FourAt (s : List Bool) (start a b c d : ℕ) : Type 0 where

@@ -5,11 +5,13 @@ ghost use mathlib.Core.Bool.{true, false};
 ghost use Prim.Native.Nat.{_+_, _*_, _/_, _%_, _^_, _<_, _≤_};
 ghost use lib.ListN.{length, getD, set};
 ghost use Rattle.bits.specs.Bits.{bits, field, put};
-ghost use Rattle.bits.specs.Steps.{joined, two, three, TwoAt, FourAt, replace};
+ghost use Rattle.bits.specs.Steps.{joined, two, three, FourAt, replace};
+ghost use Rattle.bits.specs.Formula.{fieldFormula};
 use super::words::byte_at;
 use super::words::byte_of;
 use super::words::join;
 use super::words::short_word;
+use super::words::word;
 
 // The bit `index`.
 pub fn read_bit(bytes: &[u8], index: usize) -> bool
@@ -35,17 +37,32 @@ fn join3(bytes: &[u8], at: usize, last: usize) -> u64
     join(join2(bytes, at, at + 1), bytes[last])
 }
 
-// The field of `width` bits from bit `start` on. Three bytes are joined: the first, the next, and the one in which the
-// field ends. Where that is the next again, its second copy is shifted out. No byte past the field is read.
-fn read_field(bytes: &[u8], start: usize, width: usize) -> usize
+// The `width` bits of x above its `low` lowest.
+fn cut(x: u64, low: usize, width: usize) -> usize
+    requires { ⌜ (low < 64) × (width < 64) ⌝ }
+    ensures { λ r. ⌜ (r ≡ x / 2 ^ low % 2 ^ width) × (r < 2 ^ width) ⌝ }
+{
+    ((x >> low) & ((1 << width) - 1)) as usize
+}
+
+// The field of `width` bits from bit `start` on, by one formula in `start`. Three bytes are joined: the one in which it
+// begins, the next, and the one in which it ends. Where that is the next again, its second copy is shifted out.
+fn formula(bytes: &[u8], start: usize, width: usize) -> usize
     requires { ⌜ (9 ≤ width) × (width ≤ 16) × (start + width ≤ 8 * length (now bytes)) ⌝ }
-    ensures { λ r. ⌜ (r ≡ field width (bits (now (bytes .entry))) start) × (r < 2 ^ width) ⌝ }
+    ensures { λ r. ⌜ r ≡ fieldFormula width (now (bytes .entry)) start ⌝ }
 {
     let first = start / 8;
     let off = start % 8;
     let last = first + (off + width - 1) / 8;
-    let x = join3(bytes, first, last);
-    ((x >> (24 - width - off)) & ((1 << width) - 1)) as usize
+    cut(join3(bytes, first, last), 24 - width - off, width)
+}
+
+// The same: what the formula gives is the field.
+fn read_field(bytes: &[u8], start: usize, width: usize) -> usize
+    requires { ⌜ (9 ≤ width) × (width ≤ 16) × (start + width ≤ 8 * length (now bytes)) ⌝ }
+    ensures { λ r. ⌜ (r ≡ field width (bits (now (bytes .entry))) start) × (r < 2 ^ width) ⌝ }
+{
+    formula(bytes, start, width)
 }
 
 // The field of 12 bits from bit `start` on.
@@ -88,43 +105,17 @@ pub struct Four {
     pub d: usize,
 }
 
-// The 12 bits of x above its `low` lowest.
-fn cut12(x: u64, low: usize) -> usize
-    requires { ⌜ low < 64 ⌝ }
-    ensures { λ r. ⌜ (r ≡ x / 2 ^ low % 2 ^ 12) × (r < 4096) ⌝ }
-{
-    ((x >> low) & 0xFFF) as usize
-}
-
-// The four fields of 12 bits from bit `start` on.
+// The four fields of 12 bits from bit `start` on, where the eight bytes from their first byte on lie in the slice.
 pub fn read_four(bytes: &[u8], start: usize) -> Four
-    requires { ⌜ start + 48 ≤ 8 * length (now bytes) ⌝ }
+    requires { ⌜ start / 8 + 8 ≤ length (now bytes) ⌝ }
     ensures { λ r. ⌜ FourAt (bits (now (bytes .entry))) start (r .a) (r .b) (r .c) (r .d) ⌝ }
 {
-    let x = read_long(bytes, start, 48);
+    let x = word(bytes, start / 8) >> (16 - start % 8);
     Four {
-        a: cut12(x, 36),
-        b: cut12(x, 24),
-        c: cut12(x, 12),
-        d: cut12(x, 0),
-    }
-}
-
-// Two fields of 12 bits in a row.
-pub struct Two {
-    pub a: usize,
-    pub b: usize,
-}
-
-// The two fields of 12 bits in the three bytes from byte `at` on.
-pub fn read_two(bytes: &[u8], at: usize) -> Two
-    requires { ⌜ at + 3 ≤ length (now bytes) ⌝ }
-    ensures { λ r. ⌜ TwoAt (bits (now (bytes .entry))) (8 * at) (r .a) (r .b) ⌝ }
-{
-    let x = join3(bytes, at, at + 2);
-    Two {
-        a: cut12(x, 12),
-        b: cut12(x, 0),
+        a: cut(x, 36, 12),
+        b: cut(x, 24, 12),
+        c: cut(x, 12, 12),
+        d: cut(x, 0, 12),
     }
 }
 

@@ -72,7 +72,7 @@ fn turned(x: u64) -> u64
 }
 
 // The eight bytes from byte `at` on as one number.
-fn word(bytes: &[u8], at: usize) -> u64
+pub fn word(bytes: &[u8], at: usize) -> u64
     requires { ⌜ at + 8 ≤ length (now bytes) ⌝ }
     ensures { λ r. ⌜ r ≡ joined 0 (eight (now (bytes .entry)) at) ⌝ }
 {

@@ -15,10 +15,10 @@ pub fn field(bytes: &[u8], n: usize, m: usize, p: usize) -> usize
     bits::fields::read12(bytes, 28 + (n + 2 * m) + 12 * p)
 }
 
-// Four more fields, from field i on.
+// Four more fields, from field i on, where another one stands behind them: so a whole word does.
 fn read_four(bytes: &[u8], start: usize, list: &mut [u16], i: usize)
     requires { ⌜
-        (start + 12 * (i + 4) ≤ 8 * length (now bytes)) × (i + 4 ≤ length (now list)) × (i ≤ 32768) × (start ≤ 65536)
+        (start + 12 * (i + 5) ≤ 8 * length (now bytes)) × (i + 4 ≤ length (now list)) × (i ≤ 32768) × (start ≤ 65536)
         ⌝ }
     requires { ⌜ Reading (bitsOf (now bytes)) start (length (now list)) (now list) i ⌝ }
     ensures { λ _. ⌜
@@ -32,7 +32,7 @@ fn read_four(bytes: &[u8], start: usize, list: &mut [u16], i: usize)
     put(list, i + 3, x.d);
 }
 
-// As many fields as come in fours. Returns how many are read.
+// As many fields as come in fours with another one behind them. Returns how many are read.
 fn read_fours(bytes: &[u8], start: usize, list: &mut [u16]) -> usize
     requires { ⌜
         (start + 12 * length (now list) ≤ 8 * length (now bytes)) × (length (now list) ≤ 32768) × (start ≤ 65536)
@@ -40,14 +40,14 @@ fn read_fours(bytes: &[u8], start: usize, list: &mut [u16]) -> usize
     ensures { λ r. ⌜ Reading (bitsOf (now (bytes .entry))) start (length (now (list .entry))) (now (list .exit)) r ⌝ }
 {
     let mut i = 0;
-    while i + 4 <= list.len() {
+    while i + 5 <= list.len() {
         read_four(bytes, start, list, i);
         i += 4;
     }
     i
 }
 
-// The fields from bit `start` on, as many as the list has room for: in fours, and then one by one.
+// The fields from bit `start` on, as many as the list has room for: in fours, and the last ones by themselves.
 pub fn read_fields(bytes: &[u8], start: usize, list: &mut [u16])
     requires { ⌜
         (start + 12 * length (now list) ≤ 8 * length (now bytes)) × (length (now list) ≤ 32768) × (start ≤ 65536)
