@@ -57,6 +57,12 @@ def tally(families, unit, setup=None, given=()):
     return 0 if all(passed) else 1
 
 
+def summed(results):
+    """Of several comparisons, how many were made and the differences."""
+    pairs = list(results)
+    return sum(count for count, _ in pairs), [difference for _, found in pairs for difference in found]
+
+
 def shown(data):
     """Bytes in a few characters."""
     return data.hex() if len(data) <= 64 else f"{data[:64].hex()}... of {len(data)} bytes"

@@ -47,7 +47,7 @@ SLICE, NUMBER = [ctypes.c_void_p, ctypes.c_size_t], [ctypes.c_size_t]
 
 def shared(archive, room):
     """A shared library of the archive, in this directory."""
-    library = Path(room) / "celduga.so"
+    library = Path(room) / f"{Path(archive).stem}.so"
     subprocess.run(["cc", "-shared", "-o", library, "-Wl,--whole-archive", archive, "-Wl,--no-whole-archive"], check=True)
     return library
 
@@ -80,6 +80,16 @@ def load(library):
         lent[name] = Lent(width)
 
 
+def address(memory):
+    return ctypes.addressof(ctypes.c_char.from_buffer(memory))
+
+
+def close(page):
+    """From then on a touch of the page at this address ends the process."""
+    failed = ctypes.CDLL(None).mprotect(ctypes.c_void_p(page), ctypes.c_size_t(mmap.PAGESIZE), 0)
+    assert not failed, "no page could be closed"
+
+
 class Lent:
     """Memory for slices of numbers of this many bytes each."""
 
@@ -88,9 +98,8 @@ class Lent:
     def __init__(self, width):
         self.width = width
         self.pages = mmap.mmap(-1, self.ROOM + mmap.PAGESIZE)
-        self.end = ctypes.addressof(ctypes.c_char.from_buffer(self.pages)) + self.ROOM
-        failed = ctypes.CDLL(None).mprotect(ctypes.c_void_p(self.end), ctypes.c_size_t(mmap.PAGESIZE), 0)
-        assert not failed, "no page could be closed"
+        self.end = address(self.pages) + self.ROOM
+        close(self.end)
         self.hold(b"")
 
     def hold(self, data):

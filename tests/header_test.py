@@ -11,7 +11,7 @@ from itertools import chain, combinations, product
 from random import Random
 
 import shapes
-from families import fail, tally
+from families import fail, summed, tally
 from header import FUNCTIONS, LISTS, Compared, exported, header_version, lent, load, shared
 from packing import WIRE, bits_of, index_layout, index_length, layout, packed, record
 from plain import MOST_TERMINALS, MOST_WIRES, answer, blocks_of, bridges_of, build, built, check, children, columns
@@ -116,12 +116,6 @@ def tabling(data):
         climbed = [head(data, built(data, start), v) for v in range(1, n + 1)]
         compared.settle(columns(data, start)[3] == climbed, "plain.py's table has other heads than its climbs")
     return compared.result()
-
-
-def summed(results):
-    """Of several comparisons, the calls and the differences."""
-    pairs = list(results)
-    return sum(count for count, _ in pairs), [difference for _, found in pairs for difference in found]
 
 
 # A record and an index

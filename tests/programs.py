@@ -1,7 +1,8 @@
 """What the tests that compile and run programs share: the compilers, what the gate has built, scratch copies of the
 tree, and a tally.
 
-The archive is target/staticlib/libcelduga.a, or the file that CELDUGA_ARCHIVE names; the listing program is
+The archive is target/staticlib/libcelduga.a, or the file that CELDUGA_ARCHIVE names; the one of the field reader, which
+is not for users, is target/staticlib/libbits_export.a, or what CELDUGA_FIELD_ARCHIVE names; the listing program is
 target/bin/loomlist, or the one that CELDUGA_LOOMLIST names.
 """
 import os
@@ -13,6 +14,7 @@ from pathlib import Path
 
 ROOT = Path(__file__).resolve().parent.parent
 ARCHIVE = Path(os.environ.get("CELDUGA_ARCHIVE") or ROOT / "target/staticlib/libcelduga.a").resolve()
+FIELD_ARCHIVE = Path(os.environ.get("CELDUGA_FIELD_ARCHIVE") or ROOT / "target/staticlib/libbits_export.a").resolve()
 LOOMLIST = Path(os.environ.get("CELDUGA_LOOMLIST") or ROOT / "target/bin/loomlist").resolve()
 HEADER = ROOT / "include/celduga.h"
 STRICT = ["-Wall", "-Wextra", "-pedantic", "-Werror", "-O1", f"-I{ROOT / 'include'}"]
@@ -69,6 +71,10 @@ def archive():
     return built(ARCHIVE, "rt staticlib celduga", "CELDUGA_ARCHIVE")
 
 
+def field_archive():
+    return built(FIELD_ARCHIVE, "rt staticlib bits_export", "CELDUGA_FIELD_ARCHIVE")
+
+
 def loomlist():
     return built(LOOMLIST, "rt check loomlist", "CELDUGA_LOOMLIST")
 
@@ -107,13 +113,15 @@ def stand_in(folder):
     gate has built into place and adds its words to the file `calls`; it fails for all other words."""
     folder.mkdir(parents=True)
     program = folder / "rt"
-    archive, loomlist, calls = (shlex.quote(str(file)) for file in (ARCHIVE, LOOMLIST, folder / "calls"))
+    files = ARCHIVE, FIELD_ARCHIVE, LOOMLIST, folder / "calls"
+    archive, field_archive, loomlist, calls = (shlex.quote(str(file)) for file in files)
     program.write_text(f"""#!/bin/sh
 set -eu
 [ -f crates.txt ]
 echo "$*" >>{calls}
 case "$*" in
     'staticlib celduga') mkdir -p target/staticlib && cp {archive} target/staticlib/libcelduga.a ;;
+    'staticlib bits_export') mkdir -p target/staticlib && cp {field_archive} target/staticlib/libbits_export.a ;;
     'check loomlist') mkdir -p target/bin && cp {loomlist} target/bin/loomlist ;;
     *) echo "rt $*: it is not known here" >&2 && exit 2 ;;
 esac

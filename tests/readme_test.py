@@ -18,7 +18,7 @@ import hosts_test
 from families import shown
 from packing import SAMPLE, record
 from plain import answer, blocks_of, built, check, head, listing, sizes
-from programs import C, CPP, ROOT, archive, demand, loomlist, run, stand_in, tally, tree
+from programs import C, CPP, ROOT, archive, demand, field_archive, loomlist, run, stand_in, tally, tree
 from shapes import FIXED, limits, listed, ring
 
 README = ROOT / "README.md"
@@ -138,7 +138,7 @@ class Reader:
 
     def runs(self, block):
         """The lines of a block, in one shell: all end with status 0, and print what they must."""
-        archive(), loomlist()
+        archive(), field_archive(), loomlist()
         whole = block.text.replace("\\\n", " ").splitlines()
         lines = [line for line in whole if line.strip() and not line.startswith("#")]
         unknown = [line for line in lines if not calls(line)]
