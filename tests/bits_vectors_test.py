@@ -53,6 +53,9 @@ def lines():
         yield from ask(MIXED, 60 + shift, 5)
         yield from fields(MIXED, 192 + shift)
         yield from fields(MIXED, 361 + shift)
+        # a field that begins in byte 26 ends in byte 27 or in byte 28
+        yield from fields(MIXED[:28], 208 + shift)
+        yield from fields(MIXED[:29], 208 + shift)
         yield from write(shift, 0xABC)
         yield from write(20 + shift, 0x543)
         yield from write(44 + shift, 0xABC)

@@ -193,7 +193,8 @@ fn sample() {
     string(&bytes[..0], 0, 0);
 }
 
-// Strings, fields and writes at one of the starting bits of a byte.
+// Strings, fields and writes at one of the starting bits of a byte. A field that begins in byte 26 ends in byte 27 or
+// in byte 28, so one of the two parts has no byte behind it.
 fn at(shift: usize)
     requires { ⌜ shift ≤ 8 ⌝ }
 {
@@ -203,6 +204,8 @@ fn at(shift: usize)
     string(bytes, 60 + shift, 5);
     fields(bytes, 192 + shift);
     fields(bytes, 361 + shift);
+    fields(&bytes[..28], 208 + shift);
+    fields(&bytes[..29], 208 + shift);
     write(shift, 0xABC);
     write(20 + shift, 0x543);
     write(44 + shift, 0xABC);
