@@ -24,11 +24,17 @@
 #include <time.h>
 
 enum { MOST_N = 4096, MOST_M = 16384, MOST_INDEX = 3 * 4608 + 6144, ARGUMENTS = 1024, ROUNDS = 40, QUERY_ROUNDS = 50,
-       STRING_ROUNDS = 200, LENGTHS = 7, COLUMNS = 4, SHOWN = 3 };
+       STRING_ROUNDS = 200, LENGTHS = 7, COLUMNS = 4, SHOWN = 3, FIELD_BYTES = 4096, FIELDS = 1 << 18, ORDERS = 2 };
+
+/* The bits at which a field can start in so many bytes. */
+enum { FIELD_STARTS = 8 * FIELD_BYTES - 11 };
 
 /* The records of the smallest size, and of all: each size has a quarter as many as the one before, so that they make up
    one volume. */
 enum { COPIES = 1 << 2 * (SIZES - 1), RECORDS = (4 * COPIES - 1) / 3 };
+
+/* The product's reader of one field, which is in an archive of its own. */
+size_t bits_read12(const uint8_t *bytes, size_t len, size_t start);
 
 /* All operations under one name each. */
 struct side {
@@ -44,26 +50,27 @@ struct side {
     uint32_t (*two[2])(const uint8_t *, size_t, const uint8_t *, size_t, size_t, size_t);
     size_t (*rank)(const uint8_t *, size_t, size_t, size_t, size_t);
     size_t (*select)(const uint8_t *, size_t, size_t, size_t, size_t);
+    size_t (*field)(const uint8_t *, size_t, size_t);
 };
 
 static const struct side product = { celduga_check, celduga_build, celduga_unpack, celduga_loop_figure, celduga_table,
     celduga_degree, celduga_neighbours,
     { celduga_parent, celduga_head, celduga_children, celduga_visit, celduga_visited },
     { celduga_ancestor, celduga_child },
-    celduga_rank, celduga_select };
+    celduga_rank, celduga_select, bits_read12 };
 
 static const struct side plain = { plain_check, plain_build, plain_unpack, plain_loop_figure, plain_table,
     plain_degree, plain_neighbours,
     { plain_parent, plain_head, plain_children, plain_visit, plain_visited }, { plain_ancestor, plain_child },
-    plain_rank, plain_select };
+    plain_rank, plain_select, plain_read12 };
 
 /* What is called. BUILD and TABLE have the start that is asked, which is 1 where they are timed; BUILD_LAST is Build
    from the last terminal. PARENT to VISITED are the side's queries of one argument, ANCESTOR and CHILD those of two. */
 enum op { CHECK, BUILD, BUILD_LAST, UNPACK, LOOPS, TABLE, WHOLE, DEGREE = WHOLE, NEIGHBOURS, PARENT, HEAD, CHILDREN,
-          VISIT, VISITED, ANCESTOR, CHILD, RANK, SELECT, OPS };
+          VISIT, VISITED, ANCESTOR, CHILD, RANK, SELECT, FIELD, OPS };
 
 static const char *const op_names[OPS] = { "Check", "Build", "Build from n", "Unpack", "Loop figure", "Table", "Degree",
-    "Neighbours", "Parent", "Head", "Children", "Visit", "Visited", "Ancestor", "Child", "Rank", "Select" };
+    "Neighbours", "Parent", "Head", "Children", "Visit", "Visited", "Ancestor", "Child", "Rank", "Select", "Field" };
 
 /* What one side writes to. The columns are Table's: visit numbers, parents, counts of children and heads. */
 struct room {
@@ -127,6 +134,8 @@ static inline size_t call(const struct side *s, struct room *r, enum op op, size
         return s->rank(string, string_len, string_start, string_places, a);
     case SELECT:
         return s->select(string, string_len, string_start, string_places, a);
+    case FIELD:
+        return s->field(string, string_len, a);
     default:
         if (op < ANCESTOR)
             return s->one[op - PARENT](bytes, len, r->index, index_len, a);
@@ -322,6 +331,27 @@ static void compare_strings(const struct record *r, uint64_t *state)
     }
 }
 
+/* The drawn bytes in which fields are read. */
+static void ask_fields(void)
+{
+    static uint8_t bytes[FIELD_BYTES];
+    uint64_t state = 17;
+    size_t i;
+    for (i = 0; i < sizeof bytes; i++)
+        bytes[i] = (uint8_t)draw(&state, 256);
+    string = bytes;
+    string_len = sizeof bytes;
+}
+
+/* The field at every starting bit. */
+static void compare_fields(void)
+{
+    size_t at;
+    ask_fields();
+    for (at = 0; at < FIELD_STARTS; at++)
+        same(FIELD, at, 0);
+}
+
 /* All records of a size that are timed, which are accepted; the first comes last, and stays. */
 static void compare_timed(int shape, int size, struct record *r)
 {
@@ -351,6 +381,7 @@ static void compare_all(void)
             compare_strings(&r, &state);
         }
     }
+    compare_fields();
 }
 
 /* ---- timing ---- */
@@ -368,7 +399,7 @@ struct times {
 
 /* The least times. */
 static struct {
-    struct times whole[SHAPES][SIZES][WHOLE], queries[SHAPES][SHOWN][RANK], strings[LENGTHS][2];
+    struct times whole[SHAPES][SIZES][WHOLE], queries[SHAPES][SHOWN][RANK], strings[LENGTHS][2], fields[ORDERS];
 } least;
 
 /* The sizes at which queries are timed, and whose ratios are told. Dense and clique have fewer terminals, and records
@@ -379,7 +410,11 @@ static const char *const shown_names[SHOWN] = { "n = 64", "n = 256", "largest" }
 /* The places of the strings that are timed. */
 static const size_t lengths[LENGTHS] = { 20, 60, 250, 1000, 4000, 36864, 430000 };
 
-/* The least and the greatest ratio of each operation, by size; of Rank and Select over all lengths, at 0. */
+/* The orders in which fields are timed. */
+static const char *const order_names[ORDERS] = { "in a row", "drawn" };
+
+/* The least and the greatest ratio of each operation, by size; at 0, of Rank and Select over all lengths, and of Field
+   over both orders. */
 static struct {
     double least, greatest;
 } ratios[OPS][SIZES];
@@ -622,6 +657,48 @@ static void print_strings(void)
     }
 }
 
+/* The time of a field, read at each of these starting bits. */
+static double pass_fields(const struct side *s, const uint16_t *starts)
+{
+    size_t i, sum = 0;
+    double from = now();
+    for (i = 0; i < FIELDS; i++)
+        sum += s->field(string, string_len, starts[i]);
+    sink = sum;
+    return (now() - from) / FIELDS;
+}
+
+/* Fields in a row, as a record has them, and at drawn starting bits: so many that the processor, which learns a shorter
+   list, can't foresee whether a field lies in two bytes or in three. */
+static void measure_fields(void)
+{
+    static uint16_t starts[ORDERS][FIELDS];
+    uint64_t state = 19;
+    size_t i;
+    int round, o;
+    ask_fields();
+    for (i = 0; i < FIELDS; i++) {
+        starts[0][i] = (uint16_t)(12 * i % FIELD_STARTS);
+        starts[1][i] = (uint16_t)draw(&state, FIELD_STARTS);
+    }
+    for (round = 0; round < STRING_ROUNDS; round++) {
+        for (o = 0; o < ORDERS; o++) {
+            double a = pass_fields(&product, starts[o]);
+            keep_least(&least.fields[o], a, pass_fields(&plain, starts[o]));
+        }
+    }
+}
+
+static void print_fields(void)
+{
+    int o;
+    printf("| starting bits | Field | plain | ratio |\n|---|--:|--:|--:|\n");
+    for (o = 0; o < ORDERS; o++) {
+        struct times t = least.fields[o];
+        printf("| %s | %.2f | %.2f | %.2f |\n", order_names[o], t.product, t.plain, noted(FIELD, 0, t));
+    }
+}
+
 static void print_ratios(void)
 {
     int op, i;
@@ -640,7 +717,7 @@ static void print_ratios(void)
     }
 }
 
-static void print_string_ratios(void)
+static void print_other_ratios(void)
 {
     int op;
     printf("| operation | least | greatest |\n|---|--:|--:|\n");
@@ -730,6 +807,7 @@ static int measure(const char *path)
         for (i = 0; i < SHOWN; i++)
             measure_queries(shape, i);
     measure_strings();
+    measure_fields();
     file = fopen(path, "wb");
     if (file == NULL)
         return 1;
@@ -747,10 +825,12 @@ static int print(const char *path)
     print_queries();
     printf("\n### Strings: nanoseconds of the product per call and per word read, and product / plain\n\n");
     print_strings();
+    printf("\n### One field: nanoseconds of the product and of plain C per field, and product / plain\n\n");
+    print_fields();
     printf("\n### Ratios: product / plain, the least and the greatest over the shapes\n\n");
     print_ratios();
-    printf("\n### Ratios of Rank and Select: the least and the greatest over the lengths of strings\n\n");
-    print_string_ratios();
+    printf("\n### Ratios of Rank, Select and Field: the least and the greatest over the rows of their tables\n\n");
+    print_other_ratios();
     return 0;
 }
 

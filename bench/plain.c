@@ -166,7 +166,7 @@ size_t plain_select(const uint8_t *bytes, size_t len, size_t start, size_t place
     return 0;
 }
 
-/* The field of 12 bits from bit `start` on. */
+/* The field of 12 bits from bit `start` on, with a branch on two bytes or three. */
 static inline size_t read12(const uint8_t *bytes, size_t start)
 {
     const uint8_t *p = bytes + start / 8;
@@ -174,6 +174,12 @@ static inline size_t read12(const uint8_t *bytes, size_t start)
     if (off <= 4)
         return ((size_t)p[0] << 8 | p[1]) >> (4 - off) & 4095;
     return ((size_t)p[0] << 16 | (size_t)p[1] << 8 | p[2]) >> (12 - off) & 4095;
+}
+
+size_t plain_read12(const uint8_t *bytes, size_t len, size_t start)
+{
+    (void)len;
+    return read12(bytes, start);
 }
 
 /* ---- record ---- */

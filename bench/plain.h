@@ -1,4 +1,5 @@
-/* Every operation of celduga.h in plain C: what the product is measured against. Arguments and answers are the same. */
+/* Every operation of celduga.h, and bits_read12, in plain C: what the product is measured against. Arguments and
+   answers are the same. */
 #ifndef PLAIN_H
 #define PLAIN_H
 
@@ -26,5 +27,8 @@ uint32_t plain_visited(const uint8_t *record, size_t len, const uint8_t *index, 
 
 size_t plain_rank(const uint8_t *bytes, size_t len, size_t start, size_t places, size_t p);
 size_t plain_select(const uint8_t *bytes, size_t len, size_t start, size_t places, size_t k);
+
+/* The field of 12 bits from bit `start` on, which the bytes hold. */
+size_t plain_read12(const uint8_t *bytes, size_t len, size_t start);
 
 #endif
