@@ -26,13 +26,13 @@ impl<'a> Neighbours<'a> {
         self.fields.start
     }
 
-    /// The terminal in a field, which has 12 bits and lies in two bytes or in three.
+    /// The terminal in a field, which has 12 bits and lies in two bytes or in three. Three are joined: the one in which
+    /// it begins, the next, and the one in which it ends. Where that is the next again, its second copy is shifted out.
     fn terminal(&self, field: usize) -> Vertex {
         let bytes = self.record.as_bytes();
         let bit = self.record.sizes().fields_start() + 12 * field;
-        let word = (0..3).fold(0, |word, i| {
-            word << 8 | usize::from(bytes.get(bit / 8 + i).copied().unwrap_or(0))
-        });
+        let taken = [bit / 8, bit / 8 + 1, (bit + 11) / 8];
+        let word = taken.iter().fold(0, |word, &i| word << 8 | usize::from(bytes[i]));
         Vertex((word >> (12 - bit % 8) & 0xFFF) + 1)
     }
 }
