@@ -1,12 +1,16 @@
 """Compares docs/FORMAT.md with plain.py: the sample's record and index bit by bit, the other records and indexes of the
-page, every call that it gives with an answer, the listing, and at several sizes the offsets and lengths.
+page, every call that it gives with an answer, the listing, at several sizes the offsets and lengths, and at each
+starting bit the formula of a field.
 """
 import re
 import sys
 from itertools import product
+from math import floor
+from random import Random
 
 import plain
-from packing import SAMPLE, binary, bits_of, index_layout, index_length, layout, record, record_length, unary, whole
+from packing import SAMPLE, binary, bits_of, fields_of, index_layout, index_length, layout, record, record_length
+from packing import unary, whole
 from plain import answer, built, check, rows, sizes
 from programs import ROOT, demand
 
@@ -195,8 +199,10 @@ def starts(page):
 
 def value(formula, **names):
     """What a formula of the page comes to."""
-    text = re.sub(r"⌈(.+?) / 8⌉", r"whole(\1)", formula.replace("·", "*").replace("−", "-"))
-    return eval(text, {"__builtins__": {}}, dict(names, whole=whole))
+    text = re.sub(r"⌈(.+?) / 8⌉", r"whole(\1)", formula)
+    for sign, meant in {"·": "*", "−": "-", "^": "**", "⌊": "floor(", "⌋": ")", "mod": "%"}.items():
+        text = text.replace(sign, meant)
+    return eval(text, {"__builtins__": {}}, dict(names, whole=whole, floor=floor))
 
 
 def width(text, **names):
@@ -235,6 +241,18 @@ def index_sections(page):
         same(f"the bits at n = {n}, m = {m}", [n + 2 * m] * 3 + [12 * n], [width(row[2], n=n, m=m) for row in sections])
         same(f"an index's length at n = {n}, m = {m}", index_length(n, m), value(length, n=n, s=s))
         same(f"the number of terminal 3 at n = {n}, m = {m}", 24 * s + 24, value(number, s=s, v=3))
+
+
+def field_formula(page):
+    """It gives the field at each starting bit, here in bytes that end with it."""
+    text = titled(page, "Bits")
+    [(first, offset)], [formula] = sought(r"with i = (.*?) and r = (.*?),", text), drawn(text)
+    rng = Random("fields")
+    for b in range(24):
+        size = whole(b + 12)
+        for data in bytes(size), b"\xff" * size, *(rng.randbytes(size) for _ in range(50)):
+            found = value(formula, i=value(first, b=b), r=value(offset, b=b), byte=data.__getitem__)
+            same(f"the field at bit {b} of {hexadecimal(data)}", fields_of(plain.string(data, b, 12)), [found])
 
 
 def limits(page):
@@ -418,8 +436,8 @@ def program(page):
     same("the listing", plain.listing(SAMPLE_RECORD).splitlines(), drawn(titled(page, "The program `loomlist`")))
 
 
-TESTS = [definitions, sample_record, sample_index, sample_from_4, starts, record_layout, index_sections, limits]
-TESTS += [small_records, refused_records, indexes, refusals, operations, examples, results, figures, program]
+TESTS = [definitions, sample_record, sample_index, sample_from_4, starts, record_layout, index_sections, field_formula]
+TESTS += [limits, small_records, refused_records, indexes, refusals, operations, examples, results, figures, program]
 
 
 def main():
