@@ -6,15 +6,13 @@ import ctypes
 import faulthandler
 import mmap
 import re
-import subprocess
 import sys
-import tempfile
 from pathlib import Path
 from random import Random
 
 import shapes
-from families import fail, shown, summed, tally
-from header import Lent, address, close, shared
+from families import shown, summed, tally
+from header import Lent, address, close, with_library
 from packing import bits_of, number, packed, whole
 from plain import built, parts, sections_of, sizes
 from programs import ARCHIVE, C, FIELD_ARCHIVE, demand, run
@@ -198,17 +196,9 @@ def families(room):
     }
 
 
-def main():
-    for file in ARCHIVE, FIELD_ARCHIVE:
-        if not file.is_file():
-            return fail(f"the archive is missing: {file}")
-    with tempfile.TemporaryDirectory() as room:
-        try:
-            library = shared(FIELD_ARCHIVE, room)
-        except (OSError, subprocess.CalledProcessError) as error:
-            return fail(f"no shared library could be made of the archive: {error}")
-        return tally(families(room), "comparisons", load, [library])
+def compare(library, room):
+    return tally(families(room), "comparisons", load, [library])
 
 
 if __name__ == "__main__":
-    sys.exit(main())
+    sys.exit(with_library(FIELD_ARCHIVE, compare))

@@ -7,11 +7,12 @@ import faulthandler
 import mmap
 import re
 import subprocess
+import tempfile
 from itertools import chain
 from pathlib import Path
 
 import plain
-from families import shown
+from families import fail, shown
 from programs import HEADER
 
 GUARD = bytes(range(0xC0, 0x100))
@@ -48,8 +49,21 @@ SLICE, NUMBER = [ctypes.c_void_p, ctypes.c_size_t], [ctypes.c_size_t]
 def shared(archive, room):
     """A shared library of the archive, in this directory."""
     library = Path(room) / f"{Path(archive).stem}.so"
-    subprocess.run(["cc", "-shared", "-o", library, "-Wl,--whole-archive", archive, "-Wl,--no-whole-archive"], check=True)
+    whole = ["-Wl,--whole-archive", archive, "-Wl,--no-whole-archive"]
+    subprocess.run(["cc", "-shared", "-o", library, *whole], check=True)
     return library
+
+
+def with_library(archive, test):
+    """The exit status of a test that is given a shared library of the archive and a scratch folder."""
+    if not archive.is_file():
+        return fail(f"the archive is missing: {archive}")
+    with tempfile.TemporaryDirectory() as room:
+        try:
+            library = shared(archive, room)
+        except (OSError, subprocess.CalledProcessError) as error:
+            return fail(f"no shared library could be made of the archive: {error}")
+        return test(library, room)
 
 
 def exported(library):

@@ -3,16 +3,14 @@
 The numbers passed in vary, and so do the lengths of the lent slices and what they hold before. A refusal leaves the buffer for the result
 as it was, and nothing is written outside what is lent.
 """
-import subprocess
 import sys
-import tempfile
 from array import array
 from itertools import chain, combinations, product
 from random import Random
 
 import shapes
 from families import fail, summed, tally
-from header import FUNCTIONS, LISTS, Compared, exported, header_version, lent, load, shared
+from header import FUNCTIONS, LISTS, Compared, exported, header_version, lent, load, with_library
 from packing import WIRE, bits_of, index_layout, index_length, layout, packed, record
 from plain import MOST_TERMINALS, MOST_WIRES, answer, blocks_of, bridges_of, build, built, check, children, columns
 from plain import head, index_by, joined, order_r, sizes, table, unpack, wires, without
@@ -404,18 +402,11 @@ def families():
     }
 
 
-def main():
-    if not ARCHIVE.is_file():
-        return fail(f"the archive is missing: {ARCHIVE}")
-    with tempfile.TemporaryDirectory() as room:
-        try:
-            library = shared(ARCHIVE, room)
-        except (OSError, subprocess.CalledProcessError) as error:
-            return fail(f"no shared library could be made of the archive: {error}")
-        if exported(library) != set(FUNCTIONS):
-            return fail(f"exported: {sorted(exported(library))}, compared here: {sorted(FUNCTIONS)}")
-        return tally(families(), "calls", load, [library])
+def compare(library, room):
+    if exported(library) != set(FUNCTIONS):
+        return fail(f"exported: {sorted(exported(library))}, compared here: {sorted(FUNCTIONS)}")
+    return tally(families(), "calls", load, [library])
 
 
 if __name__ == "__main__":
-    sys.exit(main())
+    sys.exit(with_library(ARCHIVE, compare))
