@@ -6,13 +6,14 @@ use mathlib.Core.Logic.{_⊎_, inr, _↔_}
 use mathlib.Core.Bool.{Bool, true, false}
 use mathlib.Core.List.{List, [], _∷_, List·Memᴰ, flatten}
 use lib.Dec.{eqb}
-use lib.ListN.{length}
-use Rattle.graph.specs.Graph.{Blocks, block, Place, position, pair, twin, WellFormed}
+use lib.ListN.{length, take}
+use Rattle.graph.specs.Graph.{Blocks, block, Place, mentions, position, pair, twin, WellFormed}
 use Rattle.graph.specs.Search.{Forest, PlaceTest, all, entered, search, countUp, startsFrom, forest}
 use Rattle.graph.specs.Joined.{Chain, without, joined, bridge, DoublyJoined}
 use Rattle.graph.specs.Forest.{number, vertexAt, parent, rootOf, head, Ancestor, children, childMark, parentMark}
 use Rattle.graph.specs.Walk.{walk}
-use Rattle.graph.specs.Laws.Places.Pairing.{InRange, Balanced, both-ends}
+use Rattle.graph.specs.Laws.Places.Mentions.{Mention}
+use Rattle.graph.specs.Laws.Places.Pairing.{InRange, Balanced, pair-told, both-ends}
 use Rattle.graph.specs.Laws.Tree.Entries.{entered-test, test-entered}
 use Rattle.graph.specs.Laws.Tree.Numbers.{vertex-number, number-vertex, vertex-entered, parent-first}
 use Rattle.graph.specs.Laws.Tree.Climbs.{slot, child-entry}
@@ -26,7 +27,7 @@ use Rattle.graph.specs.Laws.Joined.Roots.{same-root-joined}
 use Rattle.graph.specs.Laws.Edges.Marks.{child-mark, child-mark-entry, child-mark-first, mark-paired}
 use Rattle.graph.specs.Laws.Edges.Marks.{marked-back, back-once, root-unmarked, parent-mark-first}
 use Rattle.graph.specs.Laws.Edges.Children.{marked, marks, marked-length, children-marked}
-use Rattle.graph.specs.Laws.Bridges.Crossings.{bridge-joined, bridge-twin, outside-no-bridge}
+use Rattle.graph.specs.Laws.Bridges.Crossings.{bridge-joined, bridge-twin, doubled-no-bridge, outside-no-bridge}
 use Rattle.graph.specs.Laws.Bridges.Crossings.{Crossing, bridge-crossing}
 use Rattle.graph.specs.Laws.Bridges.Stores.{Stored}
 use Rattle.graph.specs.Laws.Bridges.Lowpoints.{Lows, Lowpoints, bridge-lowpoint}
@@ -45,6 +46,11 @@ start-covers = starts-cover
 -- a graph of wires is balanced with itself: where h is g, `pair` is `twin`
 pub wires-balance : {g : Blocks} → WellFormed g → Balanced g g
 wires-balance = both-ends
+
+-- the two places of a wire: the k-th mention of v at u, and of u at v
+pub wire-places : {g : Blocks} → WellFormed g → {u j v : ℕ} → Place g u j v → (i : ℕ)
+    → (i ≡ twin g u j) ↔ Mention u (block g v) (mentions v (take j (block g u))) i
+wire-places wf = pair-told (both-ends wf)
 
 module _ {g : Blocks} (r : InRange g) {starts : List ℕ} (cov : Covers g starts) where
   spans : Spanning g (search g all starts)
@@ -237,6 +243,11 @@ bridge-told = bridge-joined
 
 pub bridge-both : {g : Blocks} → WellFormed g → {u j v : ℕ} → Place g u j v → bridge g v (twin g u j) ≡ bridge g u j
 bridge-both = bridge-twin
+
+-- of several wires between two vertices none is a bridge
+pub no-bridge-doubled : {g : Blocks} → WellFormed g → {u i j v : ℕ} → Place g u j v → Place g u i v → (i ≡ j → ⊥)
+    → bridge g u j ≡ false
+no-bridge-doubled = doubled-no-bridge
 
 -- ---- 7. The start is a root and visited first; vertex 0 as the start gives the forest of the vertices in order. Two
 -- starts give the same groups: `same-groups`

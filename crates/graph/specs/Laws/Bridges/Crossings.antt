@@ -50,6 +50,14 @@ module _ {g : Blocks} (wf : WellFormed g) where
       let w : OnWire g v (twin g u j) u j = that (sym (q .leads)) (sym (twin-twin wf p)) in
       chain-sym wf (without-twinned wf q) (chain-map (without-same wf q w) c)
 
+  -- of several wires between two vertices none is a bridge
+  pub doubled-no-bridge : {u i j v : ℕ} → Place g u j v → Place g u i v → (i ≡ j → ⊥) → bridge g u j ≡ false
+  doubled-no-bridge {u} {i} {j} p q n = bridge-joined (wf .in-range) p .1 (chain-one q (wire-stays g u j u i other))
+    where
+      other : OnWire g u j u i → ⊥
+      other (this a b) = n b
+      other (that a b) = wf .no-loop u j (record { fits = p .fits; leads = sym a })
+
   -- both places of a wire bear the mark, or neither
   pub bridge-twin : {u j v : ℕ} → Place g u j v → bridge g v (twin g u j) ≡ bridge g u j
   bridge-twin {u} {j} {v} p = go (told (bridge g u j)) (told (bridge g v (twin g u j)))

@@ -106,6 +106,14 @@ mention-found v (x ∷ l) (suc j) h e = go (ℕ-discrete v x) (mention-found v l
 
 -- ---- the first mention
 
+pub first-mention : (v : ℕ) (l : List ℕ) (j : ℕ) → j < length l → getD l j 0 ≡ v
+    → (j ≡ position v l 0) ↔ (mentions v (take j l) ≡ 0)
+first-mention v l j h e =
+    let f = mention-found v l j h e in (
+      λ q. (let a = f .counted in ap (λ i. mentions v (take i l)) q ∙ mention-at v l 0 (omega arith) .before),
+      λ z. sym (f .found) ∙ ap (position v l) z,
+    )
+
 pub none-before : (v : ℕ) (l : List ℕ) (j : ℕ) → ((i : ℕ) → i < j → i < length l → getD l i 0 ≡ v → ⊥)
     → mentions v (take j l) ≡ 0
 none-before v l zero h = mentions-nil v

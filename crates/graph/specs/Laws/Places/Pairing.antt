@@ -1,6 +1,7 @@
 -- Places of two sides in pairs, and the twin: pairing swaps the ends and goes back.
 use Prim.Native.Nat.{ℕ, zero, suc, _<_}
-use mathlib.Core.Path.{_≡_, refl, sym}
+use mathlib.Core.Path.{_≡_, refl, sym, _∙_, ap}
+use mathlib.Core.Logic.{_↔_}
 use mathlib.Core.List.{[], _∷_}
 use native.Mathlib.Omega.{arith}
 use native.Mathlib.Decide.{decLt}
@@ -67,6 +68,18 @@ module _ {g h : Blocks} (b : Balanced g h) where
       let f = mention-found v (block g u) j (p .fits) (p .leads) in
       rw (p .leads)
       (mention-at u (block h v) (mentions v (take j (block g u))) (omega (arith, f .counted, b .same u v)))
+
+  -- the k-th mention is paired with the k-th, and with no other
+  pub pair-told : {u j v : ℕ} → Place g u j v → (i : ℕ)
+      → (i ≡ pair g h u j) ↔ Mention u (block h v) (mentions v (take j (block g u))) i
+  unfolding pair
+  pair-told {u} {j} {v} p i = (
+    λ e. rw e (pair-mention p),
+    λ m.
+        sym (mention-found u (block h v) i (m .inside) (m .there) .found)
+        ∙ ap (position u (block h v)) (m .before)
+        ∙ ap (λ x. position u (block h x) (mentions x (take j (block g u)))) (sym (p .leads)),
+  )
 
   pub pair-place : {u j v : ℕ} → Place g u j v → Place h v (pair g h u j) u
   pair-place p = let r = pair-mention p in record { fits = r .inside; leads = r .there }
