@@ -5,11 +5,9 @@ pub mod Parts
 pub mod Counts
 pub mod Loops
 pub mod Strays
-pub mod Marks
-pub mod Doubled
 pub mod Nexts
 pub mod Totals
 pub mod Turned
-pub mod Matched
 pub mod Mutual
+pub mod Reversed
 pub mod Orderly

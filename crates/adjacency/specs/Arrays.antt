@@ -3,7 +3,6 @@
 --   cut starts nbrs      the graph that the two arrays hold: the parts of the row between one start and the next
 --   Divided starts nbrs  the starts rise from 0 to the end of the row
 --   Arrays starts nbrs   and each neighbour is a vertex
---   At starts nbrs u     and u is a vertex
 --   Holds starts u p     place p is in u's block
 --   upTo starts nbrs u p what a loop over the places has passed of u's block
 use Prim.Native.Nat.{ℕ, _+_, _-_, _≤_, _<_}
@@ -31,11 +30,6 @@ pub record Divided (starts nbrs : List ℕ) : Type 0 where
 pub record Arrays (starts nbrs : List ℕ) : Type 0 where
   pub divided : Divided starts nbrs
   pub known : (p : ℕ) → p < length nbrs → getD nbrs p 0 + 1 < length starts
-
--- u is a vertex of such arrays
-pub record At (starts nbrs : List ℕ) (u : ℕ) : Type 0 where
-  pub arrays : Arrays starts nbrs
-  pub inside : u + 1 < length starts
 
 -- place p is in u's block
 pub record Holds (starts : List ℕ) (u p : ℕ) : Type 0 where

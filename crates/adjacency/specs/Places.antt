@@ -1,8 +1,8 @@
--- Tests at the places of a graph, and the three that document 01's rules 6 to 8 ask for.
+-- Tests at the places of a graph, and the two that rules 6 and 8 ask for.
 use mathlib.Core.Bool.{Bool, false, not, _||_}
 use mathlib.Core.List.{List, [], _∷_}
 use Prim.Native.Nat.{ℕ, suc}
-use lib.Dec.{eqb, leb, ltb}
+use lib.Dec.{eqb, leb}
 use lib.ListN.{length}
 use Rattle.graph.specs.Graph.{Blocks, block, mentions}
 
@@ -23,11 +23,6 @@ anyPlace test g = anyFrom test 0 g
 unfoldable pub stray : Blocks → ℕ → ℕ → Bool
 stray g u v = leb (length g) v || eqb v u
 
--- a neighbour that stands twice in one block
-unfoldable pub doubled : Blocks → ℕ → ℕ → Bool
-doubled g u v = ltb 1 (mentions v (block g u))
-
--- a wire listed at one end only: the two ends mention each other a different number of times. Where rule 7 is kept,
--- each count is 0 or 1
+-- a wire listed at one end only: the two ends mention each other a different number of times
 unfoldable pub oneSided : Blocks → ℕ → ℕ → Bool
 oneSided g u v = not (eqb (mentions v (block g u)) (mentions u (block g v)))

@@ -1,7 +1,7 @@
 // Cells of 16 bits, read and written as numbers of the machine's width.
 ghost use mathlib.Core.Path.{_≡_};
 ghost use Prim.Native.Nat.{_<_};
-ghost use lib.ListN.{length, getD, set, replicate};
+ghost use lib.ListN.{length, getD, set};
 
 fn wide(x: u16) -> usize
     ensures { λ r. ⌜ (r ≡ x) × (r < 65536) ⌝ }
@@ -23,15 +23,4 @@ pub fn put(cells: &mut [u16], i: usize, x: usize)
     ensures { λ _. ⌜ now (cells .exit) ≡ set (now (cells .entry)) i x ⌝ }
 {
     cells[i] = x as u16;
-}
-
-// Every cell becomes 0.
-pub fn clear(cells: &mut [u16])
-    ensures { λ _. ⌜ now (cells .exit) ≡ replicate (length (now (cells .entry))) 0 ⌝ }
-{
-    let mut i = 0;
-    while i < cells.len() {
-        cells[i] = 0;
-        i += 1;
-    }
 }

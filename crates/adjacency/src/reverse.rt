@@ -1,15 +1,16 @@
-// Whether rules 6 to 8 are kept, in two passes over the places. The blocks are turned round: in a second row, cut by
-// the same starts, part v lists the vertices whose blocks have v, in order. Each part is full then, since together
-// they have as many cells as there are places. The parts turned round once more must be the parts themselves, which is
-// found by reading on in each of them. Then every two vertices mention each other equally often. Where the rules are
-// kept, the parts are their own: both list the same vertices, and both rise.
+// Whether rules 6 and 8 are kept, in two passes over the places. The blocks are turned round: in a second row, cut by
+// the same starts, part v lists the vertices whose blocks have v, in order, each as often as its block has v. Each part
+// is full then, since together they have as many cells as there are places. The parts turned round once more must be
+// the parts themselves, which is found by reading on in each of them. Then every two vertices mention each other
+// equally often. Where the rules are kept, the parts are their own: both list the same vertices equally often, and
+// neither falls.
 ghost use mathlib.Core.Path.{_≡_};
 ghost use Prim.Native.Nat.{_+_, _-_, _<_};
 ghost use lib.ListN.{length};
 ghost use Rattle.graph.specs.Graph.{Blocks};
 ghost use Rattle.adjacency.specs.Arrays.{cut, Divided, Holds};
 ghost use Rattle.adjacency.specs.Reverse.{Turned, Turning, TurnedBefore, Matching, AtStarts};
-ghost use Rattle.adjacency.specs.Reverse.{Kept, Orderly};
+ghost use Rattle.adjacency.specs.Reverse.{Reversed, Kept, Orderly};
 ghost use Rattle.adjacency.specs.Tally.{Tells};
 use super::cells::get;
 use super::cells::put;
@@ -102,22 +103,20 @@ fn turn_all(starts: &[u16], nbrs: &[u16], reverse: &mut [u16], next: &mut [u16])
     true
 }
 
-// For the vertex at place p of part u its own part is read on by one, and must have u there.
+// For the vertex at place p of part u its own part is read on by one, and must have u there. The part is not at its
+// end: it has as many places as its vertex has mentions in all parts.
 fn match_place(starts: &[u16], reverse: &[u16], u: usize, p: usize, next: &mut [u16]) -> bool
-    requires { ⌜ (Turned (now starts) (now reverse) (now reverse) (now next) p) × (Holds (now starts) u p) ⌝ }
+    requires { ⌜
+        (Turned (now starts) (now reverse) (now reverse) (now next) p) × (Holds (now starts) u p)
+        × (Reversed (now starts) (now reverse))
+        ⌝ }
     ensures { λ r. ⌜
         Tells (Turned (now (starts .entry)) (now (reverse .entry)) (now (reverse .entry)) (now (next .exit)) (p + 1))
         (Orderly (now (starts .entry)) (now (reverse .entry))) r
         ⌝ }
 {
     let w = get(reverse, p);
-    if starts.len() - 1 <= w {
-        return false;
-    }
     let q = get(next, w);
-    if q == get(starts, w + 1) {
-        return false;
-    }
     if get(reverse, q) != u {
         return false;
     }
@@ -125,9 +124,12 @@ fn match_place(starts: &[u16], reverse: &[u16], u: usize, p: usize, next: &mut [
     true
 }
 
-// The same for all places of part u. Its vertices rise, so none stands in it twice.
+// The same for all places of part u.
 fn match_block(starts: &[u16], reverse: &[u16], u: usize, next: &mut [u16]) -> bool
-    requires { ⌜ (Matching (now starts) (now reverse) (now next) u) × (u + 1 < length (now starts)) ⌝ }
+    requires { ⌜
+        (Matching (now starts) (now reverse) (now next) u) × (u + 1 < length (now starts))
+        × (Reversed (now starts) (now reverse))
+        ⌝ }
     ensures { λ r. ⌜
         Tells (Matching (now (starts .entry)) (now (reverse .entry)) (now (next .exit)) (u + 1))
         (Orderly (now (starts .entry)) (now (reverse .entry))) r
@@ -135,16 +137,10 @@ fn match_block(starts: &[u16], reverse: &[u16], u: usize, next: &mut [u16]) -> b
 {
     let end = get(starts, u + 1);
     let mut p = get(starts, u);
-    let mut least = 0;
     while p < end {
-        let w = get(reverse, p);
-        if w < least {
-            return false;
-        }
         if !match_place(starts, reverse, u, p, next) {
             return false;
         }
-        least = w + 1;
         p += 1;
     }
     true
@@ -152,7 +148,10 @@ fn match_block(starts: &[u16], reverse: &[u16], u: usize, next: &mut [u16]) -> b
 
 // The same for all parts.
 fn match_all(starts: &[u16], reverse: &[u16], next: &mut [u16]) -> bool
-    requires { ⌜ (Divided (now starts) (now reverse)) × (AtStarts (now starts) (now next)) ⌝ }
+    requires { ⌜
+        (Divided (now starts) (now reverse)) × (AtStarts (now starts) (now next))
+        × (Reversed (now starts) (now reverse))
+        ⌝ }
     ensures { λ r. ⌜
         Tells (Matching (now (starts .entry)) (now (reverse .entry)) (now (next .exit))
         (length (now (starts .entry)) - 1))

@@ -1,20 +1,21 @@
--- Demands 2 and 3 as theorems, and what document 02 says of the start: open this file first. The index is any that
--- Build writes for the record, with any start (`Written`), and the marks are the bits of that index; the answers are
--- those of the operations, as `Operations` defines them and as the contracts of the code say. Vertex v - 1 of the graph
--- is terminal v; positions of a block count from 0.
+-- Demands 2 and 3 as theorems, and what document 02 says of the start and of doubled wires: open this file first. The
+-- index is any that Build writes for the record, with any start (`Written`), and the marks are the bits of that index;
+-- the answers are those of the operations, as `Operations` defines them and as the contracts of the code say. Terminal
+-- v is vertex v - 1 of the graph; positions of a block count from 0.
 use mathlib.Core.Path.{_≡_, sym, ap, subst, _∙_}
 use mathlib.Core.Logic.{_⊎_, _↔_}
 use mathlib.Core.Bool.{Bool, true, false}
 use mathlib.Core.List.{List}
 use mathlib.Core.Option.{none}
 use Prim.Native.Nat.{ℕ, suc, _+_, _-_, _*_, _≤_, _<_}
-use lib.ListN.{length, getD}
-use Rattle.graph.specs.Graph.{Blocks, block, Place, twin}
+use lib.ListN.{length, getD, take}
+use Rattle.graph.specs.Graph.{Blocks, block, Place, mentions, twin}
 use Rattle.graph.specs.Search.{Forest, all, search, countUp}
 use Rattle.graph.specs.Joined.{Chain, without}
+use Rattle.graph.specs.Laws.Places.Mentions.{Mention}
 use Rattle.graph.specs.Laws.Tree.Ancestors.{ancestor as ancestorIn}
 use Rattle.graph.specs.Forest.{number, vertexAt, parent as parentIn, head as headIn, Ancestor, children as childrenIn}
-use Rattle.graph.specs.Theorems.{ancestor-told}
+use Rattle.graph.specs.Theorems.{wire-places, ancestor-told}
 use Rattle.record.specs.Record.{terminals, wires, unary, blocks}
 use Rattle.record.specs.Answers.{refused, answered}
 use Rattle.forest.specs.Index.{indexBy, indexOf, markBytes, indexLength}
@@ -26,7 +27,7 @@ use Rattle.queries.specs.Operations.{parent, head, ancestor, children, c
 use Rattle.queries.specs.Written.{Written, forestFrom, Terminal, VisitNumber, Once, HeadsTell, SameAnswers}
 use Rattle.queries.specs.Laws.Answered as Answered
 use Rattle.queries.specs.Laws.Built.{built-own, built-fill, built-rest}
-use Rattle.queries.specs.Laws.Edges.{E-told, P-told, P-as-E, E-as-P, P-none, P-once, B-told, B-both}
+use Rattle.queries.specs.Laws.Edges.{E-told, P-told, P-as-E, E-as-P, P-none, P-once, B-told, B-both, B-doubled}
 use Rattle.queries.specs.Laws.Alike.{alike-answers}
 use Rattle.queries.specs.Laws.Columns.{table-cells}
 use Rattle.queries.specs.Table.{tableOn, tableOf, Tabled}
@@ -62,14 +63,18 @@ module _ {bytes index : List ℕ} (w : Written bytes index) where
   -- ---- Demand 2: the marks
 
   module _ {u j v : ℕ} (p : Place (blocks bytes) u j v) where
-    -- E is set where the neighbour is a child, and P where it is the parent
-    pub child-mark-told : (E u j ≡ true) ↔ (parentIn F v ≡ suc u)
+    -- the other end of the wire is the k-th mention of u at v, where this one is the k-th of v at u
+    pub two-ends : (i : ℕ) → (i ≡ twin g u j) ↔ Mention u (block g v) (mentions v (take j (block g u))) i
+    two-ends = wire-places (Answered.formed w) p
+
+    -- E is set where the neighbour is a child, and P where it is the parent, each where it is mentioned first
+    pub child-mark-told : (E u j ≡ true) ↔ ((parentIn F v ≡ suc u) × (mentions v (take j (block g u)) ≡ 0))
     child-mark-told = E-told w p
 
-    pub parent-mark-told : (P u j ≡ true) ↔ (parentIn F u ≡ suc v)
+    pub parent-mark-told : (P u j ≡ true) ↔ ((parentIn F u ≡ suc v) × (mentions v (take j (block g u)) ≡ 0))
     parent-mark-told = P-told w p
 
-    -- they show the same tree edges from either end
+    -- at the two ends of one wire: they show the same tree edges from either end
     pub same-edges : P v (twin g u j) ≡ E u j
     same-edges = P-as-E w p
 
@@ -83,6 +88,10 @@ module _ {bytes index : List ℕ} (w : Written bytes index) where
     -- at both ends
     pub bridge-marks-both : B v (twin g u j) ≡ B u j
     bridge-marks-both = B-both w p
+
+    -- a doubled wire is no single feed
+    pub doubled-unmarked : {i : ℕ} → Place g u i v → (i ≡ j → ⊥) → B u j ≡ false
+    doubled-unmarked = B-doubled w p
 
   -- a terminal with no mark in its block of P is a root, and any other has just one
   module _ {u : ℕ} (h : u < length (blocks bytes)) where

@@ -1,5 +1,5 @@
--- Document 01's lines that are marked P, all of them, the columns of its listing, and the sample from another start, as
--- one list of cases under one theorem, computed by the checker.
+-- Document 01's lines that are marked P, all of them, as document 02 changes them, the columns of its listing, and the
+-- sample from another start, as one list of cases under one theorem, computed by the checker.
 use mathlib.Core.Path.{_≡_, refl}
 use mathlib.Core.List.{List, [], _∷_, _++_, map, flatten}
 use Prim.Native.Nat.{ℕ, _-_}
@@ -13,7 +13,7 @@ use Rattle.graph.specs.Walk.{walk}
 use Rattle.record.specs.Record.{terminals, wires, usedBits, recordLength, unary, fieldsFrom, fields, zeros, parts}
 use Rattle.record.specs.Record.{blocks, layOut, unaryOf, fieldBits, recordBits, recordOf}
 use Rattle.record.specs.Rules.{firstBroken, beginsWithZero, orderR, spareSet, placeRules, layoutRules, checkRules}
-use Rattle.adjacency.specs.Places.{anyIn, anyFrom, stray, doubled, oneSided}
+use Rattle.adjacency.specs.Places.{anyIn, anyFrom, stray, oneSided}
 use Rattle.record.specs.Answers.{Answer, refused, answered, outcome, otherwise, said}
 use Rattle.record.specs.Operations.{check, otherLength, outOfRange}
 use Rattle.forest.specs.Index.{marksFrom, section, sectionE, sectionP, sectionB, numbers, indexBy, indexOf}
@@ -68,6 +68,16 @@ abbrev pub sampleIndex4 : List ℕ
 sampleIndex4 =
     0x09 ∷ 0x14 ∷ 0x24 ∷ 0x81 ∷ 0x00 ∷ 0x95 ∷ 0x00 ∷ 0x30 ∷ 0x02 ∷ 0x00 ∷ 0x10 ∷ 0x00 ∷ 0x00 ∷ 0x40 ∷ 0x05 ∷ []
 
+-- two wires between the same terminals: the line that gave 7
+abbrev pub doubledBlocks : Blocks
+doubledBlocks = (1 ∷ 1 ∷ []) ∷ (0 ∷ 0 ∷ []) ∷ []
+
+abbrev pub doubled : List ℕ
+doubled = 0x00 ∷ 0x10 ∷ 0x00 ∷ 0x29 ∷ 0x00 ∷ 0x04 ∷ 0x00 ∷ 0x40 ∷ 0x00 ∷ 0x00 ∷ 0x00 ∷ []
+
+abbrev pub doubledIndex : List ℕ
+doubledIndex = 0x40 ∷ 0x08 ∷ 0x00 ∷ 0x00 ∷ 0x00 ∷ 0x01 ∷ []
+
 -- the columns of the sample's listing
 abbrev pub sampleTable : Columns
 sampleTable =
@@ -103,15 +113,20 @@ lines a b c =
     ∷ checks (take 20 sample ++ (0x41 ∷ [])) (refused 5)
     ∷ checks (a ∷ b ∷ c ∷ []) (refused 1)
     ∷ checks (0x80 ∷ 0x08 ∷ 0x00 ∷ 0x00 ∷ []) (refused 2)
-    ∷ checks (recordOf ((1 ∷ 1 ∷ []) ∷ (0 ∷ 0 ∷ []) ∷ [])) (refused 7)
+    ∷ files doubledBlocks doubled
+    ∷ reads doubled doubledBlocks
+    ∷ checks doubled (answered tt)
+    ∷ indexed doubled 1 doubledIndex
+    ∷ headed doubled doubledIndex (map answered (1 ∷ 1 ∷ []))
     ∷ checks (recordOf ((1 ∷ 2 ∷ []) ∷ (0 ∷ []) ∷ (1 ∷ []) ∷ [])) (refused 8)
+    ∷ checks (recordOf ((1 ∷ 1 ∷ 1 ∷ []) ∷ (0 ∷ []) ∷ [])) (refused 8)
     ∷ []
 
 pub as-stated : (a b c : ℕ) → map computed (lines a b c) ≡ lines a b c
 unfolding toBits bits string count onesAt select value field packed pack mentions position pair entered arcs run
     search countUp startsFrom without joined bridge number childMark parentMark walk terminals wires usedBits
     recordLength unary fieldsFrom fields zeros parts blocks layOut unaryOf fieldBits recordBits recordOf
-    firstBroken beginsWithZero orderR anyIn anyFrom spareSet stray doubled oneSided placeRules layoutRules
+    firstBroken beginsWithZero orderR anyIn anyFrom spareSet stray oneSided placeRules layoutRules
     checkRules outcome otherwise check otherLength outOfRange marksFrom section sectionE sectionP sectionB
     numbers indexBy markBytes numberBytes indexLength blockMarks sectionOf numberOf stepBy stepUp headOf orderQ
     head flatten visit visitOf parent parentOf children childCount said answersOf tableOn

@@ -20,7 +20,7 @@ otherLength l k = not (eqb (length l) k)
 unfoldable pub outOfRange : ℕ → ℕ → Bool
 outOfRange n k = eqb k 0 || ltb n k
 
--- what rules 6 to 8 say of a graph
+-- what rules 6 and 8 say of a graph
 unfoldable pub checkGraph : Blocks → Answer (Unit {0})
 checkGraph g = tried (placeRules g) tt
 

@@ -1,5 +1,5 @@
--- The rules that a record must keep (document 01, "order R" and "Check"), each with its number, and the first broken
--- one.
+-- The rules that a record must keep (document 01, "order R" and "Check"; document 02 drops rule 7), each with its
+-- number, and the first broken one.
 use mathlib.Core.Bool.{Bool, true, false, not, _||_}
 use mathlib.Core.List.{List, [], _∷_, _++_}
 use Prim.Native.Nat.{ℕ}
@@ -7,7 +7,7 @@ use lib.Dec.{eqb, ltb}
 use lib.ListN.{length, drop}
 use Rattle.bits.specs.Bits.{bits, count}
 use Rattle.graph.specs.Graph.{Blocks}
-use Rattle.adjacency.specs.Places.{anyPlace, stray, doubled, oneSided}
+use Rattle.adjacency.specs.Places.{anyPlace, stray, oneSided}
 use Rattle.record.specs.Record.{terminals, wires, usedBits, recordLength, unary, blocks}
 
 -- a rule: its number, and whether it is broken
@@ -37,14 +37,14 @@ orderR bytes =
 unfoldable pub spareSet : List ℕ → Bool
 spareSet bytes = not (eqb (count (drop (usedBits (terminals bytes) (wires bytes)) (bits bytes))) 0)
 
--- rules 6 to 8, each over the whole graph
+-- rules 6 and 8, each over the whole graph
 unfoldable pub placeRules : Blocks → List Rule
-placeRules g = (6, anyPlace (stray g) g) ∷ (7, anyPlace (doubled g) g) ∷ (8, anyPlace (oneSided g) g) ∷ []
+placeRules g = (6, anyPlace (stray g) g) ∷ (8, anyPlace (oneSided g) g) ∷ []
 
 -- order R and rule 5, which ask for the layout alone
 unfoldable pub layoutRules : List ℕ → List Rule
 layoutRules bytes = orderR bytes ++ ((5, spareSet bytes) ∷ [])
 
--- Check: order R, and then rules 5 to 8, each over the whole record
+-- Check: order R, and then rules 5, 6 and 8, each over the whole record
 unfoldable pub checkRules : List ℕ → List Rule
 checkRules bytes = layoutRules bytes ++ placeRules (blocks bytes)

@@ -48,7 +48,7 @@ pub record ArraysOf (bytes starts nbrs : List ℕ) (n m : ℕ) : Type 0 where
   pub are-starts : starts ≡ startsOf (unary bytes)
   pub are-fields : nbrs ≡ fields bytes
 
--- room for the two arrays and for what rules 6 to 8 keep: a cell for each terminal or for each place
+-- room for the two arrays and for what rules 6 and 8 keep: a cell for each terminal or for each place
 pub record Lent (n m : ℕ) (starts nbrs reverse next : List ℕ) : Type 0 where
   pub all-starts : length starts ≡ n + 1
   pub all-nbrs : length nbrs ≡ 2 * m

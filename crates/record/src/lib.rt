@@ -12,14 +12,15 @@ pub mod range; // range.rt: the range of rules 11 and 14
 pub mod starts; // starts.rt: where the blocks start
 pub mod fields; // fields.rt: the neighbour fields
 mod blocks; // blocks.rt: one block
-mod rules; // rules.rt: rules 6 to 8
+mod rules; // rules.rt: rules 6 and 8
 pub mod arrays; // arrays.rt: the graph of a record in two arrays
 mod rooms; // rooms.rt: Check in room for the record's size
 
 // A terminal number, from 1: document 01's vertex label.
 pub struct Vertex(pub usize);
 
-// Why a call refuses. The documents number these cases from 1 in this order.
+// Why a call refuses. The documents number these cases from 1 in this order. No operation gives 7, `DoubledNeighbour`:
+// a neighbour may stand several times in a block.
 pub enum Refusal {
     TooShort,
     OverLimit,

@@ -1,4 +1,4 @@
-// Rules 6 to 8 of a graph in two arrays.
+// Rules 6 and 8 of a graph in two arrays.
 ghost use mathlib.Core.Path.{_≡_};
 ghost use Prim.Native.Nat.{_+_};
 ghost use lib.ListN.{length};
@@ -8,11 +8,10 @@ ghost use Rattle.record.specs.Answers.{verdict};
 ghost use Rattle.record.specs.Operations.{checkGraph};
 use super::Refusal;
 use super::Verdict;
-use adjacency::doubles::some_doubled;
 use adjacency::reverse::all_mutual;
 use adjacency::strays::some_stray;
 
-// All at once; after a no, the first broken one. The last two slices are room: a number for each place, and for each
+// Both at once; after a no, the first broken one. The last two slices are room: a number for each place, and for each
 // terminal.
 pub fn try_rules(starts: &[u16], nbrs: &[u16], reverse: &mut [u16], next: &mut [u16]) -> Verdict
     ghost { Blocks }
@@ -26,9 +25,6 @@ pub fn try_rules(starts: &[u16], nbrs: &[u16], reverse: &mut [u16], next: &mut [
     }
     if some_stray(starts, nbrs) {
         return Verdict::Refused(Refusal::StrayNeighbour);
-    }
-    if some_doubled(starts, nbrs, next) {
-        return Verdict::Refused(Refusal::DoubledNeighbour);
     }
     Verdict::Refused(Refusal::OneSidedWire)
 }

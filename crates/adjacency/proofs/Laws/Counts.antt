@@ -31,6 +31,11 @@ module _ {starts nbrs : List ℕ} (i : Divided starts nbrs) (u p v : ℕ) where
       → mentions v (upTo starts nbrs u (p + 1)) ≡ mentions v (upTo starts nbrs u p) + 1
   count-hit h e = omega (arith, count-next h, one-hit v (getD nbrs p 0) e)
 
+  -- so the block has v once more from p on
+  pub count-more : Holds starts u p → v ≡ getD nbrs p 0
+      → mentions v (upTo starts nbrs u p) + 1 ≤ mentions v (block (cut starts nbrs) u)
+  count-more h e = omega (arith, count-hit h e, count-part starts nbrs u (p + 1) v)
+
   pub count-miss : (v ≡ getD nbrs p 0 → ⊥) → mentions v (upTo starts nbrs u (p + 1)) ≡ mentions v (upTo starts nbrs u p)
   count-miss n = go (step i u p)
     where

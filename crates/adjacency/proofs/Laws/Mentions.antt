@@ -1,6 +1,5 @@
--- Mentions in a list: its parts, its length, one number, and the place of a mention; a list that mentions nothing more
--- often is no longer.
-use Prim.Native.Nat.{ℕ, suc, _+_, _≤_, _<_}
+-- Mentions in a list: its parts, its length, and one number; a list that mentions nothing more often is no longer.
+use Prim.Native.Nat.{ℕ, suc, _+_, _≤_}
 use mathlib.Core.Path.{_≡_, refl, sym, ap, _∙_}
 use mathlib.Core.Bool.{Bool, true, false}
 use mathlib.Core.List.{List, [], _∷_, _++_}
@@ -10,7 +9,7 @@ use lib.Dec.{eqb}
 use lib.ListN.{length, take, drop, length-append}
 use lib.Seq.{split-at}
 use borrow.Author.Tests.{eq-eqb, ne-eqb}
-use Rattle.graph.specs.Graph.{Blocks, block, Place, mentions, position}
+use Rattle.graph.specs.Graph.{mentions, position}
 use Rattle.graph.specs.Laws.Places.Mentions.{mention-at}
 
 pub mentions-append : (v : ℕ) (l m : List ℕ) → mentions v (l ++ m) ≡ mentions v l + mentions v m
@@ -31,9 +30,6 @@ one-hit v x e = rw (eq-eqb v x e, mentions)
 pub one-miss : (v x : ℕ) → (v ≡ x → ⊥) → mentions v (x ∷ []) ≡ 0
 unfolding mentions
 one-miss v x h = rw (ne-eqb v x h, mentions)
-
-pub mention-place : (g : Blocks) (u v : ℕ) → 0 < mentions v (block g u) → Place g u (position v (block g u) 0) v
-mention-place g u v h = let m = mention-at v (block g u) 0 h in record { fits = m .inside; leads = m .there }
 
 -- each number of a is taken out of b
 pub fewer : (a b : List ℕ) → ((w : ℕ) → mentions w a ≤ mentions w b) → length a ≤ length b

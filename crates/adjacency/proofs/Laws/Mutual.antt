@@ -1,4 +1,4 @@
--- Blocks turned round and found again keep rules 6 to 8.
+-- Blocks turned round and found again keep rules 6 and 8.
 use Prim.Native.Nat.{ℕ, _+_, _-_, _≤_, _<_}
 use mathlib.Core.Path.{_≡_, sym, _∙_, ap}
 use mathlib.Core.Bool.{false, _||_}
@@ -6,12 +6,12 @@ use mathlib.Core.List.{List}
 use native.Mathlib.Omega.{arith}
 use lib.Dec.{leb, eqb}
 use lib.ListN.{length, getD}
-use borrow.Author.Tests.{lt-leb, le-ltb, eq-eqb, ne-eqb}
+use borrow.Author.Tests.{lt-leb, eq-eqb, ne-eqb}
 use Rattle.graph.specs.Graph.{block, mentions, Place}
 use Rattle.graph.specs.Laws.Places.Mentions.{mention-found}
 use Rattle.graph.specs.Laws.Places.Pairing.{source}
 use Rattle.adjacency.specs.Arrays.{cut, upTo}
-use Rattle.adjacency.specs.Places.{stray, doubled, oneSided}
+use Rattle.adjacency.specs.Places.{stray, oneSided}
 use Rattle.adjacency.specs.Reverse.{Turning, TurnedBefore, Matching, Kept}
 use Rattle.adjacency.specs.Laws.Anywhere.{nowhere}
 use Rattle.adjacency.specs.Laws.Rows.{length-cut}
@@ -21,7 +21,7 @@ use Rattle.adjacency.proofs.Laws.Totals.{full}
 use Rattle.adjacency.proofs.Laws.Turned.{turned-divided}
 
 module _ {starts nbrs reverse next : List ℕ} (done : TurnedBefore starts nbrs reverse next (length starts - 1)) where
-  turned-end : Turning starts nbrs reverse next (length starts - 1) (length nbrs)
+  pub turned-end : Turning starts nbrs reverse next (length starts - 1) (length nbrs)
   turned-end = rw (done .turned .divided .last) at done
 
   -- a part has w as often as w's block has the part's vertex
@@ -37,13 +37,13 @@ module _ {starts nbrs reverse next next′ : List ℕ} (t : TurnedBefore starts 
   matched-le : (v : ℕ) → v + 1 < length starts → (w : ℕ)
       → mentions v (block (cut starts reverse) w) ≤ mentions w (block (cut starts reverse) v)
   matched-le v k w =
-      let i = m .turned .divided in
-      let a = m .turned .same v w k in
+      let i = m .divided in
+      let a = m .same v w k in
       let b = ap (λ (x : ℕ). mentions v (upTo starts reverse w x)) (i .last) ∙ ap (mentions v) (upto-end i w) in
       let c = count-part starts reverse v (getD next′ v 0) w in
       omega arith
 
-  -- a neighbour of u is a vertex, and u's block has it once
+  -- a neighbour of u is a vertex other than u, and the two mention each other equally often
   module _ {u j v : ℕ} (p : Place (cut starts nbrs) u j v) where
     from : u + 1 < length starts
     from = omega (arith, length-cut starts nbrs, source p)
@@ -56,13 +56,6 @@ module _ {starts nbrs reverse next next′ : List ℕ} (t : TurnedBefore starts 
         turned-end t .others u v
         (omega (arith, ap (mentions v) (upto-end (t .turned .divided) u), mentioned))
 
-    once : mentions v (block (cut starts nbrs) u) ≤ 1
-    once =
-        let k = other .0 in
-        let a = turned-whole t v k u in
-        let b = m .single v (omega arith) u in
-        omega arith
-
     equal : mentions v (block (cut starts nbrs) u) ≡ mentions u (block (cut starts nbrs) v)
     equal =
         let k = other .0 in
@@ -74,12 +67,11 @@ module _ {starts nbrs reverse next next′ : List ℕ} (t : TurnedBefore starts 
         omega arith
 
   pub mutual-kept : Kept (cut starts nbrs)
-  unfolding stray doubled oneSided
+  unfolding stray oneSided
   mutual-kept =
       let g = cut starts nbrs in
       record {
         no-stray = nowhere (stray g) g .1 (λ u j v p. six p);
-        no-double = nowhere (doubled g) g .1 (λ u j v p. le-ltb 1 (mentions v (block g u)) (once p));
         no-one-sided =
             nowhere (oneSided g) g .1
             (λ u j v p. rw (eq-eqb (mentions v (block g u)) (mentions u (block g v)) (equal p)));

@@ -4,11 +4,11 @@ use mathlib.Core.Path.{_≡_, sym, _∙_, ap}
 use mathlib.Core.List.{List, [], _∷_, _++_}
 use native.Mathlib.Omega.{arith}
 use native.Mathlib.Decide.{decLt}
-use lib.ListN.{length, getD, List·getD-eq-default}
+use lib.ListN.{length, getD}
 use lib.Seq.{take-all, take-suc}
 use Rattle.graph.specs.Graph.{block, target}
 use Rattle.adjacency.specs.Arrays.{cut, Divided, Holds, upTo}
-use Rattle.adjacency.specs.Laws.Rows.{length-cut, starts-fit, one-block, row-size, row-neighbour}
+use Rattle.adjacency.specs.Laws.Rows.{no-block, starts-fit, one-block, row-size, row-neighbour}
 
 -- ---- the part of a block before a place
 
@@ -25,8 +25,7 @@ module _ (starts nbrs : List ℕ) (u p : ℕ) where
   -- u is no vertex
   upto-none : length starts ≤ u + 1 → upTo starts nbrs u p ≡ block (cut starts nbrs) u
   upto-none h =
-      let l = length-cut starts nbrs in
-      let e = ap length (List·getD-eq-default (cut starts nbrs) [] {n = u} (omega arith)) in
+      let e = ap length (no-block starts nbrs u h) in
       upto-whole (omega arith)
 
 module _ {starts nbrs : List ℕ} (i : Divided starts nbrs) where

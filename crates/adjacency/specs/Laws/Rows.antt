@@ -1,6 +1,7 @@
 -- The blocks of a graph in two arrays: where each lies in the row, and what stands in it.
 --   length-cut     a part for each start but the last
 --   cut-block      the part between a start and the next
+--   no-block       the empty part of what is no vertex
 --   starts-mono    the starts rise
 --   starts-fit     no start is past the row
 --   one-block      a place is in one block
@@ -15,11 +16,11 @@ use mathlib.Core.Path.{_≡_, refl, sym, _∙_, ap, ap₂}
 use mathlib.Core.List.{List, [], _∷_, _++_, flatten}
 use native.Mathlib.Omega.{arith}
 use native.Mathlib.Decide.{decLt}
-use lib.ListN.{length, getD, take, drop, length-drop}
+use lib.ListN.{length, getD, take, drop, length-drop, List·getD-eq-default}
 use lib.Seq.{length-take-le, getD-take, getD-drop, drop-drop, take-add, take-all}
 use Rattle.graph.specs.Graph.{block, target, Place}
 use Rattle.graph.specs.Laws.Places.Pairing.{source}
-use Rattle.adjacency.specs.Arrays.{cut, Divided, At, Holds}
+use Rattle.adjacency.specs.Arrays.{cut, Divided, Arrays, Holds}
 
 -- ---- the parts between the starts
 
@@ -38,6 +39,10 @@ cut-block (a ∷ b ∷ starts) l zero h = refl
 cut-block (a ∷ b ∷ starts) l (suc u) h =
     let e : suc u + 1 ≡ suc (u + 1) = omega arith in
     rw e (cut-block (b ∷ starts) l u (omega arith))
+
+-- what is no vertex has none
+pub no-block : (starts l : List ℕ) (u : ℕ) → length starts ≤ u + 1 → block (cut starts l) u ≡ []
+no-block starts l u h = let e = length-cut starts l in List·getD-eq-default (cut starts l) [] {n = u} (omega arith)
 
 -- ---- the starts rise
 
@@ -118,12 +123,12 @@ module _ {starts nbrs : List ℕ} (i : Divided starts nbrs) where
       (record { inside = k; low = omega arith; high = omega arith }, sym (p .leads) ∙ row-neighbour i u k j a)
 
 -- what a block mentions is a vertex
-pub place-known : {starts nbrs : List ℕ} {u j v : ℕ} → At starts nbrs u → Place (cut starts nbrs) u j v
+pub place-known : {starts nbrs : List ℕ} {u j v : ℕ} → Arrays starts nbrs → Place (cut starts nbrs) u j v
     → v + 1 < length starts
-place-known {starts} {nbrs} {u} {j} at p =
-    let (h, e) = place-held (at .arrays .divided) p in
-    let f = starts-fit (at .arrays .divided) (u + 1) (h .inside) in
-    rw e (at .arrays .known (getD starts u 0 + j) (let k = h .high in omega arith))
+place-known {starts} {nbrs} {u} {j} a p =
+    let (h, e) = place-held (a .divided) p in
+    let f = starts-fit (a .divided) (u + 1) (h .inside) in
+    rw e (a .known (getD starts u 0 + j) (let k = h .high in omega arith))
 
 -- ---- the blocks in a row
 

@@ -9,7 +9,7 @@ use Prim.Native.Nat.{ℕ, _+_, _-_, _≤_, _<_}
 use native.Mathlib.Omega.{arith}
 use lib.ListN.{length, getD}
 use Rattle.graph.specs.Graph.{block, Place}
-use Rattle.graph.specs.Laws.Places.Pairing.{InRange, source}
+use Rattle.graph.specs.Laws.Places.Pairing.{InRange}
 use Rattle.adjacency.specs.Arrays.{cut, Arrays}
 use Rattle.adjacency.specs.Laws.Rows.{length-cut, row-size, row-neighbour, place-known}
 use Rattle.forest.specs.Steps.{Known}
@@ -21,8 +21,7 @@ module _ {starts nbrs : List ℕ} (a : Arrays starts nbrs) where
   pub in-range : InRange (cut starts nbrs)
   in-range u j v p =
       let l = length-cut starts nbrs in
-      let h = source p in
-      let q = place-known (record { arrays = a; inside = omega arith }) p in
+      let q = place-known a p in
       omega arith
 
   module _ {n : ℕ} (fit : n + 1 ≡ length starts) where

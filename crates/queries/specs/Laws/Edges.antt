@@ -4,19 +4,19 @@ use mathlib.Core.Logic.{_↔_}
 use mathlib.Core.Bool.{Bool, true, false}
 use mathlib.Core.List.{List}
 use Prim.Native.Nat.{ℕ, zero, suc, _-_, _<_}
-use lib.ListN.{length}
-use Rattle.graph.specs.Graph.{Blocks, block, Place, position, twin}
+use lib.ListN.{length, take}
+use Rattle.graph.specs.Graph.{Blocks, block, Place, mentions, position, twin}
 use Rattle.graph.specs.Search.{Forest}
 use Rattle.graph.specs.Joined.{Chain, without, bridge}
 use Rattle.graph.specs.Forest.{parent as parentIn, childMark, parentMark}
 use Rattle.graph.specs.Theorems.{wires-balance, child-marks, parent-marks, marks-at-pairs, parent-mark-once}
-use Rattle.graph.specs.Theorems.{parent-mark-none, bridge-told, bridge-both}
+use Rattle.graph.specs.Theorems.{parent-mark-none, bridge-told, bridge-both, no-bridge-doubled}
 use Rattle.graph.specs.Laws.Places.Basics.{clash}
+use Rattle.graph.specs.Laws.Places.Mentions.{first-mention}
 use Rattle.graph.specs.Laws.Places.Pairing.{source, place-at, twin-place, twin-twin}
 use Rattle.graph.specs.Laws.Joined.Spanning.{search-spans}
 use Rattle.graph.specs.Laws.Edges.Marks.{back-place, back-marked, first-back}
 use Rattle.record.specs.Record.{blocks}
-use Rattle.record.specs.Laws.Sound.{accepted-first}
 use Rattle.forest.specs.Index.{indexOf}
 use Rattle.queries.specs.View.{sectionBit, placeOf}
 use Rattle.queries.specs.Written.{Written, forestFrom, Once}
@@ -55,15 +55,20 @@ module _ {bytes index : List ℕ} (w : Written bytes index) where
     other : Place g v (twin g u j) u
     other = twin-place (formed w) p
 
-    pub E-told : (at 0 u j ≡ true) ↔ (parentIn F v ≡ suc u)
-    E-told =
-        let q = child-marks (formed w .in-range) (covered w) p in
-        (λ e. q .0 (sym (E-at p) ∙ e) .0, λ h. E-at p ∙ q .1 (h, accepted-first (w .accepted) p))
+    -- a mark at v's first mention: by its position, and by the mentions before it
+    first : {a b : Bool} {A : Type 0} → a ≡ b → (b ≡ true) ↔ (A × (j ≡ position v (block g u) 0))
+        → (a ≡ true) ↔ (A × (mentions v (take j (block g u)) ≡ 0))
+    first is q =
+        let f = first-mention v (block g u) j (p .fits) (p .leads) in (
+          λ e. (let r = q .0 (sym is ∙ e) in (r .0, f .0 (r .1))),
+          λ h. is ∙ q .1 (h .0, f .1 (h .1)),
+        )
 
-    pub P-told : (at 1 u j ≡ true) ↔ (parentIn F u ≡ suc v)
-    P-told =
-        let q = parent-marks (formed w .in-range) (covered w) (wires-balance (formed w)) (source p) p in
-        (λ e. q .0 (sym (P-at p) ∙ e) .0, λ h. P-at p ∙ q .1 (h, accepted-first (w .accepted) p))
+    pub E-told : (at 0 u j ≡ true) ↔ ((parentIn F v ≡ suc u) × (mentions v (take j (block g u)) ≡ 0))
+    E-told = first (E-at p) (child-marks (formed w .in-range) (covered w) p)
+
+    pub P-told : (at 1 u j ≡ true) ↔ ((parentIn F u ≡ suc v) × (mentions v (take j (block g u)) ≡ 0))
+    P-told = first (P-at p) (parent-marks (formed w .in-range) (covered w) (wires-balance (formed w)) (source p) p)
 
     pub P-as-E : at 1 v (twin g u j) ≡ at 0 u j
     P-as-E = P-at other ∙ marks-at-pairs (formed w .in-range) (covered w) (wires-balance (formed w)) p ∙ sym (E-at p)
@@ -75,6 +80,9 @@ module _ {bytes index : List ℕ} (w : Written bytes index) where
 
     pub B-both : at 2 v (twin g u j) ≡ at 2 u j
     B-both = B-at other ∙ bridge-both (formed w) p ∙ sym (B-at p)
+
+    pub B-doubled : {i : ℕ} → Place g u i v → (i ≡ j → ⊥) → at 2 u j ≡ false
+    B-doubled q n = B-at p ∙ no-bridge-doubled (formed w) p q n
 
   -- the other way round
   pub E-as-P : {u j v : ℕ} → Place (blocks bytes) u j v → at 0 v (twin g u j) ≡ at 1 u j

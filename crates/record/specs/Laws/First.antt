@@ -8,7 +8,7 @@ use borrow.Author.Tests.{ltb-false, eqb-true, not-false}
 use lib.Dec.{eqb, ltb}
 use lib.ListN.{length}
 use Rattle.bits.specs.Bits.{count}
-use Rattle.adjacency.specs.Places.{anyPlace, stray, doubled, oneSided}
+use Rattle.adjacency.specs.Places.{anyPlace, stray, oneSided}
 use Rattle.record.specs.Record.{terminals, wires, recordLength, unary, blocks}
 use Rattle.record.specs.Rules.{Rule, firstBroken, beginsWithZero, orderR, spareSet}
 use Rattle.record.specs.Rules.{placeRules, layoutRules, checkRules}
@@ -109,14 +109,13 @@ layout-numbered bytes = rule (rule (rule (rule (rule none))))
 
 pub check-numbered : (bytes : List ℕ) → Numbered (checkRules bytes)
 unfolding orderR layoutRules placeRules checkRules
-check-numbered bytes = rule (rule (rule (rule (rule (rule (rule (rule none)))))))
+check-numbered bytes = rule (rule (rule (rule (rule (rule (rule none))))))
 
 -- what Check asks of a record
 pub record Checked (bytes : List ℕ) : Type 0 where
   pub shape : Shaped bytes
   pub spare : spareSet bytes ≡ false
   pub no-stray : anyPlace (stray (blocks bytes)) (blocks bytes) ≡ false
-  pub no-double : anyPlace (doubled (blocks bytes)) (blocks bytes) ≡ false
   pub two-sided : anyPlace (oneSided (blocks bytes)) (blocks bytes) ≡ false
 
 pub checked : {bytes : List ℕ} → Accepted bytes → Checked bytes
@@ -126,6 +125,5 @@ checked {bytes} accepted =
     let (e, s) = both-kept (order-numbered bytes) _ l in
     let (e₅, _) = rule-kept 4 _ _ s in
     let (e₆, r₆) = rule-kept 5 _ _ r in
-    let (e₇, r₇) = rule-kept 6 _ _ r₆ in
-    let (e₈, r₈) = rule-kept 7 _ _ r₇ in
-    record { shape = shaped bytes e; spare = e₅; no-stray = e₆; no-double = e₇; two-sided = e₈ }
+    let (e₈, _) = rule-kept 7 _ _ r₆ in
+    record { shape = shaped bytes e; spare = e₅; no-stray = e₆; two-sided = e₈ }

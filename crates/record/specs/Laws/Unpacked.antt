@@ -4,7 +4,7 @@
 --   divided-of   the starts divide the row
 --   starts-of    there are n + 1 starts, and 2·m neighbours (nbrs-of)
 --   arrays-of    in an accepted record each neighbour is a vertex
---   check-left   once order R and rule 5 let a record pass, Check tries rules 6 to 8, of the arrays' graph (check-told)
+--   check-left   once order R and rule 5 let a record pass, Check tries rules 6 and 8 of the arrays' graph (check-told)
 use mathlib.Core.Path.{_≡_, sym, ap, ap₂, _∙_}
 use mathlib.Core.List.{List, []}
 use Prim.Native.Nat.{ℕ, _+_, _-_, _*_}
@@ -76,7 +76,7 @@ pub arrays-of : {bytes starts nbrs : List ℕ} {n m : ℕ} → ArraysOf bytes st
 arrays-of {bytes} r a =
     arrays-kept (divided-of r) (ap (λ (x : Blocks). anyPlace (stray x) x) (graph-of r) ∙ checked a .no-stray)
 
--- ---- rules 6 to 8 are left
+-- ---- rules 6 and 8 are left
 
 laid-kept : {bytes : List ℕ} {n m : ℕ} → Laid bytes n m → firstBroken (layoutRules bytes) ≡ 0
 unfolding layoutRules firstBroken

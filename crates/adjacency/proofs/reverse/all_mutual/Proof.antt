@@ -4,6 +4,7 @@ use Rattle.adjacency.specs.Tally.{nay}
 use Rattle.adjacency.specs.Laws.Tells.{told-yes, told-no, told-on}
 use Rattle.adjacency.proofs.Laws.Turned.{turned-divided}
 use Rattle.adjacency.proofs.Laws.Mutual.{mutual-kept}
+use Rattle.adjacency.proofs.Laws.Reversed.{reversed}
 use Rattle.adjacency.proofs.Laws.Orderly.{orderly}
 use borrow.Author.Needs.{needs}
 use Rattle.adjacency.proofs.reverse.all_mutual.Statement.{statement}
@@ -18,7 +19,7 @@ match-all-requires c κs =
     let at-if1 = at-rewind2 .before .before in
     let at-turn-all = at-if1 .before .before .before .before .before in
     let turned = told-yes (at-turn-all .turn-all .ensures) (not-false _ (at-if1 .if1 .left)) in
-    (turned-divided (turned .turned), at-rewind2 .rewind2 .ensures)
+    (turned-divided (turned .turned), at-rewind2 .rewind2 .ensures, reversed turned)
 
 returns-2 : tie.Need-returns-2
 returns-2 c =

@@ -1,13 +1,13 @@
 -- `reverse::match_all` meets its contract: the parts passed are found again.
-use mathlib.Core.Path.{refl}
+use mathlib.Core.Path.{refl, subst}
 use borrow.Author.Tests.{not-false, not-true}
 use Prim.Native.Nat.{_-_}
 use native.Mathlib.Omega.{arith}
 use Rattle.adjacency.specs.Reverse.{Matching}
 use Rattle.adjacency.specs.Tally.{yea, nay}
-use Rattle.adjacency.proofs.Laws.Loops.{Round, round-start, round-inside, round-more}
+use Rattle.adjacency.proofs.Laws.Loops.{Round, round-start, round-inside, round-more, round-end}
 use Rattle.adjacency.specs.Laws.Tells.{told-yes, told-no}
-use Rattle.adjacency.proofs.Laws.Matched.{matching-start, matching-end}
+use Rattle.adjacency.proofs.Laws.Turned.{turned-start}
 use Rattle.adjacency.proofs.reverse.match_all.Statement.{statement}
 use Rattle.adjacency.proofs.reverse.match_all.Tie as tie
 
@@ -23,13 +23,14 @@ sub-n c = let s = c .before .before .before .pre .0 .some in omega arith
 loop-holds : tie.Need-loop-holds Inv-loop μ-loop
 loop-holds c =
     let pre = c .before .before .before .pre in
-    (matching-start (pre .0) (pre .1), round-start (pre .0 .some) refl refl)
+    (turned-start (pre .0) refl (pre .1) (pre .0 .first), round-start (pre .0 .some) refl refl)
 
 match-block-requires : tie.Need-match-block-requires Inv-loop μ-loop
 match-block-requires c κs =
     let at-test = c .before in
     let inv = at-test .before .loop .inv in
-    (inv .0, round-inside (inv .1) (at-test .loop-test .taken))
+    let start = at-test .before .before .before .before .before in
+    (inv .0, round-inside (inv .1) (at-test .loop-test .taken), start .pre .2)
 
 returns : tie.Need-returns Inv-loop μ-loop
 returns c = nay (told-no (c .before .before .before .match-block .ensures) (not-true _ (c .if1 .taken)))
@@ -45,7 +46,7 @@ loop-again c =
 returns-2 : tie.Need-returns-2 Inv-loop μ-loop
 returns-2 c =
     let inv = c .before .loop .inv in
-    yea (matching-end (inv .0) (inv .1) (c .loop-test .left))
+    yea (subst (Matching _ _ _) (round-end (inv .1) (c .loop-test .left)) (inv .0))
 
 pub match-all-spec : {M : Type 1} → statement M
 match-all-spec =

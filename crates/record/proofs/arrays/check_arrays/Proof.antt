@@ -1,4 +1,4 @@
--- `arrays::check_arrays` meets its contract: rules 6 to 8 are those of the record's graph.
+-- `arrays::check_arrays` meets its contract: rules 6 and 8 are those of the record's graph.
 use native.Mathlib.Omega.{arith}
 use mathlib.Core.Path.{_≡_}
 use mathlib.Core.List.{List}
