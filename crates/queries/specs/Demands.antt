@@ -30,12 +30,18 @@ use Rattle.queries.specs.Laws.Built.{built-own, built-fill, built-rest}
 use Rattle.queries.specs.Laws.Edges.{E-told, P-told, P-as-E, E-as-P, P-none, P-once, B-told, B-both, B-doubled}
 use Rattle.queries.specs.Laws.Alike.{alike-answers}
 use Rattle.queries.specs.Laws.Columns.{table-cells}
+use Rattle.queries.specs.Laws.Given.{never-seven}
 use Rattle.queries.specs.Table.{tableOn, tableOf, Tabled}
+use Rattle.queries.specs.Given.{NeverGiven}
 
 -- where Build refuses nothing, it has written the index, with the start that it was given
 pub build-writes : (bytes : List ℕ) (start : ℕ) (work buffer : List ℕ) → build bytes start work buffer ≡ answered tt
     → (w : Written bytes (built bytes start work buffer)) × (w .start ≡ start)
 build-writes = Answered.written-by
+
+-- 7 is given no longer, by any operation
+pub never-7 : (bytes : List ℕ) → NeverGiven 7 bytes
+never-7 = never-seven
 
 -- fill bits, and the bits at D's ones, affect no answer, on any index of the right length
 pub fill-unread : {bytes a b : List ℕ} → Alike bytes a b → SameAnswers bytes a b

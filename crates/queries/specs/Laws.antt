@@ -1,6 +1,5 @@
 -- Laws about the queries: answers settle values, order Q, answers on a view that shows a forest, the view and the
--- bits of a built index,
--- and indexes that agree where the queries look.
+-- bits of a built index, indexes that agree where the queries look, and which refusals are given.
 pub mod Settled
 pub mod Framed
 pub mod Asked
@@ -13,3 +12,4 @@ pub mod Answered
 pub mod Edges
 pub mod Ready
 pub mod Columns
+pub mod Given

@@ -1,6 +1,7 @@
 -- Laws about the definitions, one idea a file.
 pub mod First
 pub mod Told
+pub mod Given
 pub mod Settled
 pub mod Range
 pub mod Parts
