@@ -201,7 +201,7 @@ def sections(data):
     """From every start, heads are equal exactly where two terminals are joined, and stay so whichever wire is taken
     out."""
     blocks = blocks_of(data)
-    looms = [blocks] + [without(blocks, u, w) for u, w in wires(blocks)]
+    looms = [blocks] + [without(blocks, wire) for wire in wires(blocks)]
     everyone = range(1, len(blocks) + 1)
     together = {(u, v): all(joined(loom, u, v) for loom in looms) for u, v in combinations(everyone, 2)}
     return summed(from_start(data, start, together) for start in everyone)
@@ -272,8 +272,8 @@ STATED_REFUSALS = [
     (bytes.fromhex("00 30 00 59 22 A0 02 00 10 00 00 20 01 00 30 00 00 20 05 00 41"), 5),
     (bytes.fromhex("00 30 00"), 1),
     (layout(4097, 0, "", []), 2),
-    (record([[2, 2], [1, 1]]), 7),
     (record([[2, 3], [1], [2]]), 8),
+    (record([[2, 2, 2], [1]]), 8),
 ]
 
 
@@ -378,7 +378,7 @@ def families():
     marked = [[[1, 1]], WIRE, [[3], [1]], [[2], [1], []], [[2, 2], [1, 1]]]
     return {
         "document 01's records, and a start": (stated, [*STATED, WORKED]),
-        "document 01's refusals": (stated_refusal, STATED_REFUSALS),
+        "the documents' refusals": (stated_refusal, STATED_REFUSALS),
         "the header's version": (version, [header_version()]),
         "largest": (largest, large),
         "largest damaged": (largest, large_damaged),

@@ -12,7 +12,7 @@ import sys
 from forest_vectors_test import shapes
 from header import header_version
 from packing import SAMPLE, flipped, layout, record
-from plain import answer, check
+from plain import answer, check, wires, without
 from programs import C, CPP, HEADER, ROOT, archive, cargo, demand, linked, run, rust_program, tally
 from shapes import FIXED
 
@@ -176,8 +176,8 @@ def same_version(room):
 
 # The example
 
-def looms(blocks, out=()):
-    """For each terminal the least one that it is joined with, where the wire with these two ends is taken out."""
+def looms(blocks):
+    """For each terminal the least one that it is joined with."""
     least = {}
     for root in range(1, len(blocks) + 1):
         if root not in least:
@@ -185,7 +185,7 @@ def looms(blocks, out=()):
             reached = [root]
             for v in reached:
                 for w in blocks[v - 1]:
-                    if w not in least and {v, w} != set(out):
+                    if w not in least:
                         least[w] = root
                         reached.append(w)
     return [least[v] for v in range(1, len(blocks) + 1)]
@@ -193,8 +193,7 @@ def looms(blocks, out=()):
 
 def sections(blocks):
     """The classes of terminals that are joined with all wires and without each one, in order of their least terminals."""
-    wires = {(v, w) for v, block in enumerate(blocks, 1) for w in block if v < w}
-    trials = [looms(blocks)] + [looms(blocks, wire) for wire in wires]
+    trials = [looms(blocks)] + [looms(without(blocks, wire)) for wire in wires(blocks)]
     classes = {}
     for v, marks in enumerate(zip(*trials), 1):
         classes.setdefault(marks, []).append(v)
@@ -255,8 +254,8 @@ def example_refuses(program):
         (4, flipped(sample, 43)),
         (5, flipped(sample, -1)),
         (6, record(SAMPLE[:5] + [[6]])),
-        (7, record([[2, 2], [1, 1]])),
         (8, record([[2, 3], [1], [2]])),
+        (8, record([[2, 2, 2], [1]])),
     ]
     for refusal, data in refused:
         demand(answer(check, data)[0] == refusal, f"the test has a record that is not refused with {refusal}")

@@ -1,8 +1,9 @@
 """A plain program for document 01, in its order and from its sentences: bits, record, forest, operations, listing; the
-start of the search is document 02's.
+start of the search is document 02's, and so is what a wire is where several run between the same two terminals.
 
-It shares no idea with the product: a bit string is a string of characters, the search is a recursion, and a wire has its marks in B where
-taking it out leaves its ends unjoined. An operation returns its answer, or raises Refused with the refusal's number.
+It shares no idea with the product: a bit string is a string of characters, the search is a recursion, a wire is its two
+places, and it has its marks in B where taking it out leaves its ends unjoined. An operation returns its answer, or
+raises Refused with the refusal's number.
 """
 import re
 import sys
@@ -74,6 +75,37 @@ def blocks_of(data):
     return [[next(neighbours) for _ in places] for places in places_of(data)]
 
 
+# Wires
+
+def mentions(blocks):
+    """By u and v, the places where u's block mentions v, in order. A place is a terminal and a position in its block,
+    from 0."""
+    found = {}
+    for u, block in enumerate(blocks, 1):
+        for j, v in enumerate(block):
+            found.setdefault((u, v), []).append((u, j))
+    return found
+
+
+def wire(found, u, v, k):
+    """A wire is its two ends: the k-th mention of v at u, and the k-th mention of u at v."""
+    return found[u, v][k - 1], found[v, u][k - 1]
+
+
+def wires(blocks):
+    """Each wire once, the place at its lower terminal first."""
+    found = mentions(blocks)
+    return [wire(found, u, v, k) for (u, v), places in found.items() if u < v for k in range(1, len(places) + 1)]
+
+
+def without(blocks, ends):
+    """The blocks with the wire that has these ends taken out: its two listings are left out and nothing else."""
+    left = list(blocks)
+    for u, j in ends:
+        left[u - 1] = blocks[u - 1][:j] + blocks[u - 1][j + 1 :]
+    return left
+
+
 # Forest
 
 def search(blocks, start=1):
@@ -94,13 +126,11 @@ def search(blocks, start=1):
     return order, parent
 
 
-def without(blocks, u, w):
-    """The blocks with the wire between u and w taken out: its two listings are left out and nothing else."""
-    left = list(blocks)
-    for here, there in (u, w), (w, u):
-        left[here - 1] = list(blocks[here - 1])
-        left[here - 1].remove(there)
-    return left
+def tree_wires(blocks, parent):
+    """For each child the wire of the tree that leads to it: the child's first mention, at the parent, and the other end
+    of that wire."""
+    found = mentions(blocks)
+    return {v: wire(found, u, v, 1) for v, u in parent.items() if u}
 
 
 def reached(blocks, start):
@@ -128,35 +158,34 @@ def joined(blocks, u, w):
         met[side].add(x)
 
 
-def wire(v, w):
-    return min(v, w), max(v, w)
-
-
-def wires(blocks):
-    return {wire(v, w) for v, block in enumerate(blocks, 1) for w in block}
-
-
-def is_bridge(blocks, v, w):
-    """Whether the removal of the wire between v and w leaves them unjoined."""
-    return not joined(without(blocks, v, w), v, w)
+def is_bridge(blocks, ends):
+    """Whether the removal of the wire that has these ends leaves them unjoined. Of several wires between the same
+    terminals this one alone is taken out."""
+    (u, _), (w, _) = ends
+    return not joined(without(blocks, ends), u, w)
 
 
 def bridges(blocks):
-    return {(v, w) for v, w in wires(blocks) if is_bridge(blocks, v, w)}
+    return {ends for ends in wires(blocks) if is_bridge(blocks, ends)}
 
 
 def marks(blocks, marked):
-    """The bits of E, P or B: a zero for a terminal's own one, and for each neighbour of its block whether it is marked."""
-    return "".join("0" + "".join("01"[marked(v, w)] for w in block) for v, block in enumerate(blocks, 1))
+    """The bits of E, P or B: a zero for a terminal's own one, and for each place of its block whether it is marked."""
+    bits = [["0"] + ["0"] * len(block) for block in blocks]
+    for v, j in marked:
+        bits[v - 1][1 + j] = "1"
+    return "".join("".join(block) for block in bits)
 
 
 def index_by(blocks, single, order, parent):
-    """The index of a record with these blocks, for the set of its bridges and for what a search found."""
+    """The index of a record with these blocks, for the set of its bridges and for what a search found. A child is
+    marked in E at its first mention, and P marks the other end of that wire; B marks both ends of a bridge."""
     visits = {v: i for i, v in enumerate(order, 1)}
+    tree = tree_wires(blocks, parent).values()
     return index_layout(
-        marks(blocks, lambda v, w: parent[w] == v),
-        marks(blocks, lambda v, w: parent[v] == w),
-        marks(blocks, lambda v, w: wire(v, w) in single),
+        marks(blocks, [place for place, _ in tree]),
+        marks(blocks, [place for _, place in tree]),
+        marks(blocks, [place for ends in single for place in ends]),
         [visits[v] - 1 for v in range(1, len(blocks) + 1)],
     )
 
@@ -242,11 +271,12 @@ def check(data):
     n, _ = sizes(data)
     _, _, spare = parts(data)
     blocks = blocks_of(data)
-    listings = [(v, w) for v, block in enumerate(blocks, 1) for w in block]
+    # how often v mentions w
+    counts = Counter((v, w) for v, block in enumerate(blocks, 1) for w in block)
     refuse(5, "1" in spare)
-    refuse(6, any(w > n or w == v for v, w in listings))
-    refuse(7, any(len(set(block)) < len(block) for block in blocks))
-    refuse(8, not {(w, v) for v, w in listings} <= set(listings))
+    refuse(6, any(w > n or w == v for v, w in counts))
+    # 7 is given no longer
+    refuse(8, any(counts[w, v] != count for (v, w), count in counts.items()))
 
 
 def build(data, start, work, room):
@@ -408,10 +438,10 @@ def rows(blocks, start=1):
     """The forest's own answers for each terminal: its number, visit number, parent, count of children and head."""
     order, parent = search(blocks, start)
     visits = {v: i for i, v in enumerate(order, 1)}
-    heads = {}
+    tree, heads = tree_wires(blocks, parent), {}
     # a parent is visited before its children
     for v in order:
-        stops = parent[v] == 0 or is_bridge(blocks, v, parent[v])
+        stops = parent[v] == 0 or is_bridge(blocks, tree[v])
         heads[v] = v if stops else heads[parent[v]]
     counts = Counter(parent.values())
     return [(v, visits[v], parent[v], counts[v], heads[v]) for v in range(1, len(blocks) + 1)]
