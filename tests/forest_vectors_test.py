@@ -6,7 +6,7 @@ leaves its ends unjoined; for the large trees and the ring that is told from the
 """
 from packing import SAMPLE, bits_of, flipped, index_length, layout, record, whole
 from plain import answer, bridges, build, check, index_of, is_bridge, sizes, wires
-from shapes import FIXED
+from shapes import DOUBLED, FIXED
 from stored import main, told
 
 N = 4096
@@ -27,7 +27,9 @@ def accepted():
     ones, and with ones and more work than is asked."""
     starts = [(name, min(1, len(blocks))) for name, blocks in FIXED.items()]
     starts += [("sample", start) for start in range(2, 7)]
-    for name, start in starts + [("wire", 2), ("path", 5), ("hub", 6), ("chord", 7), ("apart", 9), ("apart", 10)]:
+    starts += [("wire", 2), ("path", 5), ("hub", 6), ("chord", 7), ("apart", 9), ("apart", 10)]
+    starts += [(name, start) for name in DOUBLED for start in range(2, len(FIXED[name]) + 1)]
+    for name, start in starts:
         data = record(FIXED[name])
         cells, length = 8 * len(FIXED[name]), index_length(*sizes(data))
         yield line(name, "zeros", data, start, cells, bytes(length))
@@ -42,15 +44,15 @@ def refused():
     spare = flipped(sample, -1)
     one_sided = record([[2, 3], [1], [2]])
     for name, data, start, work, length in (
-        # 1 to 8
+        # 1 to 6, and 8
         ("none", b"", 1, 0, 0),
         ("wide", layout(4097, 0, "", []), 1, 64, 16),
         ("short", sample[:-1], 1, 48, 15),
         ("few_ones", flipped(sample, 43), 1, 48, 15),
         ("spare", spare, 1, 48, 15),
         ("own", record(SAMPLE[:5] + [[6]]), 1, 48, 15),
-        ("doubled", record([[2, 2], [1, 1]]), 1, 16, 6),
         ("one_sided", one_sided, 1, 24, 8),
+        ("more", record([[2, 2, 2], [1]]), 1, 16, 6),
         # 9
         ("sample", sample, 1, 47, 15),
         ("sample", sample, 1, 0, 15),

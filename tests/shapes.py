@@ -28,7 +28,18 @@ FIXED = {
     "chord": [[4, 3], [6, 5, 4], [4, 6, 1], [2, 1, 3], [7, 2], [3, 2], [5]],
     "mixed": [[7, 10], [3, 5], [4, 2, 5, 11], [11, 6, 9, 3], [2, 12, 3], [4], [8, 1], [9, 7], [4, 8], [1], [4, 12, 3], [11, 5]],
     "apart": [[], [9, 6], [5], [], [3], [8, 2, 9], [], [6], [6, 2], []],
+    # two wires between two terminals; three; two with a single one behind them; mentions with others between them
+    "pair": [[2, 2], [1, 1]],
+    "triple": [[2, 2, 2], [1, 1, 1]],
+    "tail": [[2, 2], [1, 3, 1], [2]],
+    "crossed": [[2, 3, 2], [3, 1, 1], [1, 2]],
+    # two triangles joined by two wires; a path with single wires between doubled and tripled ones
+    "joined_twice": [[6, 4], [5, 3], [4, 5, 4, 2], [1, 3, 6, 3], [2, 3], [4, 1]],
+    "feeds": [[4, 5, 4], [5, 6, 5, 5], [6, 6], [1, 1], [2, 2, 1, 2], [3, 2, 3]],
 }
+
+# Those of them with several wires between the same terminals
+DOUBLED = [name for name, blocks in FIXED.items() if any(len(set(block)) < len(block) for block in blocks)]
 
 
 # Graphs

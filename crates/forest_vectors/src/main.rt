@@ -162,6 +162,66 @@ fn apart(start: usize) {
     );
 }
 
+fn pair(start: usize) {
+    run_from(
+        b"pair",
+        b"\x00\x10\x00\x29\x00\x04\x00\x40\x00\x00\x00",
+        start,
+        2,
+        2,
+    );
+}
+
+fn triple(start: usize) {
+    run_from(
+        b"triple",
+        b"\x00\x10\x00\x38\x80\x01\x00\x10\x01\x00\x00\x00\x00\x00",
+        start,
+        2,
+        3,
+    );
+}
+
+fn tail(start: usize) {
+    run_from(
+        b"tail",
+        b"\x00\x18\x00\x39\x10\x00\x80\x08\x00\x00\x10\x00\x00\x08",
+        start,
+        3,
+        3,
+    );
+}
+
+fn crossed(start: usize) {
+    run_from(
+        b"crossed",
+        b"\x00\x18\x00\x48\x88\x00\x20\x04\x00\x20\x04\x00\x00\x00\x00\x00\x02",
+        start,
+        3,
+        4,
+    );
+}
+
+fn joined_twice(start: usize) {
+    run_from(
+        b"joined_twice",
+        b"\x00\x30\x00\x89\x21\x09\x00\x14\x00\xC0\x10\x00\x80\x0C\x01\x00\x0C\x00\x40\x00\x00\x80\x14\x00\x80\x04\x00\x80\x0C\x00\x00",
+        start,
+        6,
+        8,
+    );
+}
+
+fn feeds(start: usize) {
+    run_from(
+        b"feeds",
+        b"\x00\x30\x00\x98\x84\x90\x80\x03\x00\x40\x03\x00\x40\x05\x00\x40\x04\x00\x50\x05\x00\x00\x00\x00\x10\x01\x00\x00\x01\x00\x20\x01\x00\x20",
+        start,
+        6,
+        9,
+    );
+}
+
 // Document 01's records.
 fn stated() {
     sample_from(1);
@@ -229,6 +289,17 @@ fn mixtures() {
     apart(1);
 }
 
+// Several wires between the same terminals: two; three; two with a single one behind them; two with other mentions
+// between theirs; two that join two triangles; a path with single wires between doubled and tripled ones.
+fn doubled() {
+    pair(1);
+    triple(1);
+    tail(1);
+    crossed(1);
+    joined_twice(1);
+    feeds(1);
+}
+
 // The sample from each of its other terminals; others from the end of a wire, inside a path, from a hub, from the end
 // of a tail, inside a component and from an isolated terminal.
 fn other_starts() {
@@ -243,6 +314,34 @@ fn other_starts() {
     chord(7);
     apart(9);
     apart(10);
+}
+
+// Those with several wires between the same terminals, from each of their other terminals.
+fn doubled_starts() {
+    pair(2);
+    triple(2);
+    tail(2);
+    tail(3);
+    crossed(2);
+    crossed(3);
+    joined_twice_starts();
+    feeds_starts();
+}
+
+fn joined_twice_starts() {
+    joined_twice(2);
+    joined_twice(3);
+    joined_twice(4);
+    joined_twice(5);
+    joined_twice(6);
+}
+
+fn feeds_starts() {
+    feeds(2);
+    feeds(3);
+    feeds(4);
+    feeds(5);
+    feeds(6);
 }
 
 // Build with a buffer of marks, which a refused call leaves.
@@ -299,7 +398,7 @@ fn one_sided(start: usize, work: usize, length: usize)
     );
 }
 
-// 1 to 8.
+// 1 to 6, and 8.
 fn unaccepted() {
     on_marks(b"none", b"", 1, 0, 0);
     on_marks(b"wide", b"\x80\x08\x00\x00", 1, 64, 16);
@@ -325,14 +424,14 @@ fn unaccepted() {
         48,
         15,
     );
+    one_sided(1, 24, 8);
     on_marks(
-        b"doubled",
-        b"\x00\x10\x00\x29\x00\x04\x00\x40\x00\x00\x00",
+        b"more",
+        b"\x00\x10\x00\x28\x80\x04\x00\x40\x04\x00\x00",
         1,
         16,
         6,
     );
-    one_sided(1, 24, 8);
 }
 
 // 9: the work slice is too short. 10: the buffer has another length than the index.
@@ -464,7 +563,9 @@ fn main() {
     forests();
     blocks();
     mixtures();
+    doubled();
     other_starts();
+    doubled_starts();
     unaccepted();
     wrong_room();
     several();
