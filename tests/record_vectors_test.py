@@ -1,10 +1,12 @@
-"""Compares the stored output of the program record_vectors with a plain computation, written from document 01's words alone.
+"""Compares the stored output of the program record_vectors with a plain computation, written from the words of
+documents 01 and 02 alone.
 
 The stored output is what `rt ci` holds the proved program to. Here each record is packed from its blocks, damaged where it must be, and
 asked by plain.py. With an argument it prints the lines instead.
 """
 from packing import SAMPLE, WIRE, flipped, layout, record
 from plain import answer, check, degree, loop_figure, neighbours, unpack
+from shapes import FIXED
 from stored import main, told
 
 TRIANGLE = [[2, 3], [1, 3], [1, 2]]
@@ -51,6 +53,8 @@ def records():
         ("hub", [[4], [4], [4], [3, 1, 2]]),
         ("components", [[2], [1], [4, 5], [5, 3], [3, 4]]),
         ("apart", [[], [4], [], [2], []]),
+        # with several wires between the same terminals
+        *((name, FIXED[name]) for name in ("pair", "triple", "tail", "crossed")),
     ):
         yield name, record(blocks), len(blocks), sum(map(len, blocks)) // 2
     # 1
@@ -82,19 +86,20 @@ def records():
     yield "far_over", record([[2], [4096]]), 2, 1
     yield "own", record([[1], [2]]), 2, 1
     yield "own_last", record(SAMPLE[:5] + [[6]]), 6, 5
-    # 7
-    yield "doubled", record([[2, 2], [1, 1]]), 2, 2
-    yield "doubled_last", record([[3, 2], [1, 3], [1, 2, 1, 2]]), 3, 4
-    # 8
+    # 8: a neighbour that doesn't mention the terminal; two that mention each other, one more often than the other
     yield "one_sided", record([[2, 3], [1], [2]]), 3, 2
     yield "round", record([[2], [3], [4], [1]]), 4, 2
+    yield "round_twice", record([[2, 2], [3, 3], [1, 1]]), 3, 3
+    yield "doubled_sided", record([[2], [], [2, 1, 2]]), 3, 2
+    yield "more", record([[2, 2, 2], [1]]), 2, 2
+    yield "less", record([[2], [1, 1, 1]]), 2, 2
+    yield "more_last", record([[3, 2], [1, 3], [1, 2, 1, 2]]), 3, 4
     # several rules at once
     yield "3_and_4", flipped(record(SAMPLE), 43)[:-1], 6, 5
     yield "4_and_5", flipped(record(SAMPLE), 43, -1), 6, 5
     yield "5_and_6", flipped(record([[2, 9], [1, 3], [1, 2]]), -1), 3, 3
-    yield "6_after_7", record([[2, 2], [1, 3]]), 2, 2
-    yield "7_after_8", record([[2], [], [2, 1, 2]]), 3, 2
-    yield "5_to_8", flipped(record([[2, 2, 3], [1], [3, 9]]), -1), 3, 3
+    yield "6_after_8", record([[2, 2], [1, 3]]), 2, 2
+    yield "5_6_and_8", flipped(record([[2, 2, 3], [1], [3, 9]]), -1), 3, 3
 
 
 def lines():

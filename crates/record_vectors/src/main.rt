@@ -159,6 +159,35 @@ fn accepted() {
     run(b"apart", b"\x00\x28\x00\x1D\xA0\x06\x00\x20", 5, 1);
 }
 
+// Accepted records with several wires between the same terminals: two; three; two with a single one behind them; two
+// with other mentions between theirs.
+fn doubled() {
+    run(
+        b"pair",
+        b"\x00\x10\x00\x29\x00\x04\x00\x40\x00\x00\x00",
+        2,
+        2,
+    );
+    run(
+        b"triple",
+        b"\x00\x10\x00\x38\x80\x01\x00\x10\x01\x00\x00\x00\x00\x00",
+        2,
+        3,
+    );
+    run(
+        b"tail",
+        b"\x00\x18\x00\x39\x10\x00\x80\x08\x00\x00\x10\x00\x00\x08",
+        3,
+        3,
+    );
+    run(
+        b"crossed",
+        b"\x00\x18\x00\x48\x88\x00\x20\x04\x00\x20\x04\x00\x00\x00\x00\x00\x02",
+        3,
+        4,
+    );
+}
+
 // 1: under 4 bytes.
 fn too_short() {
     run(b"none", b"", 1, 1);
@@ -241,23 +270,7 @@ fn stray() {
     );
 }
 
-// 7: a neighbour twice in one block.
-fn doubled() {
-    run(
-        b"doubled",
-        b"\x00\x10\x00\x29\x00\x04\x00\x40\x00\x00\x00",
-        2,
-        2,
-    );
-    run(
-        b"doubled_last",
-        b"\x00\x18\x00\x49\x20\x00\x40\x02\x00\x00\x04\x00\x00\x02\x00\x00\x02",
-        3,
-        4,
-    );
-}
-
-// 8: a wire listed at one end only.
+// 8: a neighbour that does not mention the terminal.
 fn one_sided() {
     run(
         b"one_sided",
@@ -270,6 +283,40 @@ fn one_sided() {
         b"\x00\x20\x00\x2A\xA0\x01\x00\x20\x03\x00\x00",
         4,
         2,
+    );
+    run(
+        b"round_twice",
+        b"\x00\x18\x00\x39\x20\x00\x80\x08\x01\x00\x10\x00\x00\x00",
+        3,
+        3,
+    );
+    run(
+        b"doubled_sided",
+        b"\x00\x18\x00\x2B\x00\x02\x00\x20\x00\x00\x20",
+        3,
+        2,
+    );
+}
+
+// 8: two terminals that mention each other, one more often than the other.
+fn unequal() {
+    run(
+        b"more",
+        b"\x00\x10\x00\x28\x80\x04\x00\x40\x04\x00\x00",
+        2,
+        2,
+    );
+    run(
+        b"less",
+        b"\x00\x10\x00\x2A\x00\x04\x00\x00\x00\x00\x00",
+        2,
+        2,
+    );
+    run(
+        b"more_last",
+        b"\x00\x18\x00\x49\x20\x00\x40\x02\x00\x00\x04\x00\x00\x02\x00\x00\x02",
+        3,
+        4,
     );
 }
 
@@ -294,19 +341,13 @@ fn several() {
         3,
     );
     run(
-        b"6_after_7",
+        b"6_after_8",
         b"\x00\x10\x00\x29\x00\x04\x00\x40\x00\x00\x80",
         2,
         2,
     );
     run(
-        b"7_after_8",
-        b"\x00\x18\x00\x2B\x00\x02\x00\x20\x00\x00\x20",
-        3,
-        2,
-    );
-    run(
-        b"5_to_8",
+        b"5_6_and_8",
         b"\x00\x18\x00\x38\xA0\x00\x80\x08\x01\x00\x00\x01\x00\x41",
         3,
         3,
@@ -328,14 +369,15 @@ fn widest() {
 
 fn main() {
     accepted();
+    doubled();
     too_short();
     over_limit();
     wrong_length();
     bad_unary();
     spare_set();
     stray();
-    doubled();
     one_sided();
+    unequal();
     several();
     widest();
 }
