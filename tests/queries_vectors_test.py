@@ -7,7 +7,7 @@ in brackets. With an argument it prints the lines instead.
 from packing import SAMPLE, WIRE, flipped, index_layout, layout, ones_at, record, whole
 from plain import ancestor, answer, blocks_of, bridges, check, child, children, head, index_of, parent, refuse
 from plain import refuse_14, sizes, visit, visited
-from shapes import FIXED, filled, places, with_ones
+from shapes import DOUBLED, FIXED, filled, places, with_ones
 from stored import main
 
 LARGEST = 2**64 - 1
@@ -71,10 +71,29 @@ def as_built():
         yield name, record(blocks), built(blocks), len(blocks) + 1
 
 
-def started():
+def started(*starts):
     """From other starts."""
-    for name, start in ("sample", 4), ("path", 5):
+    for name, start in starts:
         yield f"{name}_from_{start}", record(FIXED[name]), built(FIXED[name], start), len(FIXED[name]) + 1
+
+
+def doubled():
+    """Several wires between the same terminals, from the first terminal and some from others."""
+    for name in DOUBLED:
+        yield name, record(FIXED[name]), built(FIXED[name]), len(FIXED[name]) + 1
+    yield from started(("tail", 3), ("crossed", 2), ("joined_twice", 4), ("feeds", 3))
+
+
+def on_pair():
+    """Marks at the second mentions; in E at both, with B at the second ones; with B at the first ones; in P at both."""
+    pair = FIXED["pair"]
+    for name, e, p, b in (
+        ("pair_second", {3}, {6}, {}),
+        ("pair_both", {2, 3}, {5}, {3, 6}),
+        ("pair_bridge", {2}, {5}, {2, 5}),
+        ("pair_two_marks", {2}, {5, 6}, {5}),
+    ):
+        yield name, record(pair), made(pair, e, p, b, [0, 1]), 3
 
 
 # the marks and stored numbers of the sample's index
@@ -110,8 +129,8 @@ def climbs():
 
 
 def unaccepted():
-    """Records that Check refuses and order R does not: fields of n and more, a terminal's own number, a neighbour twice, a wire listed at
-    one end only, spare bits."""
+    """Records that Check refuses and order R does not: fields of n and more, a terminal's own number, a wire listed at
+    one end only, a neighbour that is mentioned more often than it mentions, spare bits."""
     stray = [[3, 7], [1, 3], [2, 4, 1], [3], [7], [5]]
     yield "stray", record(stray), made(stray, SAMPLE_E, SAMPLE_P | {14}, {9, 12, 14}, SAMPLE_NUMBERS), 7
     far = [[3, 2], [1, 3], [2, 4096, 1], [4096], [6], [4096]]
@@ -119,10 +138,10 @@ def unaccepted():
     own = [[1, 1]]
     for name, p, b in (("own", {2}, {}), ("own_bridge", {2}, {2}), ("own_other", {2}, {3}), ("own_twice", {2, 3}, {2, 3})):
         yield name, record(own), made(own, {2, 3}, p, b, [0]), 2
-    doubled = [[2, 2], [1, 1]]
-    yield "doubled", record(doubled), made(doubled, {2, 3}, {5}, {3, 6}, [0, 1]), 3
     one_sided = [[2, 3], [1], [2]]
     yield "one_sided", record(one_sided), made(one_sided, {2, 3}, {5, 7}, {7}, [0, 1, 2]), 4
+    more = [[2, 2, 2], [1]]
+    yield "more", record(more), made(more, {2, 4}, {6}, {4, 6}, [0, 1]), 3
     yield "spare", flipped(record(SAMPLE), -1, -2, -3, -4), built(SAMPLE), 7
 
 
@@ -158,7 +177,9 @@ def refusals():
 
 def pairs():
     yield from as_built()
-    yield from started()
+    yield from started(("sample", 4), ("path", 5))
+    yield from doubled()
+    yield from on_pair()
     yield from on_sample()
     yield from climbs()
     yield from unaccepted()
@@ -190,12 +211,13 @@ def tabled(name, data, start, work, *rooms):
 
 
 def tables():
-    """Accepted records and one for each of 1 to 8, with what they ask for. The sample with one number of work more;
-    with 9, before 10; with 10, for each list in turn, too short and too long; and 5 before both. Then other starts:
-    accepted; 14; and after 9, 10 and 5."""
+    """Accepted records and some for each of 1 to 6 and 8, with what they ask for. The sample with one number of work
+    more; with 9, before 10; with 10, for each list in turn, too short and too long; and 5 before both. Then other
+    starts: accepted; 14; and after 9, 10 and 5."""
     data = {name: given for name, given, _, _ in pairs()}
-    accepted = [(name, len(FIXED[name])) for name in BUILT]
-    bad = [("three_bytes", 2), ("wide", 2), ("short", 6), ("few_ones", 6), ("spare", 6), ("stray", 6), ("doubled", 2), ("one_sided", 3)]
+    accepted = [(name, len(FIXED[name])) for name in [*BUILT, "pair", "feeds"]]
+    bad = [("three_bytes", 2), ("wide", 2), ("short", 6), ("few_ones", 6), ("spare", 6), ("stray", 6)]
+    bad += [("one_sided", 3), ("more", 2)]
     for name, n in accepted + bad:
         yield name, data[name], min(1, n), 8 * n, n, n, n, n
     for work, first in (49, 6), (47, 6), (47, 5):
@@ -204,7 +226,8 @@ def tables():
         for room in 5, 7:
             yield "sample", data["sample"], 1, 48, *(room if i == other else 6 for i in range(4))
     yield "spare", data["spare"], 1, 47, 6, 6, 6, 7
-    for name, start in *(("sample", start) for start in range(2, 7)), ("wire", 2), ("path", 5), ("apart", 9):
+    others = [("wire", 2), ("path", 5), ("apart", 9), ("pair", 2), ("feeds", 3)]
+    for name, start in *(("sample", start) for start in range(2, 7)), *others:
         n = len(FIXED[name])
         yield name, data[name], start, 8 * n, n, n, n, n
     for start in 0, 7, 65537, LARGEST:

@@ -167,6 +167,97 @@ fn started() {
     );
 }
 
+// The indexes that Build writes for several wires between the same terminals: two; three; two with a single one behind
+// them; two with other mentions between theirs.
+fn doubled() {
+    run(
+        b"pair",
+        b"\x00\x10\x00\x29\x00\x04\x00\x40\x00\x00\x00",
+        b"\x40\x08\x00\x00\x00\x01",
+        3,
+    );
+    run(
+        b"triple",
+        b"\x00\x10\x00\x38\x80\x01\x00\x10\x01\x00\x00\x00\x00\x00",
+        b"\x40\x04\x00\x00\x00\x01",
+        3,
+    );
+    run(
+        b"tail",
+        b"\x00\x18\x00\x39\x10\x00\x80\x08\x00\x00\x10\x00\x00\x08",
+        b"\x44\x00\x08\x80\x04\x80\x00\x00\x01\x00\x20",
+        4,
+    );
+    run(
+        b"crossed",
+        b"\x00\x18\x00\x48\x88\x00\x20\x04\x00\x20\x04\x00\x00\x00\x00\x00\x02",
+        b"\x44\x00\x02\x20\x00\x00\x00\x00\x01\x00\x20",
+        4,
+    );
+}
+
+// The same for two triangles joined by two wires, and for a path with single wires between doubled and tripled ones.
+fn joined_twice() {
+    run(
+        b"joined_twice",
+        b"\x00\x30\x00\x89\x21\x09\x00\x14\x00\xC0\x10\x00\x80\x0C\x01\x00\x0C\x00\x40\x00\x00\x80\x14\x00\x80\x04\x00\x80\x0C\x00\x00",
+        b"\x40\x84\x48\x09\x02\x24\x00\x00\x00\x00\x00\x05\x00\x30\x02\x00\x40\x01",
+        7,
+    );
+    run(
+        b"feeds",
+        b"\x00\x30\x00\x98\x84\x90\x80\x03\x00\x40\x03\x00\x40\x05\x00\x40\x04\x00\x50\x05\x00\x00\x00\x00\x10\x01\x00\x00\x01\x00\x20\x01\x00\x20",
+        b"\x62\x00\x84\x04\x24\x22\x22\x00\x22\x00\x00\x03\x00\x50\x01\x00\x20\x04",
+        7,
+    );
+}
+
+// The same from other starts.
+fn doubled_started() {
+    run(
+        b"tail_from_3",
+        b"\x00\x18\x00\x39\x10\x00\x80\x08\x00\x00\x10\x00\x00\x08",
+        b"\x08\x80\x44\x00\x04\x80\x00\x20\x01\x00\x00",
+        4,
+    );
+    run(
+        b"crossed_from_2",
+        b"\x00\x18\x00\x48\x88\x00\x20\x04\x00\x20\x04\x00\x00\x00\x00\x00\x02",
+        b"\x04\x40\x20\x20\x00\x00\x00\x20\x00\x00\x10",
+        4,
+    );
+    run(
+        b"joined_twice_from_4",
+        b"\x00\x30\x00\x89\x21\x09\x00\x14\x00\xC0\x10\x00\x80\x0C\x01\x00\x0C\x00\x40\x00\x00\x80\x14\x00\x80\x04\x00\x80\x0C\x00\x00",
+        b"\x40\x8C\x40\x29\x00\x24\x00\x00\x00\x00\x10\x05\x00\x30\x00\x00\x40\x02",
+        7,
+    );
+    run(
+        b"feeds_from_3",
+        b"\x00\x30\x00\x98\x84\x90\x80\x03\x00\x40\x03\x00\x40\x05\x00\x40\x04\x00\x50\x05\x00\x00\x00\x00\x10\x01\x00\x00\x01\x00\x20\x01\x00\x20",
+        b"\x44\x20\x22\x22\x04\x84\x22\x00\x22\x00\x40\x02\x00\x00\x05\x00\x30\x01",
+        7,
+    );
+}
+
+// Two wires between two terminals, with an index that Build does not write for them.
+fn on_pair(name: &[u8], index: &[u8]) {
+    run(
+        name,
+        b"\x00\x10\x00\x29\x00\x04\x00\x40\x00\x00\x00",
+        index,
+        3,
+    );
+}
+
+// Marks at the second mentions; in E at both, with B at the second ones; with B at the first ones; in P at both.
+fn pairs() {
+    on_pair(b"pair_second", b"\x20\x04\x00\x00\x00\x01");
+    on_pair(b"pair_both", b"\x60\x08\x24\x00\x00\x01");
+    on_pair(b"pair_bridge", b"\x40\x08\x48\x00\x00\x01");
+    on_pair(b"pair_two_marks", b"\x40\x0C\x08\x00\x00\x01");
+}
+
 // The sample with an index that Build does not write for it.
 fn on_sample(name: &[u8], index: &[u8]) {
     run(
@@ -289,19 +380,19 @@ fn own() {
     );
 }
 
-// A neighbour twice in one block, a wire listed at one end only, spare bits set.
+// A wire listed at one end only, a neighbour that is mentioned more often than it mentions, spare bits set.
 fn unaccepted() {
-    run(
-        b"doubled",
-        b"\x00\x10\x00\x29\x00\x04\x00\x40\x00\x00\x00",
-        b"\x60\x08\x24\x00\x00\x01",
-        3,
-    );
     run(
         b"one_sided",
         b"\x00\x18\x00\x29\x40\x02\x00\x40\x00\x00\x20",
         b"\x60\x0A\x02\x00\x00\x01\x00\x20",
         4,
+    );
+    run(
+        b"more",
+        b"\x00\x10\x00\x28\x80\x04\x00\x40\x04\x00\x00",
+        b"\x50\x04\x14\x00\x00\x01",
+        3,
     );
     run(
         b"spare",
@@ -431,6 +522,10 @@ fn main() {
     stated();
     built();
     started();
+    doubled();
+    joined_twice();
+    doubled_started();
+    pairs();
     parents();
     others();
     climbs();
@@ -447,8 +542,10 @@ fn main() {
         b"\x41\x84\x04\x51\x00\x95\x00\x00\x02\x00\x10\x03\x00\x40\x05",
     );
     tables::accepted();
+    tables::doubled();
     tables::bad_records();
     tables::bad_lengths();
     tables::other_starts();
+    tables::doubled_starts();
     tables::bad_starts();
 }

@@ -170,6 +170,24 @@ fn apart(start: usize) {
     );
 }
 
+fn pair(start: usize) {
+    run_from(
+        b"pair",
+        b"\x00\x10\x00\x29\x00\x04\x00\x40\x00\x00\x00",
+        start,
+        2,
+    );
+}
+
+fn feeds(start: usize) {
+    run_from(
+        b"feeds",
+        b"\x00\x30\x00\x98\x84\x90\x80\x03\x00\x40\x03\x00\x40\x05\x00\x40\x04\x00\x50\x05\x00\x00\x00\x00\x10\x01\x00\x00\x01\x00\x20\x01\x00\x20",
+        start,
+        6,
+    );
+}
+
 // Document 01's records, a path, components with isolated terminals between them, two triangles joined by a bridge, a
 // cycle with a chord and a tail.
 pub fn accepted() {
@@ -191,7 +209,13 @@ pub fn accepted() {
     );
 }
 
-// 1 to 8.
+// Several wires between the same terminals: two; a path with single wires between doubled and tripled ones.
+pub fn doubled() {
+    pair(1);
+    feeds(1);
+}
+
+// 1 to 6, and 8.
 pub fn bad_records() {
     run(b"three_bytes", b"\x00\x00\x00", 2);
     run(b"wide", b"\x80\x08\x00\x00", 2);
@@ -212,15 +236,11 @@ pub fn bad_records() {
         6,
     );
     run(
-        b"doubled",
-        b"\x00\x10\x00\x29\x00\x04\x00\x40\x00\x00\x00",
-        2,
-    );
-    run(
         b"one_sided",
         b"\x00\x18\x00\x29\x40\x02\x00\x40\x00\x00\x20",
         3,
     );
+    run(b"more", b"\x00\x10\x00\x28\x80\x04\x00\x40\x04\x00\x00", 2);
 }
 
 // Work of one number more, which is accepted; 9, before 10; 10, for each list in turn, too short and too long; and 5
@@ -250,6 +270,12 @@ pub fn other_starts() {
     wire(2);
     path(5);
     apart(9);
+}
+
+// Those with several wires between the same terminals.
+pub fn doubled_starts() {
+    pair(2);
+    feeds(3);
 }
 
 // 14: the start is 0 or above n, and the empty record takes 0 only. Then 9 and 10 before 14, and 5 before all.
