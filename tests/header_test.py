@@ -198,8 +198,8 @@ def from_start(data, start, together):
 
 
 def sections(data):
-    """From every start, heads are equal exactly where two terminals are joined, and stay so whichever wire is taken
-    out."""
+    """From every start, heads are equal exactly where two terminals are joined, and stay so whichever single wire is
+    taken out, also one of several between the same terminals."""
     blocks = blocks_of(data)
     looms = [blocks] + [without(blocks, wire) for wire in wires(blocks)]
     everyone = range(1, len(blocks) + 1)
@@ -255,7 +255,7 @@ def on_other_lengths(data):
     return summed(asking((data, bytes(length)), most=2) for length in sorted({0, 1, size, size + 1, size + 2, 2 * size, abs(size - 1)}))
 
 
-# Document 01's own words, and the sample from another start
+# Document 01's own words, the sample from another start, and doubled wires
 
 SAMPLE_BYTES = "00 30 00 59 22 A0 02 00 10 00 00 20 01 00 30 00 00 20 05 00 40"
 # a record that is accepted, its index and its heads
@@ -265,8 +265,16 @@ STATED = [
     ("00 08 00 08", "00 00 00 00 00", [1]),
     ("00 10 00 1A 00 10 00", "40 10 50 00 00 01", [1, 2]),
 ]
-# the same for the sample from a start, worked by hand: 4, 3, 2, 1, 5, 6 are visited in this order
-WORKED = (SAMPLE_BYTES, "09 14 24 81 00 95 00 30 02 00 10 00 00 40 05", [3, 3, 3, 4, 5, 6], 4)
+# the same, worked by hand
+WORKED = [
+    # the sample from 4: the order of visits is 4, 3, 2, 1, 5, 6
+    (SAMPLE_BYTES, "09 14 24 81 00 95 00 30 02 00 10 00 00 40 05", [3, 3, 3, 4, 5, 6], 4),
+    # 1: 2 2; 2: 1 1
+    ("00 10 00 29 00 04 00 40 00 00 00", "40 08 00 00 00 01", [1, 1]),
+    # 1: 2 2; 2: 1 3 1; 3: 2, from 1 and from 3
+    ("00 18 00 39 10 00 80 08 00 00 10 00 00 08", "44 00 08 80 04 80 00 00 01 00 20", [1, 1, 3]),
+    ("00 18 00 39 10 00 80 08 00 00 10 00 00 08", "08 80 44 00 04 80 00 20 01 00 00", [2, 2, 3], 3),
+]
 # a record that is refused, and the number
 STATED_REFUSALS = [
     (bytes.fromhex("00 30 00 59 22 A0 02 00 10 00 00 20 01 00 30 00 00 20 05 00 41"), 5),
@@ -364,25 +372,33 @@ def some(rng, given, most, count):
     return rng.sample([data for data in given if not answer(order_r, data)[0] and 1 <= sizes(data)[0] <= most], count)
 
 
+def is_doubled(data):
+    """Whether a neighbour stands several times in a block."""
+    return any(len(set(block)) < len(block) for block in blocks_of(data))
+
+
 def twins(rng):
     """Two records with one n and m."""
     n = rng.randint(2, 14)
     m = rng.randint(1, min(20, n * (n - 1) // 2))
-    return tuple(record(shapes.shuffled(rng, shapes.sparse(rng, n, m))) for _ in range(2))
+    kinds = rng.choices([shapes.sparse, shapes.scattered], k=2)
+    return tuple(record(shapes.shuffled(rng, kind(rng, n, m))) for kind in kinds)
 
 
 def families():
     rng = Random("header")
-    every, large, large_damaged = (records(family) for family in (shapes.every(4), shapes.largest(), shapes.largest_damaged()))
+    every = records(shapes.every(4), shapes.every_doubled())
+    large, large_damaged = records(shapes.largest()), records(shapes.largest_damaged())
     small, medium, damaged = (records(*named.values()) for named in (shapes.small(), shapes.medium(), shapes.damaged()))
+    doubled = [data for data in small if is_doubled(data)]
     marked = [[[1, 1]], WIRE, [[3], [1]], [[2], [1], []], [[2, 2], [1, 1]]]
     return {
-        "document 01's records, and a start": (stated, [*STATED, WORKED]),
+        "document 01's records, and others by hand": (stated, STATED + WORKED),
         "the documents' refusals": (stated_refusal, STATED_REFUSALS),
         "the header's version": (version, [header_version()]),
         "largest": (largest, large),
         "largest damaged": (largest, large_damaged),
-        "largest, indexes that nobody built": (on_unbuilt, large_damaged[3:6]),
+        "largest, indexes that nobody built": (on_unbuilt, some(rng, large_damaged, MOST_TERMINALS, 3)),
         "without an index": (alone, every + small + medium + damaged),
         "Build": (building, every + small + medium + damaged),
         "table": (tabling, every[::4] + small[::2] + medium[::4] + damaged[::2]),
@@ -393,7 +409,7 @@ def families():
         "climbs": (on_climbs, range(3, 15)),
         "every set of marks": (on_every_mark, marked),
         "indexes of other lengths": (on_other_lengths, some(rng, small, 40, 60) + rng.sample(damaged, 300)),
-        "sections": (sections, some(rng, small, 12, 400)),
+        "sections": (sections, some(rng, small, 12, 400) + some(rng, doubled, 12, 100)),
         "starts": (started, every + small + medium),
         "short strings": (counting, short_strings()),
         "strings": (counting, strings("strings", range(8, 200, 3), 20)),

@@ -257,6 +257,7 @@ def families():
         "largest": (compare, large),
         "largest damaged": (compare, damaged),
         "every record of at most 4 terminals": (compare, shapes.every(4)),
+        "every small record with a doubled wire": (compare, shapes.every_doubled()),
         **{name: (compare, cases) for name, cases in shapes.small().items()},
         **{f"medium {name}": (compare, cases) for name, cases in shapes.medium().items()},
         **{name: (compare, cases) for name, cases in shapes.damaged().items()},

@@ -1,9 +1,10 @@
 """Records of many shapes, accepted and damaged, and indexes that nobody built; the same ones on every run.
 
-A graph is its number of terminals and its wires, which are pairs of terminals. A family is a list of pairs: the refusal that Check must
-give by the way in which the record was made, 0 for none and None where that doesn't tell, and the record.
+A graph is its number of terminals and its wires, which are pairs of terminals; a pair that stands several times is as
+many wires. A family is a list of pairs: the refusal that Check must give by the way in which the record was made, 0 for
+none and None where that doesn't tell, and the record.
 """
-from itertools import combinations, permutations, product
+from itertools import combinations, combinations_with_replacement, permutations, product
 from random import Random
 
 from packing import SAMPLE, WIRE, binary, bits_of, flipped, index_layout, index_length, layout, packed, record, record_length, unary
@@ -111,15 +112,15 @@ def apart(*graphs):
     return total, wires
 
 
-def bridged(rng, *graphs):
-    """The graphs with one wire from each to one before it."""
+def bridged(rng, *graphs, count=1):
+    """The graphs with so many wires, all between the same two terminals, from each to one before it."""
     starts = [sum(n for n, _ in graphs[:i]) for i in range(len(graphs))]
 
     def some(i):
         return starts[i] + rng.randrange(1, graphs[i][0] + 1)
 
     n, wires = apart(*graphs)
-    return n, wires + [(some(rng.randrange(i)), some(i)) for i in range(1, len(graphs))]
+    return n, wires + count * [(some(rng.randrange(i)), some(i)) for i in range(1, len(graphs))]
 
 
 def several(rng, most, total):
@@ -131,6 +132,47 @@ def several(rng, most, total):
         kinds = [path(n), (n, [])] if n < 3 else [ring(n), clique(n), up_to(rng, ring(n), n + n // 3), tree(rng, n)]
         found.append(rng.choice(kinds))
     return found
+
+
+def any_kind(rng, n):
+    """A graph of any kind."""
+    kinds = [path(n), star(n), hubs(n, 2), ring(n), tree(rng, n), binary_tree(n), caterpillar(n), grid(3, n // 3)]
+    kinds += [sides(n, min(n // 3, 9)), up_to(rng, ring(n), n + n // 4), sparse(rng, n, n)]
+    return rng.choice([*kinds, apart(*several(rng, 5, n)), bridged(rng, *several(rng, 5, n))])
+
+
+# Several wires between the same terminals
+
+def times(count, graph):
+    """Each wire so many times."""
+    n, wires = graph
+    return n, count * wires
+
+
+def all_doubled(graphs):
+    return [times(2, graph) for graph in graphs]
+
+
+def doubled(rng, graph):
+    """Some wires doubled, some tripled, and the wires in any order."""
+    n, wires = graph
+    more = [wire for wire in wires for _ in range(2) if rng.random() < 0.3]
+    return n, rng.sample(wires + more, len(wires + more))
+
+
+def together(*graphs):
+    """The wires of all of them, between the same terminals."""
+    return graphs[0][0], [wire for _, wires in graphs for wire in wires]
+
+
+def heavy(n, count):
+    """A star with so many wires more to its first leaf."""
+    return n, star(n)[1] + count * [(1, 2)]
+
+
+def scattered(rng, n, m):
+    """So many wires, each between any two terminals."""
+    return n, [tuple(rng.sample(range(1, n + 1), 2)) for _ in range(m)]
 
 
 # Records of graphs
@@ -168,14 +210,32 @@ def variants(rng, graphs):
 
 # Families of accepted records
 
+def ordered(graph):
+    """The blocks with the neighbours in each order."""
+    return product(*(dict.fromkeys(permutations(block)) for block in listed(graph)))
+
+
 def every(most):
-    """Every accepted record of at most so many terminals: each set of wires, and each order of each block."""
+    """Every accepted record of at most so many terminals with no doubled wire: each set of wires, and each order of
+    each block."""
     found = []
     for n in range(most + 1):
         pairs = list(combinations(range(1, n + 1), 2))
         for size in range(len(pairs) + 1):
             for wires in combinations(pairs, size):
-                found += product(*(permutations(block) for block in listed((n, wires))))
+                found += ordered((n, wires))
+    return [(0, record(blocks)) for blocks in found]
+
+
+def every_doubled():
+    """Every accepted record with a doubled wire of 2 or 3 terminals and at most 5 wires, or of 4 and at most 4."""
+    found = []
+    for n, most in (2, 5), (3, 5), (4, 4):
+        pairs = list(combinations(range(1, n + 1), 2))
+        for size in range(2, most + 1):
+            for wires in combinations_with_replacement(pairs, size):
+                if len(set(wires)) < size:
+                    found += ordered((n, wires))
     return [(0, record(blocks)) for blocks in found]
 
 
@@ -200,12 +260,30 @@ def accepted(rng, sizes):
     }
 
 
+def multigraphs(rng, sizes):
+    """By name, records with several wires between the same terminals, with terminals of these sizes."""
+    def grown(kind):
+        return variants(rng, [kind(n) for n in sizes])
+
+    return {
+        "some wires doubled": grown(lambda n: doubled(rng, any_kind(rng, n))),
+        "each wire doubled": grown(lambda n: times(rng.choice((2, 2, 3)), any_kind(rng, n))),
+        "trees with doubled wires": grown(lambda n: doubled(rng, tree(rng, n))),
+        "doubled trees with other wires": grown(lambda n: together(times(2, tree(rng, n)), sparse(rng, n, n // 2))),
+        "doubled bridges": grown(lambda n: bridged(rng, *several(rng, 2 + n // 4, n), count=2)),
+        "bridges among doubled wires": grown(lambda n: bridged(rng, *all_doubled(several(rng, 2 + n // 4, n)))),
+        "heavy wires": grown(lambda n: heavy(n, n)),
+        "scattered wires": grown(lambda n: scattered(rng, n, n + n // 2)),
+    }
+
+
 def small():
     """The families of up to 40 terminals."""
     rng = Random("small")
     return {
         "fixed": [(0, record(blocks)) for blocks in FIXED.values()],
         **accepted(rng, range(3, 41, 2)),
+        **multigraphs(rng, range(3, 41, 3)),
         "dense": variants(rng, [sparse(rng, n, n * (n - 1) // 3) for n in range(5, 41, 2)]),
         "cliques": variants(rng, [clique(n) for n in range(3, 25)]),
     }
@@ -213,7 +291,7 @@ def small():
 
 def medium():
     rng = Random("medium")
-    families = accepted(rng, (70, 160, 301, 600))
+    families = {**accepted(rng, (70, 160, 301, 600)), **multigraphs(rng, (80, 350))}
     families["dense"] = variants(rng, [sparse(rng, n, n * (n - 1) // 3) for n in (60, 90)])
     families["cliques"] = variants(rng, [clique(n) for n in (64, 100)])
     return families
@@ -251,6 +329,13 @@ def largest():
         renamed(rng, up_to(rng, hubs(n, 3), m)),
         renamed(rng, up_to(rng, apart(clique(157), path(n - 157)), m)),
         renamed(rng, apart(sparse(rng, 200, m - n + 202), tree(rng, n - 295), path(95))),
+        # several wires between the same terminals
+        times(m, path(2)),
+        times(4, path(n)),
+        heavy(n, m - n + 1),
+        scattered(rng, n, m),
+        times(2, tree(rng, n)),
+        renamed(rng, bridged(rng, *all_doubled(several(rng, 6, n)))),
     ]
     return [(0, record(shuffled(rng, graph))) for graph in graphs]
 
