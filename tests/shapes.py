@@ -342,17 +342,55 @@ def largest():
 
 # Damaged records
 
-def changed(rng, blocks, v, rule):
-    """The blocks with one field of v's block changed so that the rule, one of 6 to 8, is broken there."""
-    n, block = len(blocks), list(blocks[v - 1])
-    j, other = rng.sample(range(len(block)), 2)
-    if rule == 6:
-        block[j] = rng.choice([v, n + 1, rng.randint(n + 1, 4096)] if n < 4096 else [v])
-    elif rule == 7:
-        block[j] = block[other]
-    else:
-        block[j] = rng.choice([w for w in range(1, n + 1) if w != v and w not in block])
-    return blocks[: v - 1] + [block] + blocks[v:]
+def changed(blocks, v, j, *neighbours):
+    """The blocks with these neighbours, one, several or none, for the one at position j of v's block."""
+    block = blocks[v - 1]
+    return [*blocks[: v - 1], [*block[:j], *neighbours, *block[j + 1 :]], *blocks[v:]]
+
+
+def position(rng, blocks, v):
+    return rng.randrange(len(blocks[v - 1]))
+
+
+def strayed(rng, blocks, v):
+    """A neighbour of v becomes v itself or a number above n."""
+    n = len(blocks)
+    stray = rng.choice([v, n + 1, rng.randint(n + 1, 4096)] if n < 4096 else [v])
+    return changed(blocks, v, position(rng, blocks, v), stray)
+
+
+# Ways to break rule 8, in blocks that keep it
+
+def replaced(rng, blocks, v):
+    """A neighbour of v becomes a terminal that v does not mention."""
+    others = {*range(1, len(blocks) + 1)} - {v, *blocks[v - 1]}
+    return changed(blocks, v, position(rng, blocks, v), rng.choice(sorted(others)))
+
+
+def repeated(rng, blocks, v):
+    """A neighbour of v becomes another one that v mentions."""
+    j = position(rng, blocks, v)
+    return changed(blocks, v, j, rng.choice([w for w in blocks[v - 1] if w != blocks[v - 1][j]]))
+
+
+def uneven(rng, blocks, v):
+    """A neighbour of v stands in its block once more, and v once less in the neighbour's."""
+    j = position(rng, blocks, v)
+    w = blocks[v - 1][j]
+    return changed(changed(blocks, v, j, w, w), w, blocks[w - 1].index(v))
+
+
+def exchanged(rng, blocks, v):
+    """v and another terminal exchange a neighbour: all together mention each terminal as often as before."""
+    while True:
+        w = rng.randint(1, len(blocks))
+        i, j = position(rng, blocks, v), position(rng, blocks, w)
+        x, y = blocks[v - 1][i], blocks[w - 1][j]
+        if len({v, w, x, y}) == 4:
+            return changed(changed(blocks, v, i, y), w, j, x)
+
+
+UNEQUAL = [replaced, repeated, uneven, exchanged]
 
 
 def break_early(rng, data, rule, n, m):
@@ -376,19 +414,22 @@ def spare(n, m):
 
 
 def loose(rng):
-    """A small ring with chords, whose record has spare bits."""
+    """A small ring with chords or with doubled wires, whose record has spare bits."""
     n = rng.randint(8, 14)
     m = rng.choice([m for m in range(n, n + 4) if spare(n, m)])
-    return up_to(rng, ring(n), m)
+    return rng.choice([up_to(rng, ring(n), m), together(ring(n), (n, rng.choices(ring(n)[1], k=m - n)))])
 
 
-def broken(rng, rules, graph=None):
-    """A record that breaks these rules of 1 to 8. Of 6, 7 and 8 each is broken in another block, often the lowest of them in the last."""
+def broken(rng, rules, graph=None, way=None):
+    """A record that breaks these rules of 1 to 6 and 8, and 8 in this way or in any. 6 is broken in another block than
+    the one in which 8 is first, often in the last."""
     n, wires = graph or loose(rng)
     blocks = shuffled(rng, renamed(rng, (n, wires)))
-    places = rng.choice([[n, 1, 2], [1, n, n - 1], rng.sample(range(1, n + 1), 3)])
-    for rule, v in zip(sorted(rules & {6, 7, 8}), places):
-        blocks = changed(rng, blocks, v, rule)
+    u, v = rng.choice([[n, 1], [1, n], rng.sample(range(1, n + 1), 2)])
+    if 8 in rules:
+        blocks = (way or rng.choice(UNEQUAL))(rng, blocks, v)
+    if 6 in rules:
+        blocks = strayed(rng, blocks, u)
     data = record(blocks)
     for rule in sorted(rules & {1, 2, 3, 4, 5}, reverse=True):
         data = break_early(rng, data, rule, n, len(wires))
@@ -435,8 +476,15 @@ def limits():
         (6, record([[3], [1]])),
         (6, record([[2], [4096]])),
         (6, record([[2, 2], [1, 3]])),
+        # mentions: as many on either side, more on one side, as many in all but not between every two
         (0, record([[2, 2], [1, 1]])),
+        (0, record([[3, 2, 3], [1], [1, 1]])),
+        (8, record([[2, 2, 2], [1]])),
+        (8, record([[2], [1, 1, 1]])),
+        (8, record([[2] * 16385, [1] * 16383])),
         (8, record([[2], [], [2, 1, 2]])),
+        (8, record([[2, 2], [3, 3], [1, 1]])),
+        (8, record([[2, 2, 2], [1, 3, 3], [1, 1]])),
         (8, record([[2, 3], [1], [2]])),
         (8, record([[2], [3], [4], [1]])),
         (8, record([[2, 3], [], []])),
@@ -466,7 +514,8 @@ def moved(rng, count):
     """Records whose D has its ones at other places, the first one kept, or whose fields stand in another order."""
     found = []
     for _ in range(count):
-        blocks = shuffled(rng, sparse(rng, rng.randint(3, 12), rng.randint(2, 14)))
+        kind = rng.choice([sparse, scattered])
+        blocks = shuffled(rng, kind(rng, rng.randint(3, 12), rng.randint(2, 14)))
         d, fields = unary(blocks), [w - 1 for block in blocks for w in block]
         if rng.random() < 0.5:
             d = d[0] + "".join(rng.sample(d[1:], len(d) - 1))
@@ -494,16 +543,30 @@ def chance(rng, count):
     return [(None, data) for data in found]
 
 
+def listings(n, m):
+    """Every record of n terminals and m wires that keeps rules 1 to 6."""
+    found = []
+    # the terminal of each field in turn
+    for owners in combinations_with_replacement(range(1, n + 1), 2 * m):
+        for fields in product(*([w for w in range(1, n + 1) if w != v] for v in owners)):
+            found.append([[w for owner, w in zip(owners, fields) if owner == v] for v in range(1, n + 1)])
+    return [(None, record(blocks)) for blocks in found]
+
+
 def damaged():
     """The families of damaged records, all but a few of them small."""
     rng = Random("damaged")
-    rules = range(1, 9)
-    bases = [record(FIXED[name]) for name in ("sample", "wire", "single", "empty", "bowtie", "theta", "clique")]
+    rules = [1, 2, 3, 4, 5, 6, 8]
+    named = ("sample", "wire", "single", "empty", "bowtie", "theta", "clique", "pair", "crossed")
+    bases = [record(FIXED[name]) for name in named]
+    sets = [set(rng.sample(rules[2:], rng.randint(3, 5))) for _ in range(200)]
     return {
         "limits": limits(),
         **{f"refused {rule}": [(rule, broken(rng, {rule})) for _ in range(60)] for rule in rules},
         "two rules": [(a, broken(rng, {a, b})) for a, b in combinations(rules, 2) for _ in range(10)],
-        "several rules": [(min(some), broken(rng, some)) for some in (set(rng.sample(rules[2:], rng.randint(3, 6))) for _ in range(200))],
+        "several rules": [(min(some), broken(rng, some)) for some in sets],
+        "unequal mentions": [(8, broken(rng, {8}, way=way)) for way in UNEQUAL for _ in range(30)],
+        "all mentions": [case for n, m in ((2, 1), (2, 2), (2, 3), (3, 1), (3, 2)) for case in listings(n, m)],
         "cut and lengthened": cuts(rng, bases),
         "flipped bits": flips(rng, bases, 400),
         "moved": moved(rng, 300),
@@ -514,7 +577,8 @@ def damaged():
 def largest_damaged():
     rng = Random("largest damaged")
     graphs = [up_to(rng, ring(4096), 16384), up_to(rng, ring(4096), 5000), up_to(rng, ring(200), 16000)]
-    return [(rule, broken(rng, {rule, 8}, graph)) for graph in graphs for rule in range(3, 9)]
+    found = [(rule, broken(rng, {rule, 8}, graph)) for graph in graphs for rule in (3, 4, 5, 6, 8)]
+    return found + [(8, broken(rng, {8}, times(4, ring(4096)), way)) for way in UNEQUAL]
 
 
 # Indexes that nobody built
