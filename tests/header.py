@@ -42,6 +42,8 @@ FUNCTIONS = {
     "select": (ctypes.c_size_t, ["record", "start", "places", "k"]),
 }
 SLICE, NUMBER = [ctypes.c_void_p, ctypes.c_size_t], [ctypes.c_size_t]
+# Those whose result has a refusal's number
+REFUSING = {name for name, (kind, taken) in FUNCTIONS.items() if kind is ctypes.c_uint32 and taken}
 
 
 # The library
@@ -157,8 +159,11 @@ class Compared:
             self.differences.append(" ".join(map(str, text)) + "; " + held)
 
     def call(self, name, *given):
+        """What the function returns. None refuses with 7."""
         self.calls += 1
-        return calls[name](*given)
+        found = calls[name](*given)
+        self.settle(name not in REFUSING or found >> 16 != 7, name, "refuses with 7")
+        return found
 
     def ask(self, name, *numbers):
         """An operation on the record that only reads."""
