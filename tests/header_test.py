@@ -188,9 +188,13 @@ def started(data):
 
 
 def from_start(data, start, together):
-    """Heads are equal exactly for these pairs."""
-    compared = Compared(data, built(data, start))
-    heads = {v: compared.call("head", *compared.both, v) for v in range(1, sizes(data)[0] + 1)}
+    """On the index that Build writes, heads are equal exactly for these pairs."""
+    compared, (n, m) = Compared(data), sizes(data)
+    work, index = lent["work"].hold(bytes(16 * n)), lent["index"].hold(bytes(index_length(n, m)))
+    found = compared.call("build", *compared.record, start, *work, *index)
+    compared.settle(found == 0, "build from", start, "gives", hex(found))
+    compared.index = bytes(lent["index"].held())
+    heads = {v: compared.call("head", *compared.record, *index, v) for v in range(1, n + 1)}
     for (u, v), same in together.items():
         told = f"the heads of {u} and {v} are {heads[u]} and {heads[v]}"
         compared.settle((heads[u] == heads[v]) == same, f"from {start}", told)

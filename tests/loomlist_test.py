@@ -256,7 +256,7 @@ def families():
         "sample": (exact, [(record(SAMPLE), SAMPLE_LISTING)]),
         "largest": (compare, large),
         "largest damaged": (compare, damaged),
-        "every record of at most 4 terminals": (compare, shapes.every(4)),
+        "every record of at most 4 terminals without a doubled wire": (compare, shapes.every(4)),
         "every small record with a doubled wire": (compare, shapes.every_doubled()),
         **{name: (compare, cases) for name, cases in shapes.small().items()},
         **{f"medium {name}": (compare, cases) for name, cases in shapes.medium().items()},

@@ -421,8 +421,8 @@ def loose(rng):
 
 
 def broken(rng, rules, graph=None, way=None):
-    """A record that breaks these rules of 1 to 6 and 8, and 8 in this way or in any. 6 is broken in another block than
-    the one in which 8 is first, often in the last."""
+    """A record that breaks these rules of 1 to 6 and 8, and 8 in this way or in any. 8 is broken from one block on and
+    6 in another, each often the first or the last."""
     n, wires = graph or loose(rng)
     blocks = shuffled(rng, renamed(rng, (n, wires)))
     u, v = rng.choice([[n, 1], [1, n], rng.sample(range(1, n + 1), 2)])
@@ -612,7 +612,7 @@ def numbers(rng, n):
 
 
 def unbuilt(rng, blocks):
-    """Indexes of the right length for a record with these blocks, which may break rules 5 to 8."""
+    """Indexes of the right length for a record with these blocks, which may break rules 5, 6 and 8."""
     n, size = len(blocks), index_length(len(blocks), sum(map(len, blocks)) // 2)
     return [
         bytes(size),
