@@ -4,7 +4,7 @@
 
 #include <string.h>
 
-enum { MOST_TERMINALS = 4096, MOST_WIRES = 16384, HEADER_BITS = 28, NO_PARENT = 0xFFFF };
+enum { MOST_TERMINALS = 4096, MOST_WIRES = 16384, HEADER_BITS = 28, NO_PARENT = 0xFFFF, PASSED = 0x8000 };
 
 enum {
     TOO_SHORT = 1,
@@ -13,8 +13,7 @@ enum {
     BAD_UNARY,
     SPARE_SET,
     STRAY_NEIGHBOUR,
-    DOUBLED_NEIGHBOUR,
-    ONE_SIDED_WIRE,
+    ONE_SIDED_WIRE = 8, /* no operation gives 7 */
     SHORT_WORK,
     WRONG_BUFFER,
     NO_TERMINAL,
@@ -249,33 +248,26 @@ static size_t read_fields(const uint8_t *bytes, size_t len, size_t start, size_t
     return greatest;
 }
 
-/* Rules 6 to 8 for fields below n. Each terminal keeps the last block that has it, which shows a repeat. The blocks in which v stands go to
-   v's own part of `mentions`, in ascending order; they are as many as v's neighbours. Read back in order, each list must meet its blocks
-   again. The arrays have some cells to spare: where last[v] and next[v] agree in the low 12 bits of their addresses, the processor may take
-   a load of one to wait for a store to the other. */
+/* Rules 6 and 8 for fields below n. The blocks in which v stands go to v's own part of `mentions`, in ascending order,
+   each as often as it has v; they are as many as v's neighbours. Read back in order, each part must meet its blocks
+   again. */
 static uint32_t pairing(const struct graph *g)
 {
-    uint16_t last[MOST_TERMINALS + 64], next[MOST_TERMINALS + 160], mentions[2 * MOST_WIRES + 352];
+    uint16_t next[MOST_TERMINALS], mentions[2 * MOST_WIRES];
     size_t u, p;
-    int doubled = 0, uneven = 0;
-    memset(last, 0, g->n * sizeof last[0]);
+    int uneven = 0;
     memcpy(next, g->starts, g->n * sizeof next[0]);
     for (u = 0; u < g->n; u++) {
         for (p = g->starts[u]; p < g->starts[u + 1]; p++) {
             size_t v = g->nbrs[p];
             if (v == u)
                 return STRAY_NEIGHBOUR;
-            if (last[v] == u + 1)
-                doubled = 1;
-            last[v] = (uint16_t)(u + 1);
             if (next[v] < g->starts[v + 1])
                 mentions[next[v]++] = (uint16_t)u;
             else
                 uneven = 1;
         }
     }
-    if (doubled)
-        return DOUBLED_NEIGHBOUR;
     if (uneven)
         return ONE_SIDED_WIRE;
     memcpy(next, g->starts, g->n * sizeof next[0]);
@@ -389,18 +381,20 @@ static inline void mark(uint8_t *section, size_t bit)
 }
 
 /* The search from the vertex `first` and then from all in order, with the marks set on the way. Place p of block u is
-   bit p + u + 1 of a section. Visit numbers count from 1 here, and 0 is a vertex not visited yet. A vertex keeps its
-   parent, the place to go on from, its lowpoint, and both places of the edge to its parent. */
+   bit p + u + 1 of a section. Visit numbers count from 1 here, and 0 is a vertex not visited yet. The edge by which the
+   search came has its other end at the first mention of the parent, which has the bit PASSED from then on: a later
+   mention is another edge's. A vertex keeps both places of that edge, and while the search is below it, its parent, the
+   place to go on from and its lowpoint. */
 static void search(const struct graph *g, size_t first, uint16_t *work, uint8_t *e, uint8_t *p, uint8_t *b)
 {
     size_t n = g->n, count = 0, root, others = 0;
-    uint16_t *number = work, *parent = work + n, *next = work + 2 * n, *low = work + 3 * n, *down = work + 4 * n, *back = work + 5 * n;
+    uint16_t *number = work, *parent = work + n, *next = work + 2 * n, *low = work + 3 * n;
+    uint16_t *down = work + 4 * n, *back = work + 5 * n;
     memset(number, 0, n * sizeof number[0]);
     for (root = first; root < n; root = others++) {
         size_t u = root, up = NO_PARENT, at = g->starts[u], end = g->starts[u + 1], lowest;
         if (number[root] != 0)
             continue;
-        parent[root] = NO_PARENT;
         number[root] = (uint16_t)(lowest = ++count);
         for (;;) {
             if (at < end) {
@@ -408,9 +402,9 @@ static void search(const struct graph *g, size_t first, uint16_t *work, uint8_t 
                 if (number[v] == 0) {
                     mark(e, at + u + 1);
                     down[v] = (uint16_t)at;
+                    parent[u] = (uint16_t)up;
                     next[u] = (uint16_t)(at + 1);
                     low[u] = (uint16_t)lowest;
-                    parent[v] = (uint16_t)u;
                     up = u;
                     u = v;
                     at = g->starts[u];
@@ -421,6 +415,7 @@ static void search(const struct graph *g, size_t first, uint16_t *work, uint8_t 
                 if (v == up) {
                     mark(p, at + u + 1);
                     back[u] = (uint16_t)at;
+                    up |= PASSED;
                 } else if (number[v] < lowest) {
                     lowest = number[v];
                 }
@@ -428,6 +423,7 @@ static void search(const struct graph *g, size_t first, uint16_t *work, uint8_t 
             } else {
                 if (up == NO_PARENT)
                     break;
+                up -= PASSED;
                 if (lowest == number[u]) {
                     mark(b, (size_t)down[u] + up + 1);
                     mark(b, (size_t)back[u] + u + 1);
@@ -481,13 +477,15 @@ uint32_t plain_build(const uint8_t *record, size_t len, size_t start, uint16_t *
     return 0;
 }
 
-/* The same search without marks. Parents count from 1 here, and 0 is a root's. `open` is a stack of the vertices that have no head yet: one
-   that is left without a way back above it is a root or below a bridge, and the head of all that stand from it on. */
+/* The same search without marks. Parents count from 1 here, and 0 is a root's. Where the parent's first mention would
+   not lower the lowpoint, it need not be passed: no later one would either. `open` is a stack of the vertices that have
+   no head yet: one that is left without a way back above it is a root or below a bridge, and the head of all that stand
+   from it on. */
 static void search_table(const struct graph *g, size_t first, uint16_t *work, uint16_t *visits, uint16_t *parents,
                          uint16_t *children, uint16_t *heads)
 {
     size_t n = g->n, count = 0, top = 0, root, others = 0;
-    uint16_t *next = work, *low = work + n, *open = work + 2 * n;
+    uint16_t *parent = work, *next = work + n, *low = work + 2 * n, *open = work + 3 * n;
     memset(visits, 0, n * sizeof visits[0]);
     memset(children, 0, n * sizeof children[0]);
     for (root = first; root < n; root = others++) {
@@ -504,11 +502,16 @@ static void search_table(const struct graph *g, size_t first, uint16_t *work, ui
                 seen = visits[v];
                 if (seen == 0)
                     break;
-                if (seen < lowest && v + 1 != up)
-                    lowest = seen;
+                if (seen < lowest) {
+                    if (v + 1 == up)
+                        up |= PASSED;
+                    else
+                        lowest = seen;
+                }
             }
             if (seen == 0) {
                 children[u]++;
+                parent[u] = (uint16_t)up;
                 next[u] = (uint16_t)at;
                 low[u] = (uint16_t)lowest;
                 up = u + 1;
@@ -527,8 +530,8 @@ static void search_table(const struct graph *g, size_t first, uint16_t *work, ui
                 }
                 if (up == 0)
                     break;
-                u = up - 1;
-                up = parents[u];
+                u = (up & (PASSED - 1)) - 1;
+                up = parent[u];
                 at = next[u];
                 end = g->starts[u + 1];
                 if (low[u] < lowest)
