@@ -24,7 +24,8 @@
 #include <time.h>
 
 enum { MOST_N = 4096, MOST_M = 16384, MOST_INDEX = 3 * 4608 + 6144, ARGUMENTS = 1024, ROUNDS = 40, QUERY_ROUNDS = 50,
-       STRING_ROUNDS = 200, LENGTHS = 7, COLUMNS = 4, SHOWN = 3, FIELD_BYTES = 4096, FIELDS = 1 << 18, ORDERS = 2 };
+       STRING_ROUNDS = 200, LENGTHS = 7, COLUMNS = 4, SHOWN = 3, FIELD_BYTES = 4096, FIELDS = 1 << 18, ORDERS = 2,
+       MIXED_COPIES = 100 };
 
 /* The bits at which a field can start in so many bytes. */
 enum { FIELD_STARTS = 8 * FIELD_BYTES - 11 };
@@ -231,11 +232,27 @@ static int bit(const uint8_t *bytes, size_t at)
     return bytes[at / 8] >> (7 - at % 8) & 1;
 }
 
+/* Writes the field at bit `from` at bit `at` too. */
+static void copy_field(uint8_t *bytes, size_t at, size_t from)
+{
+    size_t i;
+    for (i = 0; i < 12; i++)
+        if (bit(bytes, at + i) != bit(bytes, from + i))
+            turn_bit(bytes, at + i);
+}
+
+/* Whether bit `at` of D begins a block that has places, and the block before it has some too. */
+static int between_blocks(const struct record *r, size_t at)
+{
+    return at > 0 && at + 1 < r->n + 2 * r->m && bit(r->bytes, 27 + at) == 0 && bit(r->bytes, 28 + at) == 1
+           && bit(r->bytes, 29 + at) == 0;
+}
+
 /* Breaks a record in one of several ways, or asks for another start. */
 static void harm(struct record *r, uint64_t *state)
 {
     size_t d = r->n + 2 * r->m, fields = 28 + d, at, from, i;
-    switch (draw(state, 8)) {
+    switch (draw(state, 9)) {
     case 0: /* any bits */
         for (i = draw(state, 3); i > 0; i--)
             turn_bit(r->bytes, draw(state, 8 * r->len));
@@ -252,9 +269,7 @@ static void harm(struct record *r, uint64_t *state)
         from = fields + 12 * draw(state, 2 * r->m);
         if (draw(state, 2) == 0)
             from = at + 12 < fields + 24 * r->m ? at + 12 : fields;
-        for (i = 0; i < 12; i++)
-            if (bit(r->bytes, at + i) != bit(r->bytes, from + i))
-                turn_bit(r->bytes, at + i);
+        copy_field(r->bytes, at, from);
         break;
     case 3: /* two fields of a few change places */
         at = fields + 12 * draw(state, 2 * r->m);
@@ -266,13 +281,24 @@ static void harm(struct record *r, uint64_t *state)
             }
         }
         break;
-    case 4: /* the last bit */
+    case 4: /* a block takes over the next one's first place, and mentions its own last neighbour once more there */
+        at = draw(state, d);
+        for (i = 0; i < d && !between_blocks(r, at); i++)
+            at = (at + 1) % d;
+        if (i < d) {
+            from = fields + 12 * (at - plain_rank(r->bytes, r->len, 28, d, at) - 1);
+            turn_bit(r->bytes, 28 + at);
+            turn_bit(r->bytes, 29 + at);
+            copy_field(r->bytes, from + 12, from);
+        }
+        break;
+    case 5: /* the last bit */
         turn_bit(r->bytes, 8 * r->len - 1);
         break;
-    case 5: /* a bit of n or m */
+    case 6: /* a bit of n or m */
         turn_bit(r->bytes, draw(state, 28));
         break;
-    case 6: /* any start, also one that is refused */
+    case 7: /* any start, also one that is refused */
         start = draw(state, 8) == 0 ? SIZE_MAX - draw(state, 2) : draw(state, r->n + 2);
         break;
     default: /* another length, other lengths of the buffers, or no start */
@@ -352,16 +378,39 @@ static void compare_fields(void)
         same(FIELD, at, 0);
 }
 
-/* All records of a size that are timed, which are accepted; the first comes last, and stays. */
+/* A record that is accepted. */
+static void compare_accepted(void)
+{
+    uint32_t why = plain_check(asked->bytes, asked->len);
+    compare_whole();
+    if (why != 0)
+        differ("a record of the benchmark", 0, 0, 0, why);
+}
+
+/* All records of a size that are timed; the first comes last, and stays. */
 static void compare_timed(int shape, int size, struct record *r)
 {
     int copy;
     for (copy = copies(size) - 1; copy >= 0; copy--) {
         make_record(shape, size, copy, r);
         ask(r);
-        compare_whole();
-        if (plain_check(r->bytes, r->len) != 0)
-            differ("a record of the benchmark", 0, 0, 0, plain_check(r->bytes, r->len));
+        compare_accepted();
+    }
+}
+
+/* Small records with single and doubled wires, from every start. */
+static void compare_mixed(struct record *r, uint64_t *state)
+{
+    size_t v;
+    int copy;
+    for (copy = 0; copy < MIXED_COPIES; copy++) {
+        make_record(MIXED, 0, copy, r);
+        ask(r);
+        for (start = 1; start <= r->n; start++) {
+            compare_accepted();
+            for (v = 0; v <= r->n + 1; v++)
+                compare_queries(v, state);
+        }
     }
 }
 
@@ -381,6 +430,7 @@ static void compare_all(void)
             compare_strings(&r, &state);
         }
     }
+    compare_mixed(&r, &state);
     compare_fields();
 }
 
@@ -402,8 +452,8 @@ static struct {
     struct times whole[SHAPES][SIZES][WHOLE], queries[SHAPES][SHOWN][RANK], strings[LENGTHS][2], fields[ORDERS];
 } least;
 
-/* The sizes at which queries are timed, and whose ratios are told. Dense and clique have fewer terminals, and records
-   of like length. */
+/* The sizes at which queries are timed, and whose ratios are told. Dense, clique and pair have fewer terminals, and
+   records of like length. */
 static const int shown[SHOWN] = { 0, 1, SIZES - 1 };
 static const char *const shown_names[SHOWN] = { "n = 64", "n = 256", "largest" };
 

@@ -382,9 +382,9 @@ static inline void mark(uint8_t *section, size_t bit)
 
 /* The search from the vertex `first` and then from all in order, with the marks set on the way. Place p of block u is
    bit p + u + 1 of a section. Visit numbers count from 1 here, and 0 is a vertex not visited yet. The edge by which the
-   search came has its other end at the first mention of the parent, which has the bit PASSED from then on: a later
-   mention is another edge's. A vertex keeps both places of that edge, and while the search is below it, its parent, the
-   place to go on from and its lowpoint. */
+   search came has its other end at the first mention of the parent. Once that is passed, `up` has the bit PASSED: a
+   later mention is another edge's. A vertex keeps both places of that edge, and while the search is below it, its
+   parent, the place to go on from and its lowpoint. */
 static void search(const struct graph *g, size_t first, uint16_t *work, uint8_t *e, uint8_t *p, uint8_t *b)
 {
     size_t n = g->n, count = 0, root, others = 0;

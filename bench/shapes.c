@@ -6,9 +6,10 @@
 
 enum { MOST_N = 4096, MOST_M = 16384 };
 
-const char *const shape_names[SHAPES] = { "sparse", "random", "dense", "path", "cycle", "tree", "hubs", "clique" };
+const char *const shape_names[SHAPES] = { "sparse", "random", "dense", "path", "cycle", "tree", "hubs", "clique",
+    "doubled", "pair" };
 
-enum { SPARSE, RANDOM, DENSE, PATH, CYCLE, TREE, HUBS, CLIQUE };
+enum { SPARSE, RANDOM, DENSE, PATH, CYCLE, TREE, HUBS, CLIQUE, DOUBLED, PAIR };
 
 static struct {
     size_t n, m;
@@ -28,6 +29,16 @@ uint64_t draw(uint64_t *state, uint64_t limit)
     return (x ^ x >> 31) % limit;
 }
 
+/* So many wires between a and b. */
+static void lay(size_t a, size_t b, size_t count)
+{
+    for (; count > 0; count--) {
+        made.ends[made.m][0] = (uint16_t)a;
+        made.ends[made.m][1] = (uint16_t)b;
+        made.m++;
+    }
+}
+
 /* A wire between a and b, unless there is one or they are the same. */
 static void wire(size_t a, size_t b)
 {
@@ -35,9 +46,7 @@ static void wire(size_t a, size_t b)
     if (a == b || (made.joined[at / 8] >> at % 8 & 1) != 0)
         return;
     made.joined[at / 8] |= (uint8_t)(1 << at % 8);
-    made.ends[made.m][0] = (uint16_t)a;
-    made.ends[made.m][1] = (uint16_t)b;
-    made.m++;
+    lay(a, b, 1);
 }
 
 static void wires_up_to(size_t m)
@@ -91,6 +100,23 @@ static void draw_wires(int shape, int size)
         for (a = 0; a < made.n; a++)
             for (b = a + 1; b < made.n; b++)
                 wire(a, b);
+        break;
+    case DOUBLED:
+        for (a = 1; a < made.n; a++)
+            lay(draw(&made.state, a), a, 2);
+        break;
+    case PAIR:
+        made.n = 2;
+        lay(0, 1, (size_t)256 << 2 * size);
+        break;
+    case MIXED:
+        made.n = 2 + draw(&made.state, 15);
+        for (a = 1; a < made.n; a++) {
+            b = draw(&made.state, a);
+            lay(a, b, draw(&made.state, 4));
+        }
+        for (a = 1; a < made.n; a += 3)
+            lay(a, draw(&made.state, a), 1);
         break;
     }
 }
