@@ -3,8 +3,9 @@
  * both.
  *
  * A terminal is a vertex and a wire is an edge. Terminals, visit numbers and children count from 1. n and m are the
- * numbers of terminals and of wires in a record's header. docs/FORMAT.md has the format of records and indexes, bit by
- * bit.
+ * numbers of terminals and of wires in a record's header. Several wires may run between the same two terminals: the
+ * k-th mention of v at u and the k-th mention of u at v are the two ends of one wire. docs/FORMAT.md has the format of
+ * records and indexes, bit by bit.
  *
  * Results. A uint32_t has the number of the refusal, or 0, in its high half and the value, or 0 where there is none, in
  * its low half: read it with celduga_refusal and celduga_value. A call names the first broken rule, in the order given
@@ -63,8 +64,8 @@ enum celduga_refusal_number {
     CELDUGA_BAD_UNARY = 4,         /* D has not n ones, or begins with a zero */
     CELDUGA_SPARE_SET = 5,         /* a bit after the last field is set */
     CELDUGA_STRAY_NEIGHBOUR = 6,   /* a neighbour is no terminal, or the terminal itself */
-    CELDUGA_DOUBLED_NEIGHBOUR = 7, /* a neighbour stands twice in a block */
-    CELDUGA_ONE_SIDED_WIRE = 8,    /* a wire is listed at one end only */
+    CELDUGA_DOUBLED_NEIGHBOUR = 7, /* given no longer: a neighbour may stand several times in a block */
+    CELDUGA_ONE_SIDED_WIRE = 8,    /* two terminals mention each other a different number of times */
     CELDUGA_SHORT_WORK = 9,        /* the work slice has fewer numbers than celduga_work_len(n) */
     CELDUGA_WRONG_BUFFER = 10,     /* the index or a list has another length than n and m give */
     CELDUGA_NO_TERMINAL = 11,      /* the terminal, or the visit number, is 0 or above n */
@@ -106,7 +107,7 @@ static inline const char *celduga_refusal_text(unsigned refusal)
     case CELDUGA_SPARE_SET: return "a spare bit of the record is set";
     case CELDUGA_STRAY_NEIGHBOUR: return "a neighbour is no terminal, or the terminal itself";
     case CELDUGA_DOUBLED_NEIGHBOUR: return "a neighbour stands twice in a block";
-    case CELDUGA_ONE_SIDED_WIRE: return "a wire is listed at one end only";
+    case CELDUGA_ONE_SIDED_WIRE: return "two terminals mention each other a different number of times";
     case CELDUGA_SHORT_WORK: return "the work slice is too short";
     case CELDUGA_WRONG_BUFFER: return "the index or the list has another length than the record gives";
     case CELDUGA_NO_TERMINAL: return "there is no such terminal or visit number";
@@ -155,13 +156,13 @@ static inline size_t celduga_list_len(size_t m)
 
 /* Records */
 
-/* Accepts a record. No value. Refuses 1 to 8. */
+/* Accepts a record. No value. Refuses 1 to 6, 8. */
 uint32_t celduga_check(const uint8_t *record, size_t record_len);
 
 /* How many wires terminal v has. Refuses 1 to 4, 11. */
 uint32_t celduga_degree(const uint8_t *record, size_t record_len, size_t v);
 
-/* Writes the neighbours of all terminals to the list, block after block. No value. Refuses 1 to 8, 10. */
+/* Writes the neighbours of all terminals to the list, block after block. No value. Refuses 1 to 6, 8, 10. */
 uint32_t celduga_unpack(const uint8_t *record, size_t record_len, uint16_t *list, size_t list_len);
 
 /*
@@ -180,14 +181,14 @@ static inline const uint16_t *celduga_neighbours_of(const uint8_t *record, size_
     return list + (size_t)(part >> 32);
 }
 
-/* m - n + 1, to be read with celduga_figure. Refuses 1 to 8. */
+/* m - n + 1, to be read with celduga_figure. Refuses 1 to 6, 8. */
 uint32_t celduga_loop_figure(const uint8_t *record, size_t record_len);
 
 /*
  * Writes the record's index. The search begins at the terminal start and then takes the unvisited terminals from 1
  * upward, so start is a root and has visit number 1; a record without terminals takes 0 only. Which terminals share a
  * head is the same for every start. The work slice may hold anything before and after the call, refused or not. No
- * value. Refuses 1 to 8, 9, 10, 14.
+ * value. Refuses 1 to 6, 8, 9, 10, 14.
  */
 uint32_t celduga_build(const uint8_t *record, size_t record_len, size_t start, uint16_t *work, size_t work_len,
     uint8_t *index, size_t index_len);
@@ -196,7 +197,7 @@ uint32_t celduga_build(const uint8_t *record, size_t record_len, size_t start, u
  * Writes what celduga_visit, celduga_parent, celduga_children and celduga_head answer for every terminal on the index
  * that celduga_build writes with this start; element v - 1 of each list is terminal v's. No index is lent, and all
  * together take time linear in the record's bits. The work slice may hold anything before and after the call, refused
- * or not. No value. Refuses 1 to 8, 9, 10 where one of the four lists is not n numbers long, 14.
+ * or not. No value. Refuses 1 to 6, 8, 9, 10 where one of the four lists is not n numbers long, 14.
  */
 uint32_t celduga_table(const uint8_t *record, size_t record_len, size_t start, uint16_t *work, size_t work_len,
     uint16_t *visits, size_t visits_len, uint16_t *parents, size_t parents_len,

@@ -4,8 +4,9 @@
 //! for every input; this crate is the safe way to call them, without dependencies and without the standard library.
 //!
 //! A *record* is such a graph as bytes, of at most 4,096 *terminals* (vertices, which count from 1) and 16,384 *wires*
-//! (edges). Its *index* holds the forest, the visit numbers, and a mark on each wire that is a bridge. `docs/FORMAT.md`
-//! of the project describes both, bit by bit. The search begins at terminal 1, or at the one that the caller names.
+//! (edges), of which several may run between the same two terminals. Its *index* holds the forest, the visit numbers,
+//! and a mark on each wire that is a bridge. `docs/FORMAT.md` of the project describes both, bit by bit. The search
+//! begins at terminal 1, or at the one that the caller names.
 //!
 //! # Example
 //!

@@ -5,7 +5,7 @@ use core::ops::Range;
 
 use crate::{operations, Record, Vertex};
 
-/// The neighbours of a terminal, in listed order. [`Record::neighbours`] gives it.
+/// The neighbours of a terminal, in listed order, one for each wire. [`Record::neighbours`] gives it.
 #[derive(Clone, Debug)]
 #[must_use = "iterators are lazy and do nothing unless consumed"]
 pub struct Neighbours<'a> {

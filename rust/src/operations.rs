@@ -12,7 +12,7 @@ fn vertex(number: u16) -> Vertex {
 ///
 /// # Errors
 ///
-/// Refusals 1 to 8, tried in this order.
+/// Refusals 1 to 6, 8, tried in this order.
 ///
 /// # Examples
 ///
@@ -40,7 +40,7 @@ pub fn degree(record: &[u8], v: Vertex) -> Result<usize, Refusal> {
 ///
 /// # Errors
 ///
-/// Refusals 1 to 8, 10, tried in this order.
+/// Refusals 1 to 6, 8, 10, tried in this order.
 pub fn unpack(record: &[u8], list: &mut [u16]) -> Result<(), Refusal> {
     ffi::unpack(record, list).map(drop)
 }
@@ -77,7 +77,7 @@ pub fn neighbours<'a>(record: &[u8], list: &'a [u16], v: Vertex) -> &'a [u16] {
 ///
 /// # Errors
 ///
-/// Refusals 1 to 8, tried in this order.
+/// Refusals 1 to 6, 8, tried in this order.
 pub fn loop_figure(record: &[u8]) -> Result<i32, Refusal> {
     // the value is a number of 16 bits with a sign
     ffi::loop_figure(record).map(|value| i32::from(value as i16))
@@ -92,7 +92,7 @@ pub fn loop_figure(record: &[u8]) -> Result<i32, Refusal> {
 ///
 /// # Errors
 ///
-/// Refusals 1 to 8, 9, 10, 14, tried in this order.
+/// Refusals 1 to 6, 8, 9, 10, 14, tried in this order.
 ///
 /// # Examples
 ///
@@ -119,7 +119,7 @@ pub fn build(record: &[u8], start: Vertex, work: &mut [u16], index: &mut [u8]) -
 ///
 /// # Errors
 ///
-/// Refusals 1 to 8, 9, 10, 14, tried in this order.
+/// Refusals 1 to 6, 8, 9, 10, 14, tried in this order.
 ///
 /// # Examples
 ///

@@ -17,7 +17,7 @@ impl<'a> Record<'a> {
     ///
     /// # Errors
     ///
-    /// Refusals 1 to 8, tried in this order.
+    /// Refusals 1 to 6, 8, tried in this order.
     pub fn new(bytes: &'a [u8]) -> Result<Self, Refusal> {
         operations::check(bytes)?;
         let sizes = Sizes::of(bytes).ok_or(Refusal::TooShort)?;
@@ -60,7 +60,8 @@ impl<'a> Record<'a> {
         operations::degree(self.bytes, v)
     }
 
-    /// The neighbours of terminal `v`, in listed order.
+    /// The neighbours of terminal `v`, in listed order: one for each of its wires, so the same one several times where
+    /// several wires lead to it.
     ///
     /// A call goes through the degrees, 64 bits at a time, which takes some microseconds in the largest record; it
     /// copies nothing, and each neighbour is read from the record when it is asked for.

@@ -30,9 +30,10 @@ pub enum Refusal {
     SpareSet = 5,
     /// 6: a neighbour is no terminal, or the terminal itself.
     StrayNeighbour = 6,
-    /// 7: a neighbour stands twice in a block.
+    /// 7: a neighbour stands twice in a block. No call gives it any longer: a neighbour may stand several times in a
+    /// block.
     DoubledNeighbour = 7,
-    /// 8: a wire is listed at one end only.
+    /// 8: two terminals mention each other a different number of times.
     OneSidedWire = 8,
     /// 9: the work slice has fewer than 8·n numbers.
     ShortWork = 9,
@@ -91,7 +92,7 @@ impl fmt::Display for Refusal {
             Refusal::SpareSet => "a spare bit of the record is set",
             Refusal::StrayNeighbour => "a neighbour is no terminal, or the terminal itself",
             Refusal::DoubledNeighbour => "a neighbour stands twice in a block",
-            Refusal::OneSidedWire => "a wire is listed at one end only",
+            Refusal::OneSidedWire => "two terminals mention each other a different number of times",
             Refusal::ShortWork => "the work slice is too short",
             Refusal::WrongBuffer => "the index or the list has another length than the record gives",
             Refusal::NoTerminal => "there is no such terminal or visit number",

@@ -15,6 +15,8 @@ pub const SAMPLE_BLOCKS: [&[u16]; 6] = [&[3, 2], &[1, 3], &[2, 4, 1], &[3], &[6]
 pub const EMPTY: [u8; 4] = [0; 4];
 pub const TERMINAL: [u8; 4] = [0x00, 0x08, 0x00, 0x08];
 pub const WIRE: [u8; 7] = [0x00, 0x10, 0x00, 0x1A, 0x00, 0x10, 0x00];
+/// Two wires between the same terminals.
+pub const DOUBLED: [u8; 11] = [0x00, 0x10, 0x00, 0x29, 0x00, 0x04, 0x00, 0x40, 0x00, 0x00, 0x00];
 
 /// The record of these blocks, whatever rules they break.
 pub fn record<B: AsRef<[u16]>>(blocks: &[B]) -> Vec<u8> {
@@ -65,12 +67,12 @@ impl Chance {
     }
 }
 
-/// The blocks of so many terminals and at most so many wires, which are any.
+/// The blocks of so many terminals and at most so many wires, which are any, doubled ones among them.
 pub fn scattered(terminals: usize, wires: usize, chance: &mut Chance) -> Vec<Vec<u16>> {
     let mut blocks = vec![Vec::new(); terminals];
     for _ in 0..wires {
         let (v, w) = (chance.below(terminals), chance.below(terminals));
-        if v != w && !blocks[v].contains(&(w as u16 + 1)) {
+        if v != w {
             blocks[v].push(w as u16 + 1);
             blocks[w].push(v as u16 + 1);
         }

@@ -17,6 +17,7 @@ fn the_blocks_pack_to_the_bytes() {
     assert_eq!(record::<&[u16]>(&[]), EMPTY);
     assert_eq!(record(&[[]]), TERMINAL);
     assert_eq!(record(&[[2], [1]]), WIRE);
+    assert_eq!(record(&[[2, 2], [1, 1]]), DOUBLED);
 }
 
 #[test]
@@ -25,6 +26,7 @@ fn accepted_records_and_their_indexes() {
     assert_eq!(built(&EMPTY, 0, 0), []);
     assert_eq!(built(&TERMINAL, 1, 5), [0; 5]);
     assert_eq!(built(&WIRE, 1, 6), [0x40, 0x10, 0x50, 0x00, 0x00, 0x01]);
+    assert_eq!(built(&DOUBLED, 1, 6), [0x40, 0x08, 0x00, 0x00, 0x00, 0x01]);
 }
 
 #[test]
@@ -40,8 +42,8 @@ fn refused_records() {
     assert_eq!(check(&spare), Err(Refusal::SpareSet));
     assert_eq!(check(&SAMPLE[..3]), Err(Refusal::TooShort));
     assert_eq!(check(&[0x80, 0x08, 0x00, 0x00]), Err(Refusal::OverLimit));
-    assert_eq!(check(&record(&[[2, 2], [1, 1]])), Err(Refusal::DoubledNeighbour));
     assert_eq!(check(&record(&[&[2, 3][..], &[1], &[2]])), Err(Refusal::OneSidedWire));
+    assert_eq!(check(&record(&[&[2, 2, 2][..], &[1]])), Err(Refusal::OneSidedWire));
 }
 
 /// Terminal, visit number, parent, children, head.

@@ -119,6 +119,32 @@ fn one_wire() {
 }
 
 #[test]
+fn doubled_wires() {
+    let record = Record::new(&DOUBLED).unwrap();
+    assert_eq!(record.sizes().wires(), 2);
+    assert_eq!(record.degree(Vertex(1)), Ok(2));
+    assert!(record.neighbours(Vertex(1)).unwrap().eq([Vertex(2), Vertex(2)]));
+    let index = record.index();
+    // one child, by the first of the two wires
+    assert_eq!(index.children(Vertex(1)), Ok(1));
+    assert!(index.children_of(Vertex(1)).unwrap().eq([Vertex(2)]));
+    assert_eq!(index.parent(Vertex(2)), Ok(Some(Vertex(1))));
+    // neither wire is a bridge
+    assert_eq!(index.head(Vertex(2)), Ok(Vertex(1)));
+    assert_eq!(record.sections().len(), 1);
+}
+
+#[test]
+fn a_bridge_beside_a_doubled_wire() {
+    let bytes = record(&[&[2, 2][..], &[1, 3, 1], &[2]]);
+    for start in 1..=3 {
+        let index = Record::new(&bytes).unwrap().index_from(Vertex(start)).unwrap();
+        assert_eq!(index.head(Vertex(1)), index.head(Vertex(2)));
+        assert_ne!(index.head(Vertex(3)), index.head(Vertex(2)));
+    }
+}
+
+#[test]
 fn visit_numbers_are_no_terminals() {
     // the path 1, 3, 4, 2
     let bytes = record(&[&[3][..], &[4], &[1, 4], &[3, 2]]);
