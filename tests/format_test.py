@@ -364,8 +364,9 @@ def orders(page):
     """The refusals of each order that has a letter."""
     text = titled(page, "Operations")
     [r] = sought(r"Rules (\d+) to (\d+) are called \*\*order R", page)
-    [c] = sought(r'"Order C" is rules (\d+) to (\d+)', text)
-    found = {letter: {*range(int(first), int(last) + 1)} for letter, (first, last) in (("R", r), ("C", c))}
+    [c] = sought(r'"Order C" is rules (\d+) to (\d+) and (\d+)', text)
+    found = {letter: {*range(int(first), int(last) + 1), *map(int, more)}
+             for letter, (first, last, *more) in (("R", r), ("C", c))}
     [q] = sought(r"\*\*Order Q\*\* is order R; then (\d+),[^;]*; then (\d+),", text)
     return {**found, "Q": found["R"] | {*map(int, q)}}
 
