@@ -163,13 +163,13 @@ pub extern "C" fn celduga_select(bytes: &[u8], start: usize, places: usize, k: u
 
 const MAJOR: u32 = 0;
 
-const MINOR: u32 = 3;
+const MINOR: u32 = 4;
 
-const PATCH: u32 = 1;
+const PATCH: u32 = 0;
 
 #[no_mangle]
 pub extern "C" fn celduga_version() -> u32
-    ensures { λ r. ⌜ r ≡ version 0 3 1 ⌝ }
+    ensures { λ r. ⌜ r ≡ version 0 4 0 ⌝ }
 {
     65536 * MAJOR + 256 * MINOR + PATCH
 }
