@@ -36,6 +36,7 @@ pub enum Refusal {
     BadIndex,
     NoChild,
     NoStart,
+    BadList,
 }
 
 // Nothing is refused, or why.
@@ -91,6 +92,7 @@ pub fn number_of(r: Refusal) -> usize
         Refusal::BadIndex => 12,
         Refusal::NoChild => 13,
         Refusal::NoStart => 14,
+        Refusal::BadList => 15,
     }
 }
 

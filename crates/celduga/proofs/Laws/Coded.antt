@@ -4,28 +4,13 @@ use Prim.Native.Nat.{ℕ, _*_, _<_}
 use native.Mathlib.Omega.{arith}
 use Rattle.record.specs.Answers.{Answer, refused, answered, number}
 use Rattle.record.specs.declared.Refusal.{Refusal}
-use Rattle.record.specs.declared.Refusal.the-variants.{TooShort, OverLimit, WrongLength, BadUnary, SpareSet}
-use Rattle.record.specs.declared.Refusal.the-variants.{StrayNeighbour, DoubledNeighbour, OneSidedWire, ShortWork}
-use Rattle.record.specs.declared.Refusal.the-variants.{WrongBuffer, NoTerminal, BadIndex, NoChild, NoStart}
+use Rattle.record.specs.Laws.Settled.{number-bounds}
 use Rattle.celduga.specs.Code.{code}
 use Rattle.celduga.specs.Laws.Halves.{Valued, none, value}
 
 -- a refusal's number fits the high half
 pub number-small : (r : Refusal) → number r < 65536
-number-small TooShort = omega arith
-number-small OverLimit = omega arith
-number-small WrongLength = omega arith
-number-small BadUnary = omega arith
-number-small SpareSet = omega arith
-number-small StrayNeighbour = omega arith
-number-small DoubledNeighbour = omega arith
-number-small OneSidedWire = omega arith
-number-small ShortWork = omega arith
-number-small WrongBuffer = omega arith
-number-small NoTerminal = omega arith
-number-small BadIndex = omega arith
-number-small NoChild = omega arith
-number-small NoStart = omega arith
+number-small r = omega (arith, number-bounds r .1)
 
 module _ {A : Type 0} (low : A → ℕ) where
   pub code-refused : {k r : ℕ} {a : Answer A} → refused k ≡ a → r ≡ 65536 * k → r ≡ code low a

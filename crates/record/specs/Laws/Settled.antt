@@ -2,11 +2,13 @@
 -- leaves r no choice.
 --
 --   named            the refusal of a number
+--   number-bounds    the numbers that refusals have
 --   settled          what has a way back is settled
 --   verdict-settles, counted-settles, figure-settles, shape-settles    the enums of this crate
 use mathlib.Core.Path.{_≡_, refl, sym, ap, _∙_}
 use mathlib.Core.List.{List, [], _∷_}
-use Prim.Native.Nat.{ℕ, _-_}
+use Prim.Native.Nat.{ℕ, _-_, _≤_}
+use native.Mathlib.Omega.{arith}
 use lib.IntN.{ℤ}
 use lib.ListN.{getD}
 use Rattle.record.specs.Answers.{Answer, refused, answered, number, verdict, counted, figure, shape}
@@ -40,11 +42,12 @@ refusals =
     ∷ Refusal.BadIndex
     ∷ Refusal.NoChild
     ∷ Refusal.NoStart
+    ∷ Refusal.BadList
     ∷ []
 
 pub named : ℕ → Refusal
 unfolding refusals
-named k = getD refusals (k - 1) Refusal.NoStart
+named k = getD refusals (k - 1) Refusal.BadList
 
 pub named-number : (r : Refusal) → named (number r) ≡ r
 unfolding refusals named
@@ -62,6 +65,25 @@ named-number Refusal.NoTerminal = refl
 named-number Refusal.BadIndex = refl
 named-number Refusal.NoChild = refl
 named-number Refusal.NoStart = refl
+named-number Refusal.BadList = refl
+
+-- the documents' numbers
+pub number-bounds : (r : Refusal) → (1 ≤ number r) × (number r ≤ 15)
+number-bounds Refusal.TooShort = (omega arith, omega arith)
+number-bounds Refusal.OverLimit = (omega arith, omega arith)
+number-bounds Refusal.WrongLength = (omega arith, omega arith)
+number-bounds Refusal.BadUnary = (omega arith, omega arith)
+number-bounds Refusal.SpareSet = (omega arith, omega arith)
+number-bounds Refusal.StrayNeighbour = (omega arith, omega arith)
+number-bounds Refusal.DoubledNeighbour = (omega arith, omega arith)
+number-bounds Refusal.OneSidedWire = (omega arith, omega arith)
+number-bounds Refusal.ShortWork = (omega arith, omega arith)
+number-bounds Refusal.WrongBuffer = (omega arith, omega arith)
+number-bounds Refusal.NoTerminal = (omega arith, omega arith)
+number-bounds Refusal.BadIndex = (omega arith, omega arith)
+number-bounds Refusal.NoChild = (omega arith, omega arith)
+number-bounds Refusal.NoStart = (omega arith, omega arith)
+number-bounds Refusal.BadList = (omega arith, omega arith)
 
 -- ---- enums
 
