@@ -20,7 +20,7 @@ use Rattle.forest.specs.Index.{marksFrom, section, sectionE, sectionP, sectionB
 use Rattle.forest.specs.Index.{markBytes, numberBytes, indexLength}
 use Rattle.queries.specs.View.{blockMarks, sectionOf, numberOf}
 use Rattle.queries.specs.Queries.{stepBy, stepUp, headOf, parentOf, childCount, visitOf}
-use Rattle.queries.specs.Operations.{orderQ, head, parent, children, visit}
+use Rattle.queries.specs.Operations.{besideRules, orderQ, head, parent, children, visit}
 use Rattle.queries.specs.Table.{Columns, columns, answersOf, tableOn, tableOf}
 
 -- a line: blocks and their record, a record and its blocks, a record and what Check says, a record, a start and its
@@ -128,6 +128,6 @@ unfolding toBits bits string count onesAt select value field packed pack mention
     recordLength unary fieldsFrom fields zeros parts blocks layOut unaryOf fieldBits recordBits recordOf
     firstBroken beginsWithZero orderR anyIn anyFrom spareSet stray oneSided placeRules layoutRules
     checkRules outcome otherwise check otherLength outOfRange marksFrom section sectionE sectionP sectionB
-    numbers indexBy markBytes numberBytes indexLength blockMarks sectionOf numberOf stepBy stepUp headOf orderQ
-    head flatten visit visitOf parent parentOf children childCount said answersOf tableOn
+    numbers indexBy markBytes numberBytes indexLength blockMarks sectionOf numberOf stepBy stepUp headOf besideRules
+    orderQ head flatten visit visitOf parent parentOf children childCount said answersOf tableOn
 as-stated a b c = refl

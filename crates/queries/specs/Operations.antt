@@ -12,13 +12,13 @@ use Rattle.queries.specs.View.{viewOf}
 use Rattle.queries.specs.Queries.{parentOf, headOf, ancestorOf, childCount, childOf, pastCount}
 use Rattle.queries.specs.Queries.{visitOf, visitedOf}
 
--- order Q: order R, then 10, then 11 for a number that counts from 1, a terminal's or a visit's
+-- order R, then 10 for the index
+unfoldable pub besideRules : List ℕ → List ℕ → List Rule
+besideRules bytes index = orderR bytes ++ ((10, otherLength index (indexLength (terminals bytes) (wires bytes))) ∷ [])
+
+-- order Q: these, then 11 for a number that counts from 1, a terminal's or a visit's
 unfoldable pub orderQ : List ℕ → List ℕ → ℕ → List Rule
-orderQ bytes index k =
-    orderR bytes
-    ++ ((10, otherLength index (indexLength (terminals bytes) (wires bytes)))
-    ∷ (11, outOfRange (terminals bytes) k)
-    ∷ [])
+orderQ bytes index k = besideRules bytes index ++ ((11, outOfRange (terminals bytes) k) ∷ [])
 
 unfoldable pub parent : List ℕ → List ℕ → ℕ → Answer (Option ℕ)
 parent bytes index v = triedThen (orderQ bytes index v) (parentOf (viewOf bytes index) (v - 1))

@@ -18,8 +18,8 @@ use Rattle.forest.specs.Index.{markBytes}
 use Rattle.queries.specs.View.{View, blockMarks, sectionOf, numberOf, viewOf, placeOf, Alike}
 use Rattle.queries.specs.Queries.{parentOf, headOf, ancestorOf, childCount, childOf, visitOf, visitedOf}
 use Rattle.queries.specs.Queries.{pastCount}
-use Rattle.queries.specs.Operations.{orderQ, parent, head, ancestorRules, ancestor, children, noChild}
-use Rattle.queries.specs.Operations.{childRules, child, visit, visited}
+use Rattle.queries.specs.Operations.{besideRules, orderQ, parent, head, ancestorRules, ancestor, children}
+use Rattle.queries.specs.Operations.{noChild, childRules, child, visit, visited}
 use Rattle.queries.specs.Written.{SameAnswers}
 use Rattle.queries.specs.Laws.Framed.{section-length, section-bit}
 
@@ -118,9 +118,13 @@ module _ {bytes a b : List ℕ} (s : Alike bytes a b) where
       let x = numbers-same in
       λ i. record { graph = blocks bytes; marksE = e i; marksP = p i; marksB = f i; stored = x i }
 
+  alike-beside : besideRules bytes a ≡ besideRules bytes b
+  unfolding besideRules otherLength
+  alike-beside = rw same-length
+
   alike-order : (k : ℕ) → orderQ bytes a k ≡ orderQ bytes b k
-  unfolding orderQ otherLength
-  alike-order k = rw same-length
+  unfolding orderQ
+  alike-order k = rw alike-beside
 
   -- so whatever is asked of order Q and the view has one answer
   asked-alike : {A : Type 0} (k : ℕ) (question : List Rule → View → A)

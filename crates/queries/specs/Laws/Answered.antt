@@ -31,12 +31,12 @@ use Rattle.forest.specs.Laws.Taken.{taken-inside}
 use Rattle.queries.specs.View.{viewOf}
 use Rattle.queries.specs.Queries.{childCount, childOf}
 use Rattle.queries.specs.Answers.{unlessZero}
-use Rattle.queries.specs.Operations.{orderQ, parent, head, ancestorRules, ancestor, children, noChild}
-use Rattle.queries.specs.Operations.{childRules, child, visit, visited}
+use Rattle.queries.specs.Operations.{besideRules, orderQ, parent, head, ancestorRules, ancestor, children}
+use Rattle.queries.specs.Operations.{noChild, childRules, child, visit, visited}
 use Rattle.queries.specs.Written.{Written, forestFrom, Terminal, VisitNumber, HeadsTell}
 use Rattle.queries.specs.Laws.Shown.{Shows, parent-shown, head-shown, ancestor-shown, count-shown, child-shown}
 use Rattle.queries.specs.Laws.Shown.{visit-shown, visited-shown}
-use Rattle.queries.specs.Laws.Asked.{order-numbered-q}
+use Rattle.queries.specs.Laws.Asked.{beside-numbered, order-numbered-q}
 use Rattle.queries.specs.Laws.Built.{as-many, built-length, built-shows}
 
 pub same-answer : {A : Type 0} {a b : A} → answered a ≡ answered b → a ≡ b
@@ -92,19 +92,21 @@ module _ {bytes index : List ℕ} (w : Written bytes index) where
   pub first : Terminal bytes (w .start) → First (forestFrom bytes (w .start)) (w .start - 1)
   first t = start-visited-first (formed .in-range) (vertex-of t)
 
-  -- ---- nothing of order Q is broken
+  -- ---- nothing of order R and rule 10 is broken, nor of order Q
+
+  pub beside-unbroken : firstBroken (besideRules bytes index) ≡ 0
+  unfolding besideRules otherLength firstBroken
+  beside-unbroken =
+      let size : ℕ = indexLength (terminals bytes) (wires bytes) in
+      let l : length index ≡ size = ap length (w .is) ∙ built-length (w .accepted) (w .start - 1) in
+      append-kept (order-numbered bytes) ((10, otherLength index size) ∷ []) (accepted-sound (w .accepted) .kept)
+      ∙ first-kept 10 [] (ap not (eq-eqb (length index) size l))
 
   module _ {v : ℕ} (t : Terminal bytes v) where
     kept : firstBroken (orderQ bytes index v) ≡ 0
-    unfolding orderQ otherLength firstBroken
+    unfolding orderQ firstBroken
     kept =
-        let l : length index ≡ indexLength (terminals bytes) (wires bytes) =
-        ap length (w .is) ∙ built-length (w .accepted) (w .start - 1) in
-        let last : List Rule = (11, outOfRange (terminals bytes) v) ∷ [] in
-        let o = accepted-sound (w .accepted) .kept in
-        append-kept (order-numbered bytes)
-        ((10, otherLength index (indexLength (terminals bytes) (wires bytes))) ∷ last) o
-        ∙ first-kept 10 last (ap not (eq-eqb (length index) (indexLength (terminals bytes) (wires bytes)) l))
+        append-kept (beside-numbered bytes index) ((11, outOfRange (terminals bytes) v) ∷ []) beside-unbroken
         ∙ first-kept 11 [] (inside-range (terminals bytes) v (t .some) (t .upto))
 
     asked : {A : Type 0} {x y : Answer A} → x ≡ y → triedThen (orderQ bytes index v) x ≡ y

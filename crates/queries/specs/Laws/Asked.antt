@@ -1,4 +1,4 @@
--- What is known once order Q is kept.
+-- What is known once order R and rule 10 are kept, and once order Q is.
 use mathlib.Core.Path.{_≡_, sym, ap, ap₂, _∙_}
 use mathlib.Core.Bool.{false}
 use mathlib.Core.List.{List, []}
@@ -17,45 +17,68 @@ use Rattle.record.specs.Laws.Range.{range-inside}
 use Rattle.record.specs.Laws.Sounded.{sound-of}
 use Rattle.record.specs.Laws.Told.{untold-back}
 use Rattle.forest.specs.Index.{indexLength}
-use Rattle.queries.specs.Operations.{orderQ}
+use Rattle.queries.specs.Operations.{besideRules, orderQ}
 use Rattle.queries.specs.Steps.{Beside, Ranged}
 
+-- ---- order R and rule 10
+
+pub beside-numbered : (bytes index : List ℕ) → Numbered (besideRules bytes index)
+unfolding besideRules orderR
+beside-numbered bytes index = rule (rule (rule (rule (rule none))))
+
+pub same-length : (l : List ℕ) (k : ℕ) → otherLength l k ≡ false → length l ≡ k
+unfolding otherLength
+same-length l k e = eqb-true (length l) k (not-false (eqb (length l) k) e)
+
+-- n and m are the record's
+pub beside-of : (bytes index : List ℕ) {n m : ℕ} → firstBroken (besideRules bytes index) ≡ 0 → n ≡ terminals bytes
+    → m ≡ wires bytes → Beside bytes index n m
+unfolding besideRules
+beside-of bytes index k en em =
+    let (r, more) = both-kept (order-numbered bytes) _ k in
+    let (x, _) = rule-kept 9 (otherLength index (indexLength (terminals bytes) (wires bytes))) [] more in
+    let o = sound-of bytes r en em in
+    record {
+      sound = o;
+      framed = record {
+        n-fits = o .n-fits;
+        m-fits = o .m-fits;
+        sized = same-length index (indexLength (terminals bytes) (wires bytes)) x ∙ sym (ap₂ indexLength en em);
+      };
+    }
+
+-- by the sizes that are handed on
+pub beside-told : (bytes index : List ℕ) {s : Sizes} → answered s ≡ tried (besideRules bytes index) (sizesOf bytes)
+    → Beside bytes index (s .n) (s .m)
+beside-told bytes index e =
+    let (k, q) = untold-back (firstBroken (besideRules bytes index)) (sizesOf bytes) e in
+    beside-of bytes index k (ap (λ (z : Sizes). z .n) q) (ap (λ (z : Sizes). z .m) q)
+
+-- ---- order Q
+
 pub order-numbered-q : (bytes index : List ℕ) (v : ℕ) → Numbered (orderQ bytes index v)
-unfolding orderQ orderR
+unfolding orderQ besideRules orderR
 order-numbered-q bytes index v = rule (rule (rule (rule (rule (rule none)))))
 
--- order Q is kept for v, and n and m are the record's
+-- it is kept for v, and n and m are the record's
 pub record Asked (bytes index : List ℕ) (v n m : ℕ) : Type 0 where
   pub kept : firstBroken (orderQ bytes index v) ≡ 0
   pub beside : Beside bytes index n m
   pub ranged : Ranged n v
-
-same : (l : List ℕ) (k : ℕ) → otherLength l k ≡ false → length l ≡ k
-unfolding otherLength
-same l k e = eqb-true (length l) k (not-false (eqb (length l) k) e)
 
 pub asked : (bytes index : List ℕ) (v : ℕ) {s : Sizes} → answered s ≡ tried (orderQ bytes index v) (sizesOf bytes)
     → Asked bytes index v (s .n) (s .m)
 unfolding orderQ
 asked bytes index v {s} e =
     let (k, q) = untold-back (firstBroken (orderQ bytes index v)) (sizesOf bytes) e in
-    let (r, more) = both-kept (order-numbered bytes) _ k in
-    let (x, rest) = rule-kept 9 (otherLength index (indexLength (terminals bytes) (wires bytes))) _ more in
-    let (y, _) = rule-kept 10 (outOfRange (terminals bytes) v) [] rest in
+    let (r, last) = both-kept (beside-numbered bytes index) _ k in
+    let (y, _) = rule-kept 10 (outOfRange (terminals bytes) v) [] last in
     let en : s .n ≡ terminals bytes = ap (λ (z : Sizes). z .n) q in
     let em : s .m ≡ wires bytes = ap (λ (z : Sizes). z .m) q in
-    let o = sound-of bytes r en em in
     let (a, b) = range-inside (terminals bytes) v y in
     record {
       kept = k;
-      beside = record {
-        sound = o;
-        framed = record {
-          n-fits = o .n-fits;
-          m-fits = o .m-fits;
-          sized = same index (indexLength (terminals bytes) (wires bytes)) x ∙ sym (ap₂ indexLength en em);
-        };
-      };
+      beside = beside-of bytes index r en em;
       ranged = record { some = a; upto = omega arith };
     }
 

@@ -20,8 +20,8 @@ use Rattle.queries.specs.View.{View, viewOf}
 use Rattle.queries.specs.Queries.{Step, stuck, top, rise, stepUp, parentBy, parentOf, headBy, headNext, headOf}
 use Rattle.queries.specs.Queries.{ancestorBy, ancestorNext, ancestorOf, childCount, vertexOr, childOf, visitOf}
 use Rattle.queries.specs.Queries.{found, visitedOf}
-use Rattle.queries.specs.Operations.{orderQ, parent, head, ancestorRules, ancestor, children, childRules, child}
-use Rattle.queries.specs.Operations.{visit, visited}
+use Rattle.queries.specs.Operations.{besideRules, orderQ, parent, head, ancestorRules, ancestor, children}
+use Rattle.queries.specs.Operations.{childRules, child, visit, visited}
 use Rattle.queries.specs.Table.{tableRules, table}
 use Rattle.queries.specs.Given.{NeverGiven}
 
@@ -116,8 +116,8 @@ not-7 : {A : Type 0} (rules : List Rule) → has 7 rules ≡ false → {a : Answ
 not-7 rules lacks {a} t = never-then rules lacks a (λ e. (let f = t 7 e in omega arith))
 
 pub never-seven : (bytes : List ℕ) → NeverGiven 7 bytes
-unfolding has orderR layoutRules placeRules checkRules degreeRules unpackRules buildRules orderQ ancestorRules
-    childRules tableRules check degree unpack loopFigure build parent head ancestor children child visit visited
+unfolding has orderR layoutRules placeRules checkRules degreeRules unpackRules buildRules besideRules orderQ
+    ancestorRules childRules tableRules check degree unpack loopFigure build parent head ancestor children child visit visited
     table childOf visitOf
 never-seven bytes = record {
   by-check = never-tried (checkRules bytes) refl tt;
