@@ -24,3 +24,15 @@ pub fn put(cells: &mut [u16], i: usize, x: usize)
 {
     cells[i] = x as u16;
 }
+
+// All cells of `to` become those of `from`.
+pub fn copy(from: &[u16], to: &mut [u16])
+    requires { ⌜ length (now to) ≡ length (now from) ⌝ }
+    ensures { λ _. ⌜ now (to .exit) ≡ now (from .entry) ⌝ }
+{
+    let mut i = 0;
+    while i < from.len() {
+        to[i] = from[i];
+        i += 1;
+    }
+}

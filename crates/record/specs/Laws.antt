@@ -3,6 +3,7 @@ pub mod First
 pub mod Told
 pub mod Given
 pub mod Settled
+pub mod Valued
 pub mod Range
 pub mod Parts
 pub mod Fields
@@ -14,5 +15,5 @@ pub mod Sounded
 pub mod Spans
 pub mod Unpacked
 pub mod OneBlock
-pub mod Raised
+pub mod Mapped
 pub mod Lending

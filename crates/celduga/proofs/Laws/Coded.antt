@@ -5,8 +5,8 @@ use native.Mathlib.Omega.{arith}
 use Rattle.record.specs.Answers.{Answer, refused, answered, number}
 use Rattle.record.specs.declared.Refusal.{Refusal}
 use Rattle.record.specs.Laws.Settled.{number-bounds}
+use Rattle.record.specs.Laws.Valued.{Valued}
 use Rattle.celduga.specs.Code.{code}
-use Rattle.celduga.specs.Laws.Halves.{Valued, none, value}
 
 -- a refusal's number fits the high half
 pub number-small : (r : Refusal) → number r < 65536
@@ -28,8 +28,3 @@ module _ {A : Type 0} (low : A → ℕ) where
 module _ {A : Type 0} {P : A → Type 0} where
   pub valued-call : {a b : Answer A} → a ≡ b → Valued P b → Valued P a
   valued-call e s = subst (Valued P) (sym e) s
-
-  -- the value at hand
-  pub value-at : {x : Answer A} {a : A} → Valued P x → answered a ≡ x → P a
-  value-at none e = absurd (let z : _≡_ {A = ℕ} 0 1 = cc in omega arith)
-  value-at {a = a} (value b h) e = let z : b ≡ a = cc in subst P z h

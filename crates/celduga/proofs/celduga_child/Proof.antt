@@ -1,7 +1,7 @@
 -- `celduga_child` meets its contract.
 use Rattle.celduga.proofs.Laws.Coded.{valued-call, code-call}
 use Rattle.celduga.specs.Code.{itself}
-use Rattle.celduga.specs.Laws.Small.{child-small}
+use Rattle.queries.specs.Laws.Small.{child-small}
 use borrow.Author.Needs.{needs}
 use Rattle.celduga.proofs.celduga_child.Statement.{statement}
 use Rattle.celduga.proofs.celduga_child.Tie as tie

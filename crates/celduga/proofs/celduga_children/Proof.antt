@@ -1,7 +1,7 @@
 -- `celduga_children` meets its contract.
 use Rattle.celduga.proofs.Laws.Coded.{valued-call, code-call}
 use Rattle.celduga.specs.Code.{itself}
-use Rattle.celduga.specs.Laws.Small.{children-small}
+use Rattle.queries.specs.Laws.Small.{children-small}
 use borrow.Author.Needs.{needs}
 use Rattle.celduga.proofs.celduga_children.Statement.{statement}
 use Rattle.celduga.proofs.celduga_children.Tie as tie

@@ -1,7 +1,7 @@
 -- `celduga_head` meets its contract.
 use Rattle.celduga.proofs.Laws.Coded.{valued-call, code-call}
 use Rattle.celduga.specs.Code.{itself}
-use Rattle.celduga.specs.Laws.Small.{head-small}
+use Rattle.queries.specs.Laws.Small.{head-small}
 use borrow.Author.Needs.{needs}
 use Rattle.celduga.proofs.celduga_head.Statement.{statement}
 use Rattle.celduga.proofs.celduga_head.Tie as tie

@@ -1,7 +1,7 @@
 -- `celduga_parent` meets its contract.
 use Rattle.celduga.proofs.Laws.Coded.{valued-call, code-call}
 use Rattle.queries.specs.Answers.{orZero}
-use Rattle.celduga.specs.Laws.Small.{parent-small}
+use Rattle.queries.specs.Laws.Small.{parent-small}
 use borrow.Author.Needs.{needs}
 use Rattle.celduga.proofs.celduga_parent.Statement.{statement}
 use Rattle.celduga.proofs.celduga_parent.Tie as tie

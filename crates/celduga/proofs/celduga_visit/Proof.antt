@@ -1,7 +1,7 @@
 -- `celduga_visit` meets its contract.
 use Rattle.celduga.proofs.Laws.Coded.{valued-call, code-call}
 use Rattle.celduga.specs.Code.{itself}
-use Rattle.celduga.specs.Laws.Small.{visit-small}
+use Rattle.queries.specs.Laws.Small.{visit-small}
 use borrow.Author.Needs.{needs}
 use Rattle.celduga.proofs.celduga_visit.Statement.{statement}
 use Rattle.celduga.proofs.celduga_visit.Tie as tie

@@ -1,7 +1,7 @@
 -- `celduga_visited` meets its contract.
 use Rattle.celduga.proofs.Laws.Coded.{valued-call, code-call}
 use Rattle.celduga.specs.Code.{itself}
-use Rattle.celduga.specs.Laws.Small.{visited-small}
+use Rattle.queries.specs.Laws.Small.{visited-small}
 use borrow.Author.Needs.{needs}
 use Rattle.celduga.proofs.celduga_visited.Statement.{statement}
 use Rattle.celduga.proofs.celduga_visited.Tie as tie

@@ -11,21 +11,10 @@ use Rattle.bits.specs.Bits.{bit}
 use Rattle.record.specs.Answers.{Answer, refused, answered, said}
 use Rattle.record.specs.Operations.{PartOf}
 use Rattle.record.specs.Laws.OneBlock.{part-near}
+use Rattle.record.specs.Laws.Valued.{Valued, none, value, Small}
 use Rattle.queries.specs.Answers.{orZero}
+use Rattle.queries.specs.Laws.Small.{SmallParent}
 use Rattle.celduga.specs.Code.{code, nothing, itself, complement, inHalves}
-
--- the value of an answer, if it has one, is such a value
-pub data Valued {A : Type 0} (P : A → Type 0) : Answer A → Type 0 where
-  none : {k : ℕ} → Valued P (refused k)
-  value : (a : A) → P a → Valued P (answered a)
-
--- a number that fits the low half
-abbrev pub Small : Answer ℕ → Type 0
-Small a = Valued (λ (k : ℕ). k < 65536) a
-
--- a parent, or none, whose number fits
-abbrev pub SmallParent : Answer (Option ℕ) → Type 0
-SmallParent a = Valued (λ (p : Option ℕ). orZero p < 65536) a
 
 -- a signed number of 16 bits: 0 to 32,767, or -1 down to -32,768
 abbrev pub Short : Answer ℤ → Type 0

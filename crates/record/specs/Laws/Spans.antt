@@ -32,6 +32,10 @@ module _ {bytes : List ℕ} {n m : ℕ} (s : Sound bytes n m) {u : ℕ} (h : u <
       ≡ getD (startsOf (unary bytes)) (u + 1) 0 - getD (startsOf (unary bytes)) u 0
   span-size = let e = s .is-n in degree-starts (sound-shaped s) u (omega arith)
 
+  -- a block has at most 2·m places
+  pub block-small : length (block (blocks bytes) u) ≤ 32768
+  block-small = omega (arith, span-size, span-ends, s .m-fits)
+
   -- the place of its one in D
   pub span-one : getD (startsOf (unary bytes)) u 0 + u + 1 ≡ select (unary bytes) (suc u)
   span-one =

@@ -1,5 +1,6 @@
 -- `codes::of_above` meets its contract.
-use Rattle.celduga.proofs.Laws.Coded.{code-refused, code-answered, value-at}
+use Rattle.record.specs.Laws.Valued.{value-at}
+use Rattle.celduga.proofs.Laws.Coded.{code-refused, code-answered}
 use Rattle.queries.specs.Answers.{above, orZero}
 use mathlib.Core.Path.{refl, sym, ap}
 use borrow.Author.Needs.{needs}

@@ -4,7 +4,8 @@ use Prim.Native.Nat.{_<_}
 use lib.IntN.{ℤ}
 use lib.Signed.{mag}
 use mathlib.Core.Path.{sym, ap, subst, _∙_}
-use Rattle.celduga.proofs.Laws.Coded.{code-refused, code-answered, value-at}
+use Rattle.record.specs.Laws.Valued.{value-at}
+use Rattle.celduga.proofs.Laws.Coded.{code-refused, code-answered}
 use Rattle.celduga.specs.Code.{complement}
 use Rattle.record.specs.Answers.{figure}
 use borrow.Author.Needs.{needs}

@@ -7,7 +7,7 @@ use native.Mathlib.Omega.{arith}
 use borrow.Author.Needs.{needs}
 use lib.ListN.{length, getD, length-map}
 use Rattle.adjacency.specs.Laws.InOrder.{InOrder, order-start, order-more, order-end}
-use Rattle.record.specs.Laws.Raised.{raised-at}
+use Rattle.record.specs.Laws.Mapped.{map-at}
 use Rattle.record.proofs.rooms.hand_on.Statement.{statement}
 use Rattle.record.proofs.rooms.hand_on.Tie as tie
 
@@ -37,7 +37,7 @@ loop-again c =
     let start = at-loop .before in
     let l = length-map (start .args .nbrs .now) suc in
     order-more (at-loop .loop .inv) (getD (start .args .nbrs .now) (at-loop .loop .i) 0 + 1) refl
-    (add-one _ ∙ sym (raised-at (start .args .nbrs .now) (at-loop .loop .i) (omega arith))) (omega arith)
+    (add-one _ ∙ sym (map-at suc (start .args .nbrs .now) (at-loop .loop .i) (omega arith))) (omega arith)
 
 same-length : tie.Need-same-length Inv-loop μ-loop
 same-length c =
