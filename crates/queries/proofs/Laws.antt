@@ -11,3 +11,5 @@ pub mod Paired
 pub mod Tabling
 pub mod TableRules
 pub mod Rooms
+pub mod Knowing
+pub mod Looking

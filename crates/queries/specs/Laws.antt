@@ -4,12 +4,14 @@ pub mod Settled
 pub mod Framed
 pub mod Asked
 pub mod Inside
+pub mod Small
 pub mod Marks
 pub mod Shown
 pub mod Built
 pub mod Alike
+pub mod Ready
 pub mod Answered
 pub mod Edges
-pub mod Ready
 pub mod Columns
 pub mod Given
+pub mod Looked

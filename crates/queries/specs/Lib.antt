@@ -9,6 +9,7 @@ pub mod Table
 pub mod Lookup
 pub mod Given
 pub mod Filling
+pub mod Looking
 pub mod Laws
 pub mod Demands
 pub mod Examples

@@ -11,6 +11,7 @@
 --   lookedUp       what the two lists hold afterwards
 --   LookupDone     the answer and the lists of a call
 --   LookupCells    each cell is what its single call answers
+--   Answers        both single calls answer for a terminal
 use mathlib.Core.Path.{_≡_}
 use mathlib.Core.Bool.{Bool, true, false, _||_}
 use mathlib.Core.List.{List, [], _∷_, _++_, map}
@@ -73,6 +74,13 @@ pub record LookupDone (bytes index list : List ℕ) (before after : Lists) (r : 
   pub leaves : after ≡ lookedUp bytes index list before
 
 -- ---- cell by cell
+
+-- both single calls answer for v
+pub record Answers (bytes index : List ℕ) (v : ℕ) : Type 0 where
+  pub its-head : ℕ
+  pub its-visit : ℕ
+  pub head-is : head bytes index v ≡ answered its-head
+  pub visit-is : visit bytes index v ≡ answered its-visit
 
 pub record LookupCells (bytes index list : List ℕ) (found : Lists) : Type 0 where
   pub heads-are : (i : ℕ) → i < length list → head bytes index (getD list i 0) ≡ answered (getD (found .heads) i 0)

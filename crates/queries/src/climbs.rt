@@ -71,7 +71,7 @@ pub fn step_up(bytes: &[u8], index: &[u8], n: usize, m: usize, u: usize, a: usiz
 }
 
 // The step of Head from vertex u.
-fn head_move(bytes: &[u8], index: &[u8], n: usize, m: usize, starts: &[u16], u: usize) -> Move
+pub fn head_move(bytes: &[u8], index: &[u8], n: usize, m: usize, starts: &[u16], u: usize) -> Move
     requires { ⌜ (Beside (now bytes) (now index) n m) × (now starts ≡ startsOf (unary (now bytes))) × (u < n) ⌝ }
     ensures { λ r. ⌜ moveOf u r ≡ headNext (viewBy n m (now (bytes .entry)) (now (index .entry))) u ⌝ }
 {

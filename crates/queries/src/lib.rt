@@ -1,5 +1,5 @@
-// The queries on a record and its index (document 01, "Operations and their answers"), and their answers for all
-// terminals at once. No operation of this file has a precondition: each answers for every record and index, built or
+// The queries on a record and its index (document 01, "Operations and their answers"), and their answers for a list of
+// terminals and for all terminals at once. No operation of this file has a precondition: each answers for every record and index, built or
 // not, and every number.
 ghost use mathlib.Core.Path.{_≡_};
 ghost use Rattle.record.specs.Answers.{counted, verdict};
@@ -8,6 +8,7 @@ ghost use Rattle.queries.specs.Operations.{parent as parentOf, head as h
 ghost use Rattle.queries.specs.Operations.{children as childrenOf, child as childOf, visit as visitOf};
 ghost use Rattle.queries.specs.Operations.{visited as visitedOf};
 ghost use Rattle.queries.specs.Table.{columns, TableDone};
+ghost use Rattle.queries.specs.Lookup.{lists, LookupDone};
 use forest::Dfi;
 use record::Counted;
 use record::Refusal;
@@ -25,6 +26,8 @@ mod single; // single.rt: one vertex
 mod visits; // visits.rt: the stored numbers
 mod columns; // columns.rt: the lists of a table
 mod tables; // tables.rt: Table, behind order R
+mod known; // known.rt: Head by what earlier climbs have found
+mod lookups; // lookups.rt: Lookup, behind order R and rule 10
 pub mod pair; // pair.rt: demand 3 over the running code
 
 // What stands above a terminal.
@@ -147,6 +150,25 @@ pub fn visited(bytes: &[u8], index: &[u8], i: Dfi) -> Found
             let n = s.n;
             let m = s.m;
             visits::visited_in(bytes, index, n, m, i)
+        }
+    }
+}
+
+// Lookup: what Head and Visit answer for each terminal of a list, cell i for the list's terminal i. The rules are tried
+// once for all of them, and then the terminals in list order, Head before Visit. A refused call leaves the lists as they
+// were.
+pub fn lookup(bytes: &[u8], index: &[u8], list: &[u16], heads: &mut [u16], visits: &mut [u16]) -> Verdict
+    ensures { λ r. ⌜ LookupDone (now (bytes .entry)) (now (index .entry)) (now (list .entry))
+        (lists (now (heads .entry)) (now (visits .entry)))
+        (lists (now (heads .exit)) (now (visits .exit)))
+        (verdict r) ⌝ }
+{
+    match order::beside(bytes, index) {
+        Shape::Refused(r) => Verdict::Refused(r),
+        Shape::Passed(s) => {
+            let n = s.n;
+            let m = s.m;
+            lookups::lookup_in(bytes, index, n, m, list, heads, visits)
         }
     }
 }

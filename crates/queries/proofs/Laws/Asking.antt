@@ -23,7 +23,7 @@ module _ {A : Type 0} {bytes index : List ℕ} {v n m : ℕ} (q : Asked bytes in
   same-view : f (viewBy n m bytes index) ≡ f (viewOf bytes index)
   same-view = ap₂ (λ (x y : ℕ). f (viewBy x y bytes index)) (q .beside .sound .is-n) (q .beside .sound .is-m)
 
-  passed-on : {a : Answer A} → a ≡ f (viewBy n m bytes index)
+  pub passed-on : {a : Answer A} → a ≡ f (viewBy n m bytes index)
       → a ≡ triedThen (orderQ bytes index v) (f (viewOf bytes index))
   passed-on e = e ∙ same-view ∙ then-untold (orderQ bytes index v) (f (viewOf bytes index)) (q .kept)
 

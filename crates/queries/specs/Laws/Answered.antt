@@ -18,26 +18,27 @@ use Rattle.graph.specs.Laws.Joined.Starts.{Startable, First}
 use Rattle.record.specs.Record.{terminals, wires, blocks}
 use Rattle.record.specs.Rules.{Rule, firstBroken}
 use Rattle.record.specs.Answers.{Answer, refused, answered, triedThen}
-use Rattle.record.specs.Operations.{otherLength, outOfRange}
-use Rattle.record.specs.Laws.First.{first-broken, first-kept, rule-kept, append-kept, both-kept, order-numbered}
+use Rattle.record.specs.Operations.{outOfRange}
+use Rattle.record.specs.Laws.First.{first-broken, first-kept, rule-kept, both-kept}
 use Rattle.record.specs.Laws.First.{check-numbered}
 use Rattle.record.specs.Laws.Range.{inside-range}
 use Rattle.record.specs.Laws.Sound.{accepted-well-formed}
-use Rattle.record.specs.Laws.Sounded.{accepted-sound}
 use Rattle.record.specs.Laws.Told.{untold-back, then-told, then-untold, then-passed, buffer-written}
-use Rattle.forest.specs.Index.{indexOf, indexLength}
+use Rattle.forest.specs.Index.{indexOf}
 use Rattle.forest.specs.Operations.{buildRules, build, built}
 use Rattle.forest.specs.Laws.Taken.{taken-inside}
 use Rattle.queries.specs.View.{viewOf}
 use Rattle.queries.specs.Queries.{childCount, childOf}
 use Rattle.queries.specs.Answers.{unlessZero}
-use Rattle.queries.specs.Operations.{besideRules, orderQ, parent, head, ancestorRules, ancestor, children}
-use Rattle.queries.specs.Operations.{noChild, childRules, child, visit, visited}
+use Rattle.queries.specs.Operations.{orderQ, parent, head, ancestorRules, ancestor, children, noChild}
+use Rattle.queries.specs.Operations.{childRules, child, visit, visited}
+use Rattle.queries.specs.Steps.{Beside}
 use Rattle.queries.specs.Written.{Written, forestFrom, Terminal, VisitNumber, HeadsTell}
 use Rattle.queries.specs.Laws.Shown.{Shows, parent-shown, head-shown, ancestor-shown, count-shown, child-shown}
 use Rattle.queries.specs.Laws.Shown.{visit-shown, visited-shown}
-use Rattle.queries.specs.Laws.Asked.{beside-numbered, order-numbered-q}
-use Rattle.queries.specs.Laws.Built.{as-many, built-length, built-shows}
+use Rattle.queries.specs.Laws.Asked.{order-numbered-q, asked-inside}
+use Rattle.queries.specs.Laws.Built.{as-many, built-shows}
+use Rattle.queries.specs.Laws.Ready.{ready-beside}
 
 pub same-answer : {A : Type 0} {a b : A} → answered a ≡ answered b → a ≡ b
 same-answer e = cc
@@ -92,22 +93,14 @@ module _ {bytes index : List ℕ} (w : Written bytes index) where
   pub first : Terminal bytes (w .start) → First (forestFrom bytes (w .start)) (w .start - 1)
   first t = start-visited-first (formed .in-range) (vertex-of t)
 
-  -- ---- nothing of order R and rule 10 is broken, nor of order Q
+  -- ---- nothing of order Q is broken
 
-  pub beside-unbroken : firstBroken (besideRules bytes index) ≡ 0
-  unfolding besideRules otherLength firstBroken
-  beside-unbroken =
-      let size : ℕ = indexLength (terminals bytes) (wires bytes) in
-      let l : length index ≡ size = ap length (w .is) ∙ built-length (w .accepted) (w .start - 1) in
-      append-kept (order-numbered bytes) ((10, otherLength index size) ∷ []) (accepted-sound (w .accepted) .kept)
-      ∙ first-kept 10 [] (ap not (eq-eqb (length index) size l))
+  pub beside-written : Beside bytes index (terminals bytes) (wires bytes)
+  beside-written = ready-beside (record { written = w; is-n = refl; is-m = refl })
 
   module _ {v : ℕ} (t : Terminal bytes v) where
     kept : firstBroken (orderQ bytes index v) ≡ 0
-    unfolding orderQ firstBroken
-    kept =
-        append-kept (beside-numbered bytes index) ((11, outOfRange (terminals bytes) v) ∷ []) beside-unbroken
-        ∙ first-kept 11 [] (inside-range (terminals bytes) v (t .some) (t .upto))
+    kept = asked-inside beside-written v t .kept
 
     asked : {A : Type 0} {x y : Answer A} → x ≡ y → triedThen (orderQ bytes index v) x ≡ y
     asked {x = x} e = sym (then-untold (orderQ bytes index v) x kept) ∙ e

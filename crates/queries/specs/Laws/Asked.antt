@@ -1,10 +1,10 @@
 -- What is known once order R and rule 10 are kept, and once order Q is.
 use mathlib.Core.Path.{_≡_, sym, ap, ap₂, _∙_}
-use mathlib.Core.Bool.{false}
-use mathlib.Core.List.{List, []}
+use mathlib.Core.Bool.{true, false, not}
+use mathlib.Core.List.{List, [], _∷_}
 use Prim.Native.Nat.{ℕ, _-_, _<_}
 use native.Mathlib.Omega.{arith}
-use borrow.Author.Tests.{eqb-true, not-false}
+use borrow.Author.Tests.{eq-eqb, eqb-true, not-false}
 use lib.Dec.{eqb}
 use lib.ListN.{length}
 use Rattle.record.specs.Record.{terminals, wires}
@@ -12,8 +12,9 @@ use Rattle.record.specs.Rules.{firstBroken, orderR}
 use Rattle.record.specs.Answers.{answered, tried, sizesOf}
 use Rattle.record.specs.Operations.{otherLength, outOfRange}
 use Rattle.record.specs.declared.Sizes.{Sizes}
-use Rattle.record.specs.Laws.First.{Numbered, none, rule, rule-kept, both-kept, order-numbered}
-use Rattle.record.specs.Laws.Range.{range-inside}
+use Rattle.record.specs.Laws.First.{Numbered, none, rule, first-broken, first-kept, rule-kept, append-kept}
+use Rattle.record.specs.Laws.First.{both-kept, order-numbered}
+use Rattle.record.specs.Laws.Range.{inside-range, range-inside}
 use Rattle.record.specs.Laws.Sounded.{sound-of}
 use Rattle.record.specs.Laws.Told.{untold-back}
 use Rattle.forest.specs.Index.{indexLength}
@@ -54,6 +55,16 @@ beside-told bytes index e =
     let (k, q) = untold-back (firstBroken (besideRules bytes index)) (sizesOf bytes) e in
     beside-of bytes index k (ap (λ (z : Sizes). z .n) q) (ap (λ (z : Sizes). z .m) q)
 
+-- and back
+pub beside-unbroken : {bytes index : List ℕ} {n m : ℕ} → Beside bytes index n m
+    → firstBroken (besideRules bytes index) ≡ 0
+unfolding besideRules otherLength firstBroken
+beside-unbroken {bytes} {index} b =
+    let size : ℕ = indexLength (terminals bytes) (wires bytes) in
+    let l : length index ≡ size = b .framed .sized ∙ ap₂ indexLength (b .sound .is-n) (b .sound .is-m) in
+    append-kept (order-numbered bytes) ((10, otherLength index size) ∷ []) (b .sound .kept)
+    ∙ first-kept 10 [] (ap not (eq-eqb (length index) size l))
+
 -- ---- order Q
 
 pub order-numbered-q : (bytes index : List ℕ) (v : ℕ) → Numbered (orderQ bytes index v)
@@ -81,6 +92,25 @@ asked bytes index v {s} e =
       beside = beside-of bytes index r en em;
       ranged = record { some = a; upto = omega arith };
     }
+
+-- for a number in range, and for one that is not, once order R and rule 10 are kept
+module _ {bytes index : List ℕ} {n m : ℕ} (b : Beside bytes index n m) (v : ℕ) where
+  order-told : firstBroken (orderQ bytes index v) ≡ firstBroken ((11, outOfRange n v) ∷ [])
+  unfolding orderQ
+  order-told =
+      append-kept (beside-numbered bytes index) ((11, outOfRange (terminals bytes) v) ∷ []) (beside-unbroken b)
+      ∙ ap (λ (k : ℕ). firstBroken ((11, outOfRange k v) ∷ [])) (sym (b .sound .is-n))
+
+  pub asked-inside : Ranged n v → Asked bytes index v n m
+  unfolding firstBroken
+  asked-inside r = record {
+    kept = order-told ∙ first-kept 11 [] (inside-range n v (r .some) (r .upto));
+    beside = b;
+    ranged = r;
+  }
+
+  pub asked-outside : outOfRange n v ≡ true → firstBroken (orderQ bytes index v) ≡ 11
+  asked-outside o = order-told ∙ first-broken 11 [] o
 
 -- the vertex of a terminal
 pub vertex-in : {n k : ℕ} → Ranged n k → k - 1 < n

@@ -28,7 +28,7 @@ use Rattle.queries.specs.Given.{NeverGiven}
 -- ---- the answers on a view
 
 -- a refusal is 12
-abbrev Twelve : {A : Type 0} → Answer A → Type 0
+abbrev pub Twelve : {A : Type 0} → Answer A → Type 0
 Twelve a = (k : ℕ) → a ≡ refused k → k ≡ 12
 
 bad : {A : Type 0} → Twelve {A = A} (refused 12)
@@ -52,6 +52,10 @@ vertex-twelve w v = go (ltb v (length (w .graph)))
     go : (b : Bool) → Twelve {A = ℕ} (elim b [ true ↦ answered (suc v) | false ↦ refused 12 ])
     go true = value (suc v)
     go false = bad
+
+pub visit-twelve : (w : View) (u : ℕ) → Twelve (visitOf w u)
+unfolding visitOf
+visit-twelve w u = vertex-twelve w (w .stored u)
 
 visited-twelve : (w : View) (k : ℕ) → Twelve (visitedOf w k)
 unfolding visitedOf
@@ -81,7 +85,7 @@ walk-twelve {A} next h (suc k) v = go (λ u. walk-twelve next h k u) (next v) (h
     go rec (inl a) (stop t) = t
     go rec (inr u) (on u′) = rec u
 
-head-twelve : (w : View) (u : ℕ) → Twelve (headOf w u)
+pub head-twelve : (w : View) (u : ℕ) → Twelve (headOf w u)
 unfolding headOf
 head-twelve w u = walk-twelve (headNext w) (λ v. step v (stepUp (w .graph) (w .marksP) v)) (length (w .graph) - 1) u
   where
@@ -131,7 +135,7 @@ never-seven bytes = record {
       not-7 (ancestorRules bytes index u v) refl (ancestor-twelve (viewOf bytes index) (u - 1) (v - 1));
   by-children = λ index v. not-7 (orderQ bytes index v) refl (value (childCount (viewOf bytes index) (v - 1)));
   by-child = λ index v j. not-7 (childRules bytes index v j) refl (vertex-twelve (viewOf bytes index) _);
-  by-visit = λ index v. not-7 (orderQ bytes index v) refl (vertex-twelve (viewOf bytes index) _);
+  by-visit = λ index v. not-7 (orderQ bytes index v) refl (visit-twelve (viewOf bytes index) (v - 1));
   by-visited = λ index i. not-7 (orderQ bytes index i) refl (visited-twelve (viewOf bytes index) (i - 1));
   by-table = λ start work lent. never-tried (tableRules bytes start work lent) refl tt;
 }

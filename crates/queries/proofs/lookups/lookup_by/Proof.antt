@@ -1,0 +1,62 @@
+-- `lookups::lookup_by` meets its contract: the lists are written once the last answer is known.
+use mathlib.Core.Path.{_≡_, sym, ap, ap₂, _∙_}
+use borrow.Author.Needs.{needs}
+use lib.ListN.{length}
+use Rattle.record.specs.Answers.{answered, verdict}
+use Rattle.record.specs.declared.Verdict.the-variants as Verdict
+use Rattle.queries.specs.Lookup.{Lists, lists}
+use Rattle.queries.proofs.Laws.Looking.{lookup-refused, lookup-filled, lists-fit}
+use Rattle.queries.proofs.lookups.lookup_by.Statement.{statement}
+use Rattle.queries.proofs.lookups.lookup_by.Tie as tie
+
+-- the call of `look_all`, and where it began
+abbrev begin : tie.After-look-all → tie.Start
+begin c = c .before .before .before .before .before .before .before .before .before .before .before .before .before .before .before .before .before .before .before .before
+
+abbrev lent : tie.Start → Lists
+lent s = lists (s .args .heads .now) (s .args .visits .now)
+
+-- the lists of the answers fit
+first-fits : (c : tie.After-look-all)
+    → length (begin c .args .heads .now) ≡ length (c .look-all .last .1 .1 .1 .1 .1 .1 .1 .1 .0)
+first-fits c =
+    let s = begin c in
+    let (_, h, _) = lists-fit (s .args .list .now) (s .args .heads .now) (s .args .visits .now) (s .pre .1) in
+    h ∙ sym (c .look-all .kept .1 .1 .1 .1 .1 .1 .1 .1 .0 ∙ s .pre .5)
+
+second-fits : (c : tie.After-look-all)
+    → length (begin c .args .visits .now) ≡ length (c .look-all .last .1 .1 .1 .1 .1 .1 .1 .1 .1 .0)
+second-fits c =
+    let s = begin c in
+    let (_, _, v) = lists-fit (s .args .list .now) (s .args .heads .now) (s .args .visits .now) (s .pre .1) in
+    v ∙ sym (c .look-all .kept .1 .1 .1 .1 .1 .1 .1 .1 .1 .0 ∙ s .pre .6)
+
+copy-requires : tie.Need-copy-requires
+copy-requires c κs = first-fits (c .before .before .before .before .before .before .before .before .before .before .before .before)
+
+copy-requires-2 : tie.Need-copy-requires-2
+copy-requires-2 c κs = second-fits (c .before .before .before .before .before .before .before .before .before .before .before .before .before .before .before .before .before)
+
+returns : tie.Need-returns
+returns c =
+    let l = c .before .before .before .before .before .before .before .before .before .before .before in
+    let s = begin l in
+    lookup-refused (s .args .bytes .now) (s .args .index .now) (s .args .list .now) (lent s) (s .pre .0) (s .pre .1)
+    (sym (ap verdict (c .before .r .given .1)) ∙ l .look-all .ensures .answers)
+
+returns-2 : tie.Need-returns-2
+returns-2 c =
+    let l = c .before .before .before .before .before .before .before .before .before .before .before .before .before .before .before .before .before .before .before .before in
+    let s = begin l in
+    let told = ap verdict (c .before .before .before .before .before .before .before .before .before .before .enum-told .given .1) in
+    lookup-filled (s .args .bytes .now) (s .args .index .now) (s .args .list .now) (lent s) (s .pre .0) (s .pre .1)
+    (sym told ∙ l .look-all .ensures .answers)
+    (ap₂ lists (c .before .before .before .before .before .before .before .copy .ensures) (c .before .before .copy2 .ensures) ∙ l .look-all .ensures .finds told)
+
+pub lookup-by-spec : {M : Type 1} → statement M
+lookup-by-spec =
+    tie.close
+    (tie.spec (λ c κs. search needs) (λ c κs. search needs) (λ c. search needs) (λ c. search needs) copy-requires
+    copy-requires-2 (λ c. search needs) (λ c. search needs) (λ c. search needs) (λ c. search needs)
+    (λ c. search needs) returns (λ c. search needs) (λ c. search needs) (λ c. search needs) (λ c. search needs)
+    (λ c. search needs) (λ c. search needs) (λ c. search needs) returns-2)
