@@ -7,6 +7,7 @@ ghost use Rattle.forest.specs.Operations.{build, built};
 ghost use Rattle.queries.specs.Answers.{orZero};
 ghost use Rattle.queries.specs.Operations.{parent, head, ancestor, children, child, visit, visited};
 ghost use Rattle.queries.specs.Table.{columns, table, tabled};
+ghost use Rattle.queries.specs.Lookup.{lists, lookup, lookedUp};
 ghost use Rattle.celduga.specs.Code.{code, nothing, itself, complement, TellsPart, version};
 use forest::Dfi;
 use record::Vertex;
@@ -120,6 +121,27 @@ pub extern "C" fn celduga_visited(bytes: &[u8], index: &[u8], i: usize) -> u32
     codes::of_found(queries::visited(bytes, index, Dfi(i)))
 }
 
+// ---- a list of terminals
+
+#[no_mangle]
+pub extern "C" fn celduga_lookup(
+    bytes: &[u8],
+    index: &[u8],
+    list: &[u16],
+    heads: &mut [u16],
+    visits: &mut [u16],
+) -> u32
+    ensures { λ r. ⌜
+        (r ≡ code nothing (lookup (now (bytes .entry)) (now (index .entry)) (now (list .entry))
+        (lists (now (heads .entry)) (now (visits .entry)))))
+        × (lists (now (heads .exit)) (now (visits .exit))
+        ≡ lookedUp (now (bytes .entry)) (now (index .entry)) (now (list .entry))
+        (lists (now (heads .entry)) (now (visits .entry))))
+        ⌝ }
+{
+    codes::of_verdict(queries::lookup(bytes, index, list, heads, visits))
+}
+
 // ---- all terminals at once
 
 #[no_mangle]
@@ -163,13 +185,13 @@ pub extern "C" fn celduga_select(bytes: &[u8], start: usize, places: usize, k: u
 
 const MAJOR: u32 = 0;
 
-const MINOR: u32 = 4;
+const MINOR: u32 = 5;
 
 const PATCH: u32 = 0;
 
 #[no_mangle]
 pub extern "C" fn celduga_version() -> u32
-    ensures { λ r. ⌜ r ≡ version 0 4 0 ⌝ }
+    ensures { λ r. ⌜ r ≡ version 0 5 0 ⌝ }
 {
     65536 * MAJOR + 256 * MINOR + PATCH
 }
