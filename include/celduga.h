@@ -44,13 +44,14 @@ extern "C" {
 uint32_t celduga_version(void);
 
 /* The limits of n and m, and the greatest lengths: bytes of a record and of an index, numbers of a work slice and of a
-   list. */
+   list, and terminals of the list of celduga_lookup. */
 #define CELDUGA_MAX_TERMINALS 4096
 #define CELDUGA_MAX_WIRES 16384
 #define CELDUGA_MAX_RECORD_LEN 53764
 #define CELDUGA_MAX_INDEX_LEN 19968
 #define CELDUGA_MAX_WORK_LEN 32768
 #define CELDUGA_MAX_LIST_LEN 32768
+#define CELDUGA_MAX_LOOKUP_LEN 512
 
 /*
  * The refusals. D is the part of a record that holds the degrees in unary. 12 is given where the index shows two
@@ -71,7 +72,8 @@ enum celduga_refusal_number {
     CELDUGA_NO_TERMINAL = 11,      /* the terminal, or the visit number, is 0 or above n */
     CELDUGA_BAD_INDEX = 12,        /* the index shows what no forest does */
     CELDUGA_NO_CHILD = 13,         /* j is 0 or above the number of children */
-    CELDUGA_NO_START = 14          /* the start is 0 or above n, unless both are 0 */
+    CELDUGA_NO_START = 14,         /* the start is 0 or above n, unless both are 0 */
+    CELDUGA_BAD_LIST = 15          /* the list has over 512 terminals, or an answer list has another length */
 };
 
 /* Results */
@@ -114,6 +116,7 @@ static inline const char *celduga_refusal_text(unsigned refusal)
     case CELDUGA_BAD_INDEX: return "the index shows what no forest does";
     case CELDUGA_NO_CHILD: return "there is no such child";
     case CELDUGA_NO_START: return "there is no such terminal to start from";
+    case CELDUGA_BAD_LIST: return "the list is too long, or an answer list has another length";
     default: return "no refusal has this number";
     }
 }

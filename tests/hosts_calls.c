@@ -93,8 +93,8 @@ int main(void)
 
     printf("version: %d %d %d, %lu, %lu\n", CELDUGA_VERSION_MAJOR, CELDUGA_VERSION_MINOR, CELDUGA_VERSION_PATCH,
            (unsigned long)CELDUGA_VERSION, (unsigned long)celduga_version());
-    printf("largest: %d %d %d %d %d %d\n", CELDUGA_MAX_TERMINALS, CELDUGA_MAX_WIRES, CELDUGA_MAX_RECORD_LEN, CELDUGA_MAX_INDEX_LEN,
-           CELDUGA_MAX_WORK_LEN, CELDUGA_MAX_LIST_LEN);
+    printf("largest: %d %d %d %d %d %d %d\n", CELDUGA_MAX_TERMINALS, CELDUGA_MAX_WIRES, CELDUGA_MAX_RECORD_LEN,
+           CELDUGA_MAX_INDEX_LEN, CELDUGA_MAX_WORK_LEN, CELDUGA_MAX_LIST_LEN, CELDUGA_MAX_LOOKUP_LEN);
     sizes(0, 0);
     sizes(1, 0);
     sizes(2, 1);
@@ -107,7 +107,7 @@ int main(void)
     header(highest);
     printf("figures: %d %d %d %d %d\n", celduga_figure(0), celduga_figure(0x4001), celduga_figure(0x7FFF), celduga_figure(0x8000),
            celduga_figure(0xF001));
-    for (unsigned refusal = 0; refusal <= 16; refusal++)
+    for (unsigned refusal = 0; refusal <= 17; refusal++)
         printf("refusal %u: %s\n", refusal, celduga_refusal_text(refusal));
     printf("refusal %u: %s\n", 0xFFFFFFFFu, celduga_refusal_text(0xFFFFFFFFu));
 

@@ -81,7 +81,7 @@ def calls():
     version = header_version()
     whole = int.from_bytes(bytes(version), "big")
     yield f"version: {spaced(version)}, {whole}, {whole}"
-    yield f"largest: 4096 16384 {spaced(lengths(4096, 16384))}"
+    yield f"largest: 4096 16384 {spaced(lengths(4096, 16384))} 512"
     for n, m in (0, 0), (1, 0), (2, 1), (6, 5), (7, 9), (4096, 16384), (8191, 32767):
         yield f"lengths {n} {m}: {spaced(lengths(n, m))}"
     for data in record(SAMPLE), b"\xa5\x1c\x5a\xc3", b"\xff" * 4:
@@ -136,7 +136,7 @@ def header_calls(compiler, room):
 
 RUST_WORDS = """
 fn main() {
-    for number in 0..=16 {
+    for number in 0..=17 {
         match celduga::Refusal::from_number(number) {
             Some(refusal) => println!("{refusal}"),
             None => println!(),
@@ -147,13 +147,13 @@ fn main() {
 
 
 def refusals_in_words(room):
-    """The header's words for a refusal are those of the Rust package, 1 to 14, and it has others for 0 and for all
+    """The header's words for a refusal are those of the Rust package, 1 to 15, and it has others for 0 and for all
     above."""
     rust = rust_program(room, "words", RUST_WORDS).splitlines()
-    known = rust[1:15]
-    whole = len(rust) == 17 and len(set(known)) == 14 and all(known)
-    demand(whole, f"the Rust package has other refusals than 1 to 14: {rust}")
-    demand(not rust[0] and not any(rust[15:]), f"the Rust package has more refusals than 1 to 14: {rust}")
+    known = rust[1:16]
+    whole = len(rust) == 18 and len(set(known)) == 15 and all(known)
+    demand(whole, f"the Rust package has other refusals than 1 to 15: {rust}")
+    demand(not rust[0] and not any(rust[16:]), f"the Rust package has more refusals than 1 to 15: {rust}")
     none = "no refusal has this number"
     expected = [f"refusal {number}: {words}" for number, words in enumerate(["nothing is refused", *known, none, none])]
     for compiler in C, CPP:

@@ -231,7 +231,7 @@ mod tests {
 
     #[test]
     fn the_high_half_is_the_number_of_the_refusal() {
-        for number in 1..=14 {
+        for number in 1..=15 {
             assert_eq!(
                 decode(number << 16).map_err(|refusal| u32::from(refusal.number())),
                 Err(number)
@@ -247,8 +247,8 @@ mod tests {
     }
 
     #[test]
-    #[should_panic(expected = "no name: 15")]
+    #[should_panic(expected = "no name: 16")]
     fn another_number_is_no_answer() {
-        let _ = decode(15 << 16);
+        let _ = decode(16 << 16);
     }
 }

@@ -100,7 +100,7 @@ pub use operations::{
 };
 pub use record::Record;
 pub use refusal::Refusal;
-pub use sizes::Sizes;
+pub use sizes::{Sizes, MAX_LOOKUP_LEN};
 pub use table::{Row, Section, Sections, Table};
 pub use version::version;
 pub use walks::{ChildrenOf, PathToRoot};

@@ -49,10 +49,13 @@ pub enum Refusal {
     NoChild = 13,
     /// 14: the start of the search is 0 or above n, unless both are 0.
     NoStart = 14,
+    /// 15: the list has more than [`MAX_LOOKUP_LEN`](crate::MAX_LOOKUP_LEN) terminals, or an answer list has another
+    /// length.
+    BadList = 15,
 }
 
 impl Refusal {
-    const ALL: [Refusal; 14] = [
+    const ALL: [Refusal; 15] = [
         Refusal::TooShort,
         Refusal::OverLimit,
         Refusal::WrongLength,
@@ -67,6 +70,7 @@ impl Refusal {
         Refusal::BadIndex,
         Refusal::NoChild,
         Refusal::NoStart,
+        Refusal::BadList,
     ];
 
     /// The refusal's number, from 1.
@@ -99,6 +103,7 @@ impl fmt::Display for Refusal {
             Refusal::BadIndex => "the index shows what no forest does",
             Refusal::NoChild => "there is no such child",
             Refusal::NoStart => "there is no such terminal to start from",
+            Refusal::BadList => "the list is too long, or an answer list has another length",
         };
         f.pad(words)
     }

@@ -1,4 +1,7 @@
-//! The numbers in a record's header, and the lengths that follow from them.
+//! The numbers in a record's header, the lengths that follow from them, and the one that is fixed.
+
+/// The terminals that the list of [`lookup`](crate::lookup) and of [`Index::lookup`](crate::Index::lookup) has at most.
+pub const MAX_LOOKUP_LEN: usize = 512;
 
 /// The numbers of terminals and wires in a record's header, n and m, and the lengths that they give.
 ///

@@ -24,7 +24,7 @@ fn refused_records() -> [Vec<u8>; 7] {
 }
 
 fn refusal(number: usize) -> Refusal {
-    Refusal::from_number(number as u16).expect("a number from 1 to 14")
+    Refusal::from_number(number as u16).expect("a number from 1 to 15")
 }
 
 /// Build refuses with this start, and the buffer stays.
@@ -251,9 +251,9 @@ fn refusal_14() {
 #[test]
 fn numbers_and_words() {
     let refusals: Vec<Refusal> = (0..=20).filter_map(Refusal::from_number).collect();
-    assert!(refusals.iter().map(|refusal| refusal.number()).eq(1..=14));
+    assert!(refusals.iter().map(|refusal| refusal.number()).eq(1..=15));
     assert_eq!(refusals[0], Refusal::TooShort);
-    assert_eq!(refusals[13], Refusal::NoStart);
+    assert_eq!(refusals[14], Refusal::BadList);
     // celduga_refusal_text in include/celduga.h has the same words
     let words = [
         "the record has under 4 bytes",
@@ -270,6 +270,7 @@ fn numbers_and_words() {
         "the index shows what no forest does",
         "there is no such child",
         "there is no such terminal to start from",
+        "the list is too long, or an answer list has another length",
     ];
     assert!(refusals.iter().map(|refusal| refusal.to_string()).eq(words));
     let error: Box<dyn std::error::Error> = Refusal::OneSidedWire.into();
