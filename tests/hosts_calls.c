@@ -4,7 +4,7 @@
 
 #include "celduga.h"
 
-enum { N = 6, M = 5 };
+enum { N = 6, M = 5, MOST = CELDUGA_MAX_LOOKUP_LEN };
 
 static const uint8_t sample[] = {0x00, 0x30, 0x00, 0x59, 0x22, 0xA0, 0x02, 0x00, 0x10, 0x00, 0x00,
                                  0x20, 0x01, 0x00, 0x30, 0x00, 0x00, 0x20, 0x05, 0x00, 0x40};
@@ -12,6 +12,7 @@ static uint16_t work[8 * N];
 static uint16_t list[2 * M];
 static uint8_t forest[15];
 static uint16_t visits[N], parents[N], children[N], heads[N];
+static uint16_t asked[MOST + 1], their_heads[MOST + 1], their_visits[MOST + 1];
 static const uint8_t empty[] = {0, 0, 0, 0};
 
 static void sizes(size_t n, size_t m)
@@ -72,6 +73,15 @@ static void columns(void)
     numbers("parents", parents, N);
     numbers("children", children, N);
     numbers("heads", heads, N);
+}
+
+/* Lookup of so many terminals, with an index and answer lists of these lengths, and the front of the answer lists. */
+static void lookup(const char *call, size_t index_len, size_t list_len, size_t heads_len, size_t visits_len)
+{
+    told(call, celduga_lookup(sample, sizeof sample, forest, index_len, asked, list_len, their_heads, heads_len,
+                              their_visits, visits_len));
+    numbers("heads", their_heads, N);
+    numbers("visits", their_visits, N);
 }
 
 /* Where the part of terminal v stands in a list of so many numbers, and its numbers. */
@@ -156,6 +166,26 @@ int main(void)
     told("third child of 3", celduga_child(r, rl, x, xl, 3, 3));
     told("1 above 4", celduga_ancestor(r, rl, x, xl, 1, 4));
     told("4 above 1", celduga_ancestor(r, rl, x, xl, 4, 1));
+    memset(their_heads, 1, sizeof their_heads);
+    memset(their_visits, 2, sizeof their_visits);
+    for (size_t i = 0; i <= MOST; i++)
+        asked[i] = (uint16_t)(N - i % N);
+    lookup("lookup in 14 to 3 and 4", xl - 1, 4, 3, 4);
+    lookup("lookup to 3 and 4", xl, 4, 3, 4);
+    lookup("lookup to 4 and 5", xl, 4, 4, 5);
+    lookup("lookup of 513", xl, MOST + 1, MOST + 1, MOST + 1);
+    asked[3] = N + 1;
+    lookup("lookup of 6 5 4 7", xl, 4, 4, 4);
+    lookup("lookup of 6 5 4 7 to 5 and 5", xl, 4, 5, 5);
+    lookup("lookup of none", xl, 0, 0, 0);
+    asked[3] = 2;
+    lookup("lookup of 6 5 4 2 2", xl, 5, 5, 5);
+    lookup("lookup of 512", xl, MOST, MOST, MOST);
+    numbers("the last heads", their_heads + MOST - 2, 3);
+    numbers("the last visits", their_visits + MOST - 2, 3);
+    told("lookup short", celduga_lookup(r, 3, x, xl, asked, 1, their_heads, 1, their_visits, 1));
+    told("lookup in the empty record",
+         celduga_lookup(empty, sizeof empty, x, 0, asked, 0, their_heads, 0, their_visits, 0));
     printf("rank: %zu\n", celduga_rank(r, rl, 28, N + 2 * M, 7));
     printf("select: %zu\n", celduga_select(r, rl, 28, N + 2 * M, 4));
     return 0;

@@ -114,8 +114,23 @@ def calls():
     for call in "degree", "visit", "visited", "parent", "children", "head":
         yield f"{call}: 11 0"
     yield from ("second child of 3: 0 4", "third child of 3: 13 0", "1 above 4: 0 1", "4 above 1: 0 0")
+    yield from lookups(spaced)
     # D is 1001001000101010: places 1, 4 and 7 are the first three ones, and 11 is the fourth
     yield from ("rank: 3", "select: 11")
+
+
+def lookups(spaced):
+    """What it must print of Lookup. Where that refuses, nothing is written; 10 comes before 15, and 15 before 11."""
+    lists = lambda heads, visits: (f"heads: {spaced(heads)}", f"visits: {spaced(visits)}")
+    refused = {"in 14 to 3 and 4": 10, "to 3 and 4": 15, "to 4 and 5": 15, "of 513": 15}
+    refused.update({"of 6 5 4 7": 11, "of 6 5 4 7 to 5 and 5": 15, "of none": 0})
+    for call, refusal in refused.items():
+        yield from (f"lookup {call}: {refusal} 0", *lists([0x101] * 6, [0x202] * 6))
+    yield from ("lookup of 6 5 4 2 2: 0 0", *lists([6, 5, 4, 1, 1, 0x101], [6, 5, 4, 3, 3, 0x202]))
+    # 6 5 4 2 2 1, and from then on 6 5 4 3 2 1 again and again: the last ones are 6 and 5
+    yield from ("lookup of 512: 0 0", *lists([6, 5, 4, 1, 1, 1], [6, 5, 4, 3, 3, 1]))
+    yield from (f"the last heads: 6 5 {0x101}", f"the last visits: 6 5 {0x202}")
+    yield from ("lookup short: 1 0", "lookup in the empty record: 0 0")
 
 
 def called(compiler, room):
