@@ -1,4 +1,6 @@
-//! What the tests share: the records of docs/FORMAT.md, the packing of records, and shapes.
+//! What the tests share: the records of docs/FORMAT.md, the packing of records, shapes, and indexes.
+
+use celduga::{Index, Record};
 
 pub const SAMPLE: [u8; 21] = [
     0x00, 0x30, 0x00, 0x59, 0x22, 0xA0, 0x02, 0x00, 0x10, 0x00, 0x00, 0x20, 0x01, 0x00, 0x30, 0x00, 0x00, 0x20, 0x05,
@@ -116,4 +118,21 @@ pub fn shapes() -> Vec<Vec<Vec<u16>>> {
     ];
     shapes.extend((2..40).flat_map(|n| [n / 2, n, 2 * n].map(|m| scattered(n, m, &mut chance))));
     shapes
+}
+
+/// The indexes of a record: the one that is built, and others of its length.
+pub fn indexes<'a>(record: Record<'a>, chance: &mut Chance) -> Vec<Index<'a>> {
+    let len = record.sizes().index_len();
+    let mut indexes = vec![
+        record.index(),
+        Index::new(record, vec![0; len]).unwrap(),
+        Index::new(record, vec![0xFF; len]).unwrap(),
+    ];
+    for _ in 0..4 {
+        // few marks, so that some climbs go far
+        let sparse = (0..len).map(|_| (chance.below(256) & chance.below(256) & chance.below(256)) as u8);
+        indexes.push(Index::new(record, sparse.collect::<Vec<u8>>()).unwrap());
+        indexes.push(Index::new(record, (0..len).map(|_| chance.below(256) as u8).collect::<Vec<u8>>()).unwrap());
+    }
+    indexes
 }

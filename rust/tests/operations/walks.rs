@@ -45,23 +45,6 @@ fn neighbours_are_those_of_the_unpacked_list() {
     }
 }
 
-/// The indexes of a record: the one that is built, and others of its length.
-fn indexes<'a>(record: Record<'a>, chance: &mut Chance) -> Vec<Index<'a>> {
-    let len = record.sizes().index_len();
-    let mut indexes = vec![
-        record.index(),
-        Index::new(record, vec![0; len]).unwrap(),
-        Index::new(record, vec![0xFF; len]).unwrap(),
-    ];
-    for _ in 0..4 {
-        // few marks, so that some climbs go far
-        let sparse = (0..len).map(|_| (chance.below(256) & chance.below(256) & chance.below(256)) as u8);
-        indexes.push(Index::new(record, sparse.collect::<Vec<u8>>()).unwrap());
-        indexes.push(Index::new(record, (0..len).map(|_| chance.below(256) as u8).collect::<Vec<u8>>()).unwrap());
-    }
-    indexes
-}
-
 #[test]
 fn children_are_found_one_by_one() {
     let mut chance = Chance::new(1);
