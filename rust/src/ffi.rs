@@ -79,6 +79,18 @@ mod c {
             index_len: usize,
             i: usize,
         ) -> u32;
+        pub fn celduga_lookup(
+            record: *const u8,
+            record_len: usize,
+            index: *const u8,
+            index_len: usize,
+            list: *const u16,
+            list_len: usize,
+            heads: *mut u16,
+            heads_len: usize,
+            visits: *mut u16,
+            visits_len: usize,
+        ) -> u32;
         pub fn celduga_rank(bytes: *const u8, len: usize, start: usize, places: usize, p: usize) -> usize;
         pub fn celduga_select(bytes: *const u8, len: usize, start: usize, places: usize, k: usize) -> usize;
     }
@@ -207,6 +219,30 @@ pub fn visit(record: &[u8], index: &[u8], v: usize) -> Result<u16, Refusal> {
 pub fn visited(record: &[u8], index: &[u8], i: usize) -> Result<u16, Refusal> {
     // SAFETY: both slices are read only.
     decode(unsafe { c::celduga_visited(record.as_ptr(), record.len(), index.as_ptr(), index.len(), i) })
+}
+
+pub fn lookup(
+    record: &[u8],
+    index: &[u8],
+    list: &[u16],
+    heads: &mut [u16],
+    visits: &mut [u16],
+) -> Result<u16, Refusal> {
+    // SAFETY: heads and visits are borrowed to be written, so neither overlaps another slice.
+    decode(unsafe {
+        c::celduga_lookup(
+            record.as_ptr(),
+            record.len(),
+            index.as_ptr(),
+            index.len(),
+            list.as_ptr(),
+            list.len(),
+            heads.as_mut_ptr(),
+            heads.len(),
+            visits.as_mut_ptr(),
+            visits.len(),
+        )
+    })
 }
 
 pub fn rank(bytes: &[u8], start: usize, places: usize, p: usize) -> usize {

@@ -8,8 +8,9 @@ use crate::{operations, ChildrenOf, Dfi, PathToRoot, Record, Refusal, Vertex};
 
 /// A record and an index of the right length, which is owned or borrowed.
 ///
-/// On the index that was built for the record, a query refuses 11 alone, and [`child`](Index::child) 13 too; on another
-/// it may refuse 12. The index of another record of the same sizes is not noticed.
+/// On the index that was built for the record, a query refuses 11 alone, [`child`](Index::child) 13 too, and
+/// [`lookup`](Index::lookup) 15 too; on another it may refuse 12. The index of another record of the same sizes is not
+/// noticed.
 #[derive(Clone, Debug, PartialEq, Eq, Hash)]
 pub struct Index<'a> {
     record: Record<'a>,
@@ -189,5 +190,35 @@ impl<'a> Index<'a> {
     /// Refusals 11, 12, tried in this order.
     pub fn visited(&self, i: Dfi) -> Result<Vertex, Refusal> {
         operations::visited(self.record.as_bytes(), &self.bytes, i)
+    }
+
+    /// The heads and the visit numbers of at most [`MAX_LOOKUP_LEN`](crate::MAX_LOOKUP_LEN) terminals, in list order:
+    /// what [`head`](Index::head) and [`visit`](Index::visit) answer for each, in one call that reads the degrees once.
+    ///
+    /// # Errors
+    ///
+    /// Refusal 15 where the list is longer; then the first 11 or 12 that is met in list order.
+    ///
+    /// # Examples
+    ///
+    /// ```
+    /// use celduga::{Dfi, Record, Refusal, Vertex};
+    ///
+    /// // 1: 3; 2: 3; 3: 1 2
+    /// let bytes = [0x00, 0x18, 0x00, 0x2A, 0x80, 0x04, 0x00, 0x40, 0x00, 0x00, 0x20];
+    /// let index = Record::new(&bytes)?.index();
+    /// let found = index.lookup(&[Vertex(3), Vertex(2)])?;
+    /// assert_eq!(found, [(Vertex(3), Dfi(2)), (Vertex(2), Dfi(3))]);
+    /// assert_eq!(index.lookup(&[Vertex(3), Vertex(4)]), Err(Refusal::NoTerminal));
+    /// assert_eq!(index.lookup(&[Vertex(1); 513]), Err(Refusal::BadList));
+    /// # Ok::<(), Refusal>(())
+    /// ```
+    pub fn lookup(&self, list: &[Vertex]) -> Result<Vec<(Vertex, Dfi)>, Refusal> {
+        // a number past 16 bits is no terminal, and neither is 0
+        let list: Vec<u16> = list.iter().map(|v| v.0.try_into().unwrap_or(0)).collect();
+        let (mut heads, mut visits) = (vec![0; list.len()], vec![0; list.len()]);
+        operations::lookup(self.record.as_bytes(), &self.bytes, &list, &mut heads, &mut visits)?;
+        let pair = |(head, visit): (u16, u16)| (Vertex(head.into()), Dfi(visit.into()));
+        Ok(heads.into_iter().zip(visits).map(pair).collect())
     }
 }

@@ -38,7 +38,7 @@
 //! | type | what it is |
 //! |---|---|
 //! | [`Record`] | bytes that are checked to be a record; the way to all the rest |
-//! | [`Index`] | a record with its index, built or stored, for questions about single terminals |
+//! | [`Index`] | a record with its index, built or stored, for questions about single terminals and lists of them |
 //! | [`Table`], [`Row`] | the answers for all terminals at once |
 //! | [`Section`] | terminals that stay joined whichever one wire is taken out |
 //! | [`Vertex`], [`Dfi`] | the number of a terminal, and the number of a visit |
@@ -95,8 +95,8 @@ pub use index::Index;
 pub use neighbours::Neighbours;
 pub use numbers::{Dfi, Vertex};
 pub use operations::{
-    ancestor, build, check, child, children, degree, head, loop_figure, neighbours, parent, rank, select, table,
-    unpack, visit, visited,
+    ancestor, build, check, child, children, degree, head, lookup, loop_figure, neighbours, parent, rank, select,
+    table, unpack, visit, visited,
 };
 pub use record::Record;
 pub use refusal::Refusal;

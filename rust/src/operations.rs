@@ -209,6 +209,39 @@ pub fn visited(record: &[u8], index: &[u8], i: Dfi) -> Result<Vertex, Refusal> {
     ffi::visited(record, index, i.0).map(vertex)
 }
 
+/// Writes what [`head`] and [`visit`] answer for each terminal of the list, to the same place of `heads` and `visits`.
+/// The degrees are read once for all of them, and then each takes its climb.
+///
+/// The list has at most [`MAX_LOOKUP_LEN`](crate::MAX_LOOKUP_LEN) terminals, or none, and may name one several times.
+/// `heads` and `visits` have its length.
+///
+/// # Errors
+///
+/// Refusals 1 to 4, 10, 15, tried in this order; then the first 11 or 12 that is met in list order, that of [`head`]
+/// before that of [`visit`].
+///
+/// # Examples
+///
+/// ```
+/// use celduga::{build, lookup, Refusal, Vertex};
+///
+/// // 1: 3; 2: 3; 3: 1 2
+/// let path = [0x00, 0x18, 0x00, 0x2A, 0x80, 0x04, 0x00, 0x40, 0x00, 0x00, 0x20];
+/// let mut index = [0; 8];
+/// build(&path, Vertex(1), &mut [0; 24], &mut index)?;
+/// let [mut heads, mut visits] = [[0; 3]; 2];
+/// lookup(&path, &index, &[2, 1, 2], &mut heads, &mut visits)?;
+/// assert_eq!((heads, visits), ([2, 1, 2], [3, 1, 3]));
+/// // a refusal leaves both as they were
+/// assert_eq!(lookup(&path, &index, &[1, 1, 4], &mut heads, &mut visits), Err(Refusal::NoTerminal));
+/// assert_eq!((heads, visits), ([2, 1, 2], [3, 1, 3]));
+/// assert_eq!(lookup(&path, &index, &[1, 1], &mut heads, &mut visits), Err(Refusal::BadList));
+/// # Ok::<(), Refusal>(())
+/// ```
+pub fn lookup(record: &[u8], index: &[u8], list: &[u16], heads: &mut [u16], visits: &mut [u16]) -> Result<(), Refusal> {
+    ffi::lookup(record, index, list, heads, visits).map(drop)
+}
+
 /// The ones in places 1 to `p` of a bit string; a `p` past the end counts all.
 ///
 /// The string has so many places and begins at bit `start`, which counts from 0 for the most significant bit of the

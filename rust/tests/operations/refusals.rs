@@ -79,6 +79,22 @@ fn table_refuses(record: &[u8], work_len: usize, lens: [usize; 4], number: usize
     }
 }
 
+/// Lookup refuses with answer lists of these lengths, and they stay.
+fn lookup_to_refuses(record: &[u8], index: &[u8], list: &[u16], lens: [usize; 2], number: usize) {
+    let before = lens.map(|len| (0..len).map(|i| 0xA0B1 ^ i as u16).collect::<Vec<u16>>());
+    let [mut heads, mut visits] = before.clone();
+    assert_eq!(
+        lookup(record, index, list, &mut heads, &mut visits),
+        Err(refusal(number))
+    );
+    assert_eq!([heads, visits], before);
+}
+
+/// The same with answer lists of the length of the list.
+fn lookup_refuses(record: &[u8], index: &[u8], list: &[u16], number: usize) {
+    lookup_to_refuses(record, index, list, [list.len(); 2], number);
+}
+
 /// Neighbours gives the empty part at the front.
 fn no_neighbours(record: &[u8], list: &[u16], v: Vertex) {
     let part = neighbours(record, list, v);
@@ -111,6 +127,10 @@ fn queries_refuse_1_to_4() {
         assert_eq!(child(&record, &SAMPLE_INDEX, v, 1), Err(no));
         assert_eq!(visit(&record, &SAMPLE_INDEX, v), Err(no));
         assert_eq!(visited(&record, &SAMPLE_INDEX, Dfi(1)), Err(no));
+        lookup_refuses(&record, &SAMPLE_INDEX, &[1], number);
+        // also of nothing, and before all else
+        lookup_refuses(&record, &[], &[], number);
+        lookup_to_refuses(&record, &[], &[0], [2, 3], number);
         for len in 0..12 {
             no_neighbours(&record, &vec![1; len], Vertex(3));
         }
@@ -147,6 +167,10 @@ fn refusal_10() {
         let index = vec![0; len];
         assert_eq!(parent(&SAMPLE, &index, Vertex(0)), Err(Refusal::WrongBuffer));
         assert_eq!(visited(&SAMPLE, &index, Dfi(0)), Err(Refusal::WrongBuffer));
+        lookup_refuses(&SAMPLE, &index, &[], 10);
+        lookup_refuses(&SAMPLE, &index, &[0], 10);
+        lookup_to_refuses(&SAMPLE, &index, &[1], [0, 2], 10);
+        lookup_refuses(&SAMPLE, &index, &[1; 513], 10);
         assert_eq!(
             Index::new(Record::new(&SAMPLE).unwrap(), index),
             Err(Refusal::WrongBuffer)
@@ -186,6 +210,8 @@ fn refusal_11() {
         assert_eq!(visit(&SAMPLE, &SAMPLE_INDEX, v), Err(no));
         assert_eq!(visited(&SAMPLE, &SAMPLE_INDEX, Dfi(number)), Err(no));
         no_neighbours(&SAMPLE, &[1; 10], v);
+        assert_eq!(index.lookup(&[v]), Err(no));
+        assert_eq!(index.lookup(&[Vertex(1), v, Vertex(2)]), Err(no));
         assert_eq!(sample.neighbours(v).err(), Some(no));
         assert_eq!(index.children_of(v).err(), Some(no));
         assert_eq!(index.path_to_root(v).err(), Some(no));
@@ -197,6 +223,12 @@ fn refusal_11() {
     }
     assert_eq!(degree(&EMPTY, Vertex(1)), Err(no));
     assert_eq!(parent(&EMPTY, &[], Vertex(1)), Err(no));
+    for v in [0, 7, 0xFFFF] {
+        lookup_refuses(&SAMPLE, &SAMPLE_INDEX, &[v], 11);
+        lookup_refuses(&SAMPLE, &SAMPLE_INDEX, &[v, 1, 2], 11);
+        lookup_refuses(&SAMPLE, &SAMPLE_INDEX, &[1, 2, v], 11);
+    }
+    lookup_refuses(&EMPTY, &[], &[1], 11);
 }
 
 #[test]
@@ -215,6 +247,9 @@ fn refusal_12() {
     numbers[6..].fill(0xFF);
     assert_eq!(visit(&SAMPLE, &numbers, v), Err(no));
     assert_eq!(visited(&SAMPLE, &numbers, Dfi(1)), Err(no));
+    // Lookup gives Head's, and Visit's
+    lookup_refuses(&SAMPLE, &two_parents, &[6, 1], 12);
+    lookup_refuses(&SAMPLE, &numbers, &[6], 12);
     // the neighbour at E's mark is no terminal
     let stray = record(&[[3], [1]]);
     assert_eq!(child(&stray, &[0x40, 0, 0, 0, 0, 0], v, 1), Err(no));
@@ -246,6 +281,61 @@ fn refusal_14() {
         assert_eq!(empty.index_from(Vertex(start)), Err(no));
         assert_eq!(empty.table_from(Vertex(start)), Err(no));
     }
+}
+
+#[test]
+fn refusal_15() {
+    let no = Refusal::BadList;
+    let index = Record::new(&SAMPLE).unwrap().index();
+    for len in [MAX_LOOKUP_LEN + 1, 600, 4096, 65537] {
+        lookup_refuses(&SAMPLE, &SAMPLE_INDEX, &vec![1; len], 15);
+        // before 11
+        lookup_refuses(&SAMPLE, &SAMPLE_INDEX, &vec![0; len], 15);
+        assert_eq!(index.lookup(&vec![Vertex(1); len]), Err(no));
+        assert_eq!(index.lookup(&vec![Vertex(0); len]), Err(no));
+    }
+    for list in [&[][..], &[1], &[0], &[1, 2, 3], &[7, 2, 3], &[2; MAX_LOOKUP_LEN]] {
+        let len = list.len();
+        for other in [0, 1, 2, 4, len + 1, 1000].into_iter().filter(|&other| other != len) {
+            lookup_to_refuses(&SAMPLE, &SAMPLE_INDEX, list, [other, len], 15);
+            lookup_to_refuses(&SAMPLE, &SAMPLE_INDEX, list, [len, other], 15);
+            lookup_to_refuses(&SAMPLE, &SAMPLE_INDEX, list, [other, other], 15);
+            // before 12
+            lookup_to_refuses(&SAMPLE, &[0xFF; 15], list, [len, other], 15);
+        }
+    }
+    lookup_to_refuses(&EMPTY, &[], &[], [1, 0], 15);
+    lookup_to_refuses(&EMPTY, &[], &[], [0, 1], 15);
+}
+
+#[test]
+fn lookup_refuses_in_list_order() {
+    // Head gives 12 for 1
+    let mut two_parents = SAMPLE_INDEX;
+    two_parents[2] |= 0x60;
+    // Visit gives 12 for 1, and Head answers
+    let mut high = SAMPLE_INDEX;
+    high[6] = 0xFF;
+    for index in [two_parents, high] {
+        lookup_refuses(&SAMPLE, &index, &[5, 1, 7], 12);
+        lookup_refuses(&SAMPLE, &index, &[5, 7, 1], 11);
+        lookup_refuses(&SAMPLE, &index, &[0, 1], 11);
+        lookup_refuses(&SAMPLE, &index, &[1, 0], 12);
+        // numbers past 16 bits are no terminals, and no other ones
+        let index = Index::new(Record::new(&SAMPLE).unwrap(), &index).unwrap();
+        let asked = |list: [usize; 2]| index.lookup(&list.map(Vertex));
+        for v in [65536, 65537, 65541, usize::MAX] {
+            assert_eq!(asked([1, v]), Err(Refusal::BadIndex));
+            assert_eq!(asked([v, 1]), Err(Refusal::NoTerminal));
+        }
+        assert_eq!(asked([5, 6]), Ok(vec![(Vertex(5), Dfi(5)), (Vertex(6), Dfi(6))]));
+    }
+    // the last of many is enough
+    let mut list = [5; MAX_LOOKUP_LEN];
+    list[MAX_LOOKUP_LEN - 1] = 7;
+    lookup_refuses(&SAMPLE, &SAMPLE_INDEX, &list, 11);
+    list[MAX_LOOKUP_LEN - 1] = 1;
+    lookup_refuses(&SAMPLE, &high, &list, 12);
 }
 
 #[test]

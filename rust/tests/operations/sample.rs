@@ -123,6 +123,34 @@ fn the_table_from_other_starts() {
 }
 
 #[test]
+fn the_lookup() {
+    let [mut heads, mut visits] = [[0xFFFF; 6]; 2];
+    assert_eq!(
+        lookup(&SAMPLE, &SAMPLE_INDEX, &[1, 2, 3, 4, 5, 6], &mut heads, &mut visits),
+        Ok(())
+    );
+    assert_eq!(heads, LISTING.map(|(.., top)| top as u16));
+    assert_eq!(visits, LISTING.map(|(_, number, ..)| number as u16));
+    // in any order, and one several times
+    assert_eq!(
+        lookup(&SAMPLE, &SAMPLE_INDEX, &[6, 2, 2, 4, 3, 2], &mut heads, &mut visits),
+        Ok(())
+    );
+    assert_eq!((heads, visits), ([6, 1, 1, 4, 1, 1], [6, 3, 3, 4, 2, 3]));
+    assert_eq!(
+        lookup(
+            &SAMPLE,
+            &SAMPLE_INDEX_FROM_4,
+            &[1, 4, 2],
+            &mut heads[..3],
+            &mut visits[..3]
+        ),
+        Ok(())
+    );
+    assert_eq!((heads, visits), ([3, 4, 3, 4, 1, 1], [4, 1, 3, 4, 2, 3]));
+}
+
+#[test]
 fn children_in_order() {
     assert_eq!(child(&SAMPLE, &SAMPLE_INDEX, Vertex(1), 1), Ok(Vertex(3)));
     assert_eq!(child(&SAMPLE, &SAMPLE_INDEX, Vertex(3), 1), Ok(Vertex(2)));

@@ -23,6 +23,10 @@ fn the_sample() {
     assert_eq!(index.child(Vertex(3), 2), Ok(Vertex(4)));
     assert_eq!(index.visit(Vertex(2)), Ok(Dfi(3)));
     assert_eq!(index.visited(Dfi(3)), Ok(Vertex(2)));
+    assert_eq!(
+        index.lookup(&[Vertex(4), Vertex(2)]),
+        Ok(vec![(Vertex(4), Dfi(4)), (Vertex(1), Dfi(3))])
+    );
     assert_eq!(index.into_bytes(), SAMPLE_INDEX);
 }
 
@@ -48,6 +52,8 @@ fn the_empty_record() {
     let index = record.index();
     assert_eq!(index.as_bytes(), []);
     assert_eq!(index.head(Vertex(1)), Err(Refusal::NoTerminal));
+    assert_eq!(index.lookup(&[]), Ok(vec![]));
+    assert_eq!(index.lookup(&[Vertex(1)]), Err(Refusal::NoTerminal));
     assert_eq!(record.index_from(Vertex(0)), Ok(index));
     assert_eq!(record.table_from(Vertex(0)), Ok(record.table()));
     assert_eq!(record.sections().len(), 0);
