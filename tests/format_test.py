@@ -20,6 +20,9 @@ SAMPLE_RECORD = record(SAMPLE)
 SAMPLE_INDEX = built(SAMPLE_RECORD)
 
 
+MOST_ASKED = 512
+
+
 def same(what, expected, found):
     demand(expected == found, f"{what}: expected {expected!r}, the page has {found!r}")
 
@@ -266,6 +269,10 @@ def limits(page):
     same("the longest record", [f"{longest:,}"], sought(r"bytes, so at most\s([\d,]+)\.", text))
     text = titled(page, "Index")
     same("the longest index", [f"{index_length(n, m):,}"], sought(r"bytes, so at most\s([\d,]+)\.", text))
+    rules = tabled(titled(page, "Refusals"), "number", "name", "is broken where", "given by")
+    asked = f"the list has more than {MOST_ASKED} terminals, or an answer list has another length than it"
+    same("rule 15", ["15", "`BadList`", asked, "Lookup"], rules[-1])
+    same("the longest list", [str(MOST_ASKED)], sought(r"takes a list of at most ([\d,]+) terminals", page))
     same("what the program reads", [f"{longest + 1:,}"], sought(r"reads at most ([\d,]+) bytes", page))
     same("the least loop figure", [f"−{n - 1:,}"], sought(r"from (−[\d,]+) up", page))
 
@@ -331,6 +338,15 @@ def refusals(page):
     same("refusals", [[number, f"`{name}`"] for name, number in named], found)
 
 
+def lookup(data, index, terminals, *rooms):
+    """The heads and the visit numbers by the single calls, for the lengths of the two answer lists."""
+    plain.order_r(data)
+    plain.refuse(10, len(index) != index_length(*sizes(data)))
+    plain.refuse(15, len(terminals) > MOST_ASKED or rooms != (len(terminals), len(terminals)))
+    found = [(plain.head(data, index, v), plain.visit(data, index, v)) for v in terminals]
+    return [head for head, _ in found], [visit for _, visit in found]
+
+
 CALLS = {
     "Check": check,
     "Degree": plain.degree,
@@ -346,6 +362,7 @@ CALLS = {
     "Child": plain.child,
     "Visit": plain.visit,
     "Visited": plain.visited,
+    "Lookup": lookup,
     "Rank": lambda data, start, places, p: plain.rank(plain.string(data, start, places), p),
     "Select": lambda data, start, places, k: plain.select(plain.string(data, start, places), k),
 }
@@ -357,6 +374,7 @@ WORDS = {
     "Build": hexadecimal,
     "Table": lambda columns: "; ".join(map(spaced, columns)),
     "Ancestor": lambda yes: "yes" if yes else "no",
+    "Lookup": lambda lists: "; ".join(spaced(numbers) or "none" for numbers in lists),
 }
 
 
@@ -384,6 +402,8 @@ def operations(page):
         "work": lengths,
         "index buffer": lengths,
         "four lists": [(6, 6, 6, 6), (5, 6, 6, 6), (6, 5, 6, 6), (6, 6, 5, 6), (6, 6, 6, 5)],
+        "terminals": [[], [1], [2], [0], [1, 2], [1, 7], [1] * (MOST_ASKED + 1)],
+        "two lists": [(0, 0), (1, 1), (2, 2), (1, 2), (2, 1), (MOST_ASKED + 1, MOST_ASKED + 1)],
     }
     letters = orders(page)
     for operation, takes, tries, _ in shown:
@@ -392,9 +412,20 @@ def operations(page):
             flat = [x for argument in given for x in (argument if isinstance(argument, tuple) else [argument])]
             found.add(answer(CALLS[operation], *flat)[0])
         expected = {0}.union(*(letters[letter] for letter in re.findall("order ([A-Z])", tries)))
-        expected |= {int(number) for number in re.findall(r"; (\d+)", tries)}
+        expected |= {int(number) for number in re.findall(r"[;:] (\d+)", tries)}
         # it refuses without a number
         same(f"the refusals of {operation}", found, {0} if operation == "Neighbours" else expected)
+
+
+def terminals_in(text):
+    """A list of terminals as the page writes it, [6 2], or [1 × 3] for [1 1 1]."""
+    times = re.fullmatch(r"\[(\d+) × (\d+)\]", text)
+    return [int(times[1])] * int(times[2]) if times else [int(v) for v in text[1:-1].split()]
+
+
+def given_as(word, names):
+    """What a call is given: a number, a list of terminals, or what has this name."""
+    return int(word) if word.isdigit() else terminals_in(word) if word.startswith("[") else names[word]
 
 
 def called(page, call):
@@ -402,7 +433,7 @@ def called(page, call):
     found = re.fullmatch(r"`?([A-Z][a-z ]+)\((.*)\)`?", call)
     demand(found and found[1] in CALLS, f"there is no operation {call!r}")
     names = {**small_records(page), **indexes(page)}
-    given = [int(word) if word.isdigit() else names[word] for word in found[2].split(", ")]
+    given = [given_as(word, names) for word in found[2].split(", ")]
     return found[1], *answer(CALLS[found[1]], *given)
 
 
@@ -412,7 +443,7 @@ def examples(page):
         operation, refusal, found = called(page, call)
         plainly = lambda number: str(number).replace("-", "−")
         same(call, f"refused {refusal}" if refusal else WORDS.get(operation, plainly)(found), words)
-    missing = {f"refused {number}" for number in range(9, 15)} - {row[1] for row in shown}
+    missing = {f"refused {number}" for number in range(9, 16)} - {row[1] for row in shown}
     demand(not missing, f"there is no example of {missing}")
 
 
