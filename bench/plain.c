@@ -4,7 +4,8 @@
 
 #include <string.h>
 
-enum { MOST_TERMINALS = 4096, MOST_WIRES = 16384, HEADER_BITS = 28, NO_PARENT = 0xFFFF, PASSED = 0x8000 };
+enum { MOST_TERMINALS = 4096, MOST_WIRES = 16384, MOST_LOOKUP = 512, HEADER_BITS = 28, NO_PARENT = 0xFFFF,
+       PASSED = 0x8000 };
 
 enum {
     TOO_SHORT = 1,
@@ -19,7 +20,8 @@ enum {
     NO_TERMINAL,
     BAD_INDEX,
     NO_CHILD,
-    NO_START
+    NO_START,
+    BAD_LIST
 };
 
 static uint32_t refused(uint32_t number)
@@ -561,14 +563,21 @@ uint32_t plain_table(const uint8_t *record, size_t len, size_t start, uint16_t *
 
 /* ---- queries ---- */
 
-/* Order Q: the number of the refusal, or 0. */
-static inline uint32_t order_q(const uint8_t *record, size_t len, size_t index_len, size_t v, struct sizes *s)
+/* Order R and the index's length: the number of the refusal, or 0. */
+static inline uint32_t order_i(const uint8_t *record, size_t len, size_t index_len, struct sizes *s)
 {
     uint32_t why = order_r(record, len, s);
     if (why != 0)
         return why;
-    if (index_len != index_length(s->n, s->m))
-        return WRONG_BUFFER;
+    return index_len != index_length(s->n, s->m) ? WRONG_BUFFER : 0;
+}
+
+/* Order Q: the number of the refusal, or 0. */
+static inline uint32_t order_q(const uint8_t *record, size_t len, size_t index_len, size_t v, struct sizes *s)
+{
+    uint32_t why = order_i(record, len, index_len, s);
+    if (why != 0)
+        return why;
     if (v == 0 || v > s->n)
         return NO_TERMINAL;
     return 0;
@@ -612,32 +621,41 @@ uint32_t plain_parent(const uint8_t *record, size_t len, const uint8_t *index, s
     }
 }
 
+/* The climb from vertex u to its head: that vertex, or n where the index is bad. */
+static inline size_t climb(const uint8_t *record, const uint8_t *index, size_t index_len, const struct sizes *s,
+                           const uint16_t *starts, size_t u)
+{
+    struct step up;
+    size_t steps, base = 16 * mark_bytes(s->n, s->m);
+    for (steps = 0; steps < s->n; steps++) {
+        switch (step_up(record, index, index_len, s, u, starts[u] + u + 1, starts[u + 1] + u + 1, &up)) {
+        case 0:
+            return u;
+        case 1:
+            if (index[(base + up.bit) / 8] >> (7 - up.bit % 8) & 1)
+                return u;
+            u = up.to;
+            break;
+        default:
+            return s->n;
+        }
+    }
+    return s->n;
+}
+
 uint32_t plain_head(const uint8_t *record, size_t len, const uint8_t *index, size_t index_len, size_t v)
 {
     struct sizes s;
-    struct step up;
     uint16_t starts[MOST_TERMINALS + 1];
-    size_t u, steps, base;
+    size_t head;
     uint32_t why = order_q(record, len, index_len, v, &s);
     if (why != 0)
         return refused(why);
     fill_starts(record, len, s.n, s.m, starts);
-    base = 16 * mark_bytes(s.n, s.m);
-    u = v - 1;
-    for (steps = 0; steps < s.n; steps++) {
-        switch (step_up(record, index, index_len, &s, u, starts[u] + u + 1, starts[u + 1] + u + 1, &up)) {
-        case 0:
-            return (uint32_t)(u + 1);
-        case 1:
-            if (index[(base + up.bit) / 8] >> (7 - up.bit % 8) & 1)
-                return (uint32_t)(u + 1);
-            u = up.to;
-            break;
-        default:
-            return refused(BAD_INDEX);
-        }
-    }
-    return refused(BAD_INDEX);
+    head = climb(record, index, index_len, &s, starts, v - 1);
+    if (head == s.n)
+        return refused(BAD_INDEX);
+    return (uint32_t)(head + 1);
 }
 
 uint32_t plain_ancestor(const uint8_t *record, size_t len, const uint8_t *index, size_t index_len, size_t u, size_t v)
@@ -728,4 +746,36 @@ uint32_t plain_visited(const uint8_t *record, size_t len, const uint8_t *index, 
     if (v < s.n && (size_t)(p[0] << 4 | p[1] >> 4) == i - 1)
         return (uint32_t)(v + 1);
     return refused(BAD_INDEX);
+}
+
+/* One order R and one pass for the starts. The answers stay here until the last one is known. */
+uint32_t plain_lookup(const uint8_t *record, size_t len, const uint8_t *index, size_t index_len, const uint16_t *list,
+                      size_t list_len, uint16_t *heads, size_t heads_len, uint16_t *visits, size_t visits_len)
+{
+    struct sizes s;
+    uint16_t starts[MOST_TERMINALS + 1], found_heads[MOST_LOOKUP], found_visits[MOST_LOOKUP];
+    size_t i, v, head, number, base;
+    uint32_t why = order_i(record, len, index_len, &s);
+    if (why != 0)
+        return refused(why);
+    if (list_len > MOST_LOOKUP || heads_len != list_len || visits_len != list_len)
+        return refused(BAD_LIST);
+    fill_starts(record, len, s.n, s.m, starts);
+    base = 24 * mark_bytes(s.n, s.m);
+    for (i = 0; i < list_len; i++) {
+        v = list[i];
+        if (v == 0 || v > s.n)
+            return refused(NO_TERMINAL);
+        head = climb(record, index, index_len, &s, starts, v - 1);
+        if (head == s.n)
+            return refused(BAD_INDEX);
+        number = read12(index, base + 12 * (v - 1));
+        if (number >= s.n)
+            return refused(BAD_INDEX);
+        found_heads[i] = (uint16_t)(head + 1);
+        found_visits[i] = (uint16_t)(number + 1);
+    }
+    memcpy(heads, found_heads, list_len * sizeof heads[0]);
+    memcpy(visits, found_visits, list_len * sizeof visits[0]);
+    return 0;
 }

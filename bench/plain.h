@@ -24,6 +24,8 @@ uint32_t plain_children(const uint8_t *record, size_t len, const uint8_t *index,
 uint32_t plain_child(const uint8_t *record, size_t len, const uint8_t *index, size_t index_len, size_t v, size_t j);
 uint32_t plain_visit(const uint8_t *record, size_t len, const uint8_t *index, size_t index_len, size_t v);
 uint32_t plain_visited(const uint8_t *record, size_t len, const uint8_t *index, size_t index_len, size_t i);
+uint32_t plain_lookup(const uint8_t *record, size_t len, const uint8_t *index, size_t index_len, const uint16_t *list,
+                      size_t list_len, uint16_t *heads, size_t heads_len, uint16_t *visits, size_t visits_len);
 
 size_t plain_rank(const uint8_t *bytes, size_t len, size_t start, size_t places, size_t p);
 size_t plain_select(const uint8_t *bytes, size_t len, size_t start, size_t places, size_t k);
