@@ -25,7 +25,7 @@
 
 enum { MOST_N = 4096, MOST_M = 16384, MOST_INDEX = 3 * 4608 + 6144, ARGUMENTS = 1024, ROUNDS = 40, QUERY_ROUNDS = 50,
        STRING_ROUNDS = 200, LENGTHS = 7, COLUMNS = 4, SHOWN = 3, FIELD_BYTES = 4096, FIELDS = 1 << 18, ORDERS = 2,
-       MIXED_COPIES = 100 };
+       MIXED_COPIES = 100, MOST_LOOKUP = 512, MOST_ASKED = 2 * MOST_LOOKUP, LISTED = 7 };
 
 /* The bits at which a field can start in so many bytes. */
 enum { FIELD_STARTS = 8 * FIELD_BYTES - 11 };
@@ -49,6 +49,8 @@ struct side {
     uint64_t (*neighbours)(const uint8_t *, size_t, size_t, size_t);
     uint32_t (*one[5])(const uint8_t *, size_t, const uint8_t *, size_t, size_t);
     uint32_t (*two[2])(const uint8_t *, size_t, const uint8_t *, size_t, size_t, size_t);
+    uint32_t (*lookup)(const uint8_t *, size_t, const uint8_t *, size_t, const uint16_t *, size_t, uint16_t *, size_t,
+        uint16_t *, size_t);
     size_t (*rank)(const uint8_t *, size_t, size_t, size_t, size_t);
     size_t (*select)(const uint8_t *, size_t, size_t, size_t, size_t);
     size_t (*field)(const uint8_t *, size_t, size_t);
@@ -57,37 +59,42 @@ struct side {
 static const struct side product = { celduga_check, celduga_build, celduga_unpack, celduga_loop_figure, celduga_table,
     celduga_degree, celduga_neighbours,
     { celduga_parent, celduga_head, celduga_children, celduga_visit, celduga_visited },
-    { celduga_ancestor, celduga_child },
+    { celduga_ancestor, celduga_child }, celduga_lookup,
     celduga_rank, celduga_select, bits_read12 };
 
 static const struct side plain = { plain_check, plain_build, plain_unpack, plain_loop_figure, plain_table,
     plain_degree, plain_neighbours,
     { plain_parent, plain_head, plain_children, plain_visit, plain_visited }, { plain_ancestor, plain_child },
-    plain_rank, plain_select, plain_read12 };
+    plain_lookup, plain_rank, plain_select, plain_read12 };
 
 /* What is called. BUILD and TABLE have the start that is asked, which is 1 where they are timed; BUILD_LAST is Build
-   from the last terminal. PARENT to VISITED are the side's queries of one argument, ANCESTOR and CHILD those of two. */
+   from the last terminal. PARENT to VISITED are the side's queries of one argument, ANCESTOR and CHILD those of two.
+   LOOKUP has two as well: the place in `terminals` where its list starts, and the list's length. */
 enum op { CHECK, BUILD, BUILD_LAST, UNPACK, LOOPS, TABLE, WHOLE, DEGREE = WHOLE, NEIGHBOURS, PARENT, HEAD, CHILDREN,
-          VISIT, VISITED, ANCESTOR, CHILD, RANK, SELECT, FIELD, OPS };
+          VISIT, VISITED, ANCESTOR, CHILD, LOOKUP, RANK, SELECT, FIELD, OPS };
 
 static const char *const op_names[OPS] = { "Check", "Build", "Build from n", "Unpack", "Loop figure", "Table", "Degree",
-    "Neighbours", "Parent", "Head", "Children", "Visit", "Visited", "Ancestor", "Child", "Rank", "Select", "Field" };
+    "Neighbours", "Parent", "Head", "Children", "Visit", "Visited", "Ancestor", "Child", "Lookup", "Rank", "Select",
+    "Field" };
 
-/* What one side writes to. The columns are Table's: visit numbers, parents, counts of children and heads. */
+/* What one side writes to. The columns are Table's: visit numbers, parents, counts of children and heads. What is found
+   is Lookup's: heads and visit numbers. */
 struct room {
-    uint16_t work[8 * MOST_N], list[2 * MOST_M], columns[COLUMNS][MOST_N + 1];
+    uint16_t work[8 * MOST_N], list[2 * MOST_M], columns[COLUMNS][MOST_N + 1], found[2][MOST_ASKED + 1];
     uint8_t index[MOST_INDEX + 1];
 };
 
 static struct room rooms[2];
-static size_t arguments[RANK][ARGUMENTS][2], string_arguments[LENGTHS][2][ARGUMENTS][2];
-static size_t answers, refusals[15];
+static size_t arguments[LOOKUP][ARGUMENTS][2], string_arguments[LENGTHS][2][ARGUMENTS][2];
+static size_t answers, refusals[16];
 static volatile size_t sink;
 
-/* What is asked: a record, the start and its buffers' lengths, or a string. */
+/* What is asked: a record, the start and its buffers' lengths, Lookup's terminals and its answer lists' lengths, or a
+   string. */
 static struct record records[RECORDS];
 static const struct record *asked;
-static size_t start, work_len, index_len, list_len, column_lens[COLUMNS];
+static size_t start, work_len, index_len, list_len, column_lens[COLUMNS], found_lens[2];
+static uint16_t terminals[MOST_ASKED];
 static const uint8_t *string;
 static size_t string_len, string_start, string_places;
 
@@ -131,6 +138,9 @@ static inline size_t call(const struct side *s, struct room *r, enum op op, size
         return s->degree(bytes, len, a);
     case NEIGHBOURS:
         return s->neighbours(bytes, len, list_len, a);
+    case LOOKUP:
+        return s->lookup(bytes, len, r->index, index_len, terminals + a, b, r->found[0], found_lens[0], r->found[1],
+            found_lens[1]);
     case RANK:
         return s->rank(string, string_len, string_start, string_places, a);
     case SELECT:
@@ -220,6 +230,120 @@ static void compare_queries(size_t v, uint64_t *state)
     same(ANCESTOR, 1 + draw(state, asked->n), v);
     same(ANCESTOR, v, 1 + draw(state, asked->n));
     same(CHILD, v, draw(state, children + 2));
+}
+
+/* What single calls of the product answer for the list of the first `count` terminals: the first refusal, or 0 and the
+   heads and visit numbers. */
+static size_t by_single_calls(size_t count, uint16_t (*found)[MOST_ASKED + 1])
+{
+    uint16_t heads[MOST_LOOKUP], visits[MOST_LOOKUP];
+    size_t i, head = call(&product, &rooms[0], HEAD, 0, 0), visit;
+    if (head >> 16 != CELDUGA_NO_TERMINAL)
+        return head;
+    if (count > MOST_LOOKUP || found_lens[0] != count || found_lens[1] != count)
+        return (size_t)CELDUGA_BAD_LIST << 16;
+    for (i = 0; i < count; i++) {
+        head = call(&product, &rooms[0], HEAD, terminals[i], 0);
+        if (head > 0xFFFF)
+            return head;
+        visit = call(&product, &rooms[0], VISIT, terminals[i], 0);
+        if (visit > 0xFFFF)
+            return visit;
+        heads[i] = (uint16_t)head;
+        visits[i] = (uint16_t)visit;
+    }
+    memcpy(found[0], heads, count * sizeof heads[0]);
+    memcpy(found[1], visits, count * sizeof visits[0]);
+    return 0;
+}
+
+/* Lookup of the first `count` terminals, of both sides and by single calls. A refused call must leave its lists, and
+   one that is answered what stands behind the answers. */
+static void compare_lookup(size_t count)
+{
+    static uint16_t single[2][MOST_ASKED + 1];
+    size_t left, right;
+    int i;
+    memset(rooms[0].found, 0xAA, sizeof rooms[0].found);
+    memset(rooms[1].found, 0x55, sizeof rooms[1].found);
+    memset(single, 0xAA, sizeof single);
+    left = same(LOOKUP, 0, count);
+    right = by_single_calls(count, single);
+    if (left != right)
+        differ("Lookup, beside single calls,", 0, count, left, right);
+    if (memcmp(rooms[0].found, single, sizeof single) != 0)
+        differ(left == 0 ? "a list written by Lookup" : "a list left by Lookup", 0, count, 0, 0);
+    for (i = 0; i < 2 && left == 0; i++)
+        if (memcmp(rooms[0].found[i], rooms[1].found[i], count * sizeof terminals[0]) != 0)
+            differ("a list written by Lookup", 0, count, 0, 0);
+}
+
+/* So many drawn terminals, some of them again and again, and answer lists as long. */
+static void draw_list(size_t count, uint64_t *state)
+{
+    size_t i;
+    for (i = 0; i < count; i++) {
+        terminals[i] = (uint16_t)(1 + draw(state, asked->n));
+        if (i > 0 && draw(state, 4) == 0)
+            terminals[i] = terminals[draw(state, i)];
+    }
+    found_lens[0] = found_lens[1] = count;
+}
+
+/* Puts numbers that are no terminal's into the list, makes answer lists longer or shorter, or both. */
+static void harm_list(size_t count, uint64_t *state)
+{
+    size_t others[3], i;
+    others[0] = 0;
+    others[1] = asked->n + 1;
+    others[2] = asked->n + 1 + draw(state, 0xFFFF - asked->n);
+    if (count > 0)
+        for (i = draw(state, 3); i > 0; i--)
+            terminals[draw(state, count)] = (uint16_t)others[draw(state, 3)];
+    if (draw(state, 3) == 0)
+        for (i = 1 + draw(state, 2); i > 0; i--)
+            found_lens[draw(state, 2)] = draw(state, 2) == 0 || count == 0 ? count + 1 : count - 1;
+}
+
+/* Lists of several lengths, whole and broken, on the indexes that are there. */
+static void compare_lists(uint64_t *state)
+{
+    static const size_t counts[LISTED] = { 0, 1, 2, MOST_LOOKUP - 1, MOST_LOOKUP, MOST_LOOKUP + 1, MOST_ASKED };
+    int i, turn;
+    for (i = 0; i < LISTED; i++) {
+        draw_list(counts[i], state);
+        compare_lookup(counts[i]);
+        for (turn = 0; turn < 3; turn++) {
+            draw_list(counts[i], state);
+            harm_list(counts[i], state);
+            compare_lookup(counts[i]);
+        }
+    }
+}
+
+/* One list of up to 12 terminals, now and then of some 512; every second one may be broken. */
+static void compare_list(uint64_t *state)
+{
+    size_t count = draw(state, 16) == 0 ? MOST_LOOKUP - 1 + draw(state, 3) : draw(state, 13);
+    draw_list(count, state);
+    if (draw(state, 2) == 0)
+        harm_list(count, state);
+    compare_lookup(count);
+}
+
+/* The record without terminals: a list of none is answered, and any number is refused. */
+static void compare_empty(void)
+{
+    static const struct record empty = { 0, 0, 4, 0, { 0 } };
+    size_t v;
+    ask(&empty);
+    found_lens[0] = found_lens[1] = 0;
+    compare_lookup(0);
+    found_lens[0] = found_lens[1] = 1;
+    for (v = 0; v < 2; v++) {
+        terminals[0] = (uint16_t)v;
+        compare_lookup(1);
+    }
 }
 
 static void turn_bit(uint8_t *bytes, size_t at)
@@ -337,6 +461,7 @@ static void compare_harmed(const struct record *r, uint64_t *state)
         memcpy(rooms[1].index, rooms[0].index, r->index_len);
         for (i = 0; i < 4; i++)
             compare_queries(draw(state, r->n + 2), state);
+        compare_list(state);
     }
 }
 
@@ -410,6 +535,7 @@ static void compare_mixed(struct record *r, uint64_t *state)
             compare_accepted();
             for (v = 0; v <= r->n + 1; v++)
                 compare_queries(v, state);
+            compare_list(state);
         }
     }
 }
@@ -427,10 +553,12 @@ static void compare_all(void)
             compare_timed(shape, size, &r);
             for (v = 0; v <= r.n + 1; v++)
                 compare_queries(v, &state);
+            compare_lists(&state);
             compare_strings(&r, &state);
         }
     }
     compare_mixed(&r, &state);
+    compare_empty();
     compare_fields();
 }
 
@@ -449,7 +577,7 @@ struct times {
 
 /* The least times. */
 static struct {
-    struct times whole[SHAPES][SIZES][WHOLE], queries[SHAPES][SHOWN][RANK], strings[LENGTHS][2], fields[ORDERS];
+    struct times whole[SHAPES][SIZES][WHOLE], queries[SHAPES][SHOWN][LOOKUP], strings[LENGTHS][2], fields[ORDERS];
 } least;
 
 /* The sizes at which queries are timed, and whose ratios are told. Dense, clique and pair have fewer terminals, and
@@ -589,7 +717,7 @@ static void choose_arguments(size_t n, const uint16_t *parents, const uint16_t *
     uint64_t state = 11;
     size_t i, up;
     int op;
-    for (op = DEGREE; op < RANK; op++)
+    for (op = DEGREE; op < LOOKUP; op++)
         for (i = 0; i < ARGUMENTS; i++)
             arguments[op][i][0] = 1 + draw(&state, n);
     for (i = 0; i < ARGUMENTS; i++) {
@@ -619,15 +747,15 @@ static void prepare_queries(void)
 /* The queries on one record, in turn. */
 static void measure_queries(int shape, int i)
 {
-    size_t count[RANK];
+    size_t count[LOOKUP];
     int op, round;
     make_record(shape, shown[i], 0, &records[0]);
     ask(&records[0]);
     prepare_queries();
-    for (op = DEGREE; op < RANK; op++)
+    for (op = DEGREE; op < LOOKUP; op++)
         count[op] = enough((enum op)op, (const size_t(*)[2])arguments[op]);
     for (round = 0; round < QUERY_ROUNDS; round++)
-        for (op = DEGREE; op < RANK; op++)
+        for (op = DEGREE; op < LOOKUP; op++)
             try_both(&least.queries[shape][i][op], (enum op)op, (const size_t(*)[2])arguments[op], count[op]);
 }
 
@@ -636,7 +764,7 @@ static void print_record_queries(int shape, int i)
     int op;
     make_record(shape, shown[i], 0, &records[0]);
     printf("| %s | %zu | %zu |", shape_names[shape], records[0].n, records[0].m);
-    for (op = DEGREE; op < RANK; op++) {
+    for (op = DEGREE; op < LOOKUP; op++) {
         struct times t = least.queries[shape][i][op];
         printf(" %.0f | %.2f |", t.product, noted((enum op)op, shown[i], t));
     }
@@ -647,10 +775,10 @@ static void print_queries(void)
 {
     int shape, op, i;
     printf("| shape | n | m |");
-    for (op = DEGREE; op < RANK; op++)
+    for (op = DEGREE; op < LOOKUP; op++)
         printf(" %s | ratio |", op_names[op]);
     printf("\n|---|--:|--:|");
-    for (op = DEGREE; op < RANK; op++)
+    for (op = DEGREE; op < LOOKUP; op++)
         printf("--:|--:|");
     printf("\n");
     for (shape = 0; shape < SHAPES; shape++)
@@ -829,8 +957,8 @@ static int compare(void)
     int i;
     compare_all();
     printf("The two sides gave %zu equal answers. Refusals among them:", answers);
-    for (i = 1; i < 15; i++)
-        printf(" %zu of %d%s", refusals[i], i, i < 14 ? "," : ".\n");
+    for (i = 1; i < 16; i++)
+        printf(" %zu of %d%s", refusals[i], i, i < 15 ? "," : ".\n");
     return 0;
 }
 
