@@ -4,8 +4,8 @@
    bench compare                   compares the answers
    bench measure FILE              times both sides; FILE keeps the least time of each, of this run and of those before
    bench print FILE                the tables of these times, as Markdown
-   bench once SIDE OP SHAPE SIZE   what is counted: one call on a record, or for a query one for each argument.
-                                   SIDE is product or plain, OP an operation, SIZE 0 to 3
+   bench once SIDE OP SHAPE SIZE   what is counted: one call on a record, or for a query one for each argument, but one
+                                   of Lookup, with a list of 512. SIDE is product or plain, OP an operation, SIZE 0 to 3
    bench record SHAPE SIZE         that record's bytes
    bench sizes SHAPE SIZE          its n and m
 
@@ -25,7 +25,8 @@
 
 enum { MOST_N = 4096, MOST_M = 16384, MOST_INDEX = 3 * 4608 + 6144, ARGUMENTS = 1024, ROUNDS = 40, QUERY_ROUNDS = 50,
        STRING_ROUNDS = 200, LENGTHS = 7, COLUMNS = 4, SHOWN = 3, FIELD_BYTES = 4096, FIELDS = 1 << 18, ORDERS = 2,
-       MIXED_COPIES = 100, MOST_LOOKUP = 512, MOST_ASKED = 2 * MOST_LOOKUP, LISTED = 7 };
+       MIXED_COPIES = 100, MOST_LOOKUP = 512, MOST_ASKED = 2 * MOST_LOOKUP, LISTED = 7, LOOKUP_ROUNDS = 10,
+       SINGLES = 4, BESIDE = 3 };
 
 /* The bits at which a field can start in so many bytes. */
 enum { FIELD_STARTS = 8 * FIELD_BYTES - 11 };
@@ -578,6 +579,8 @@ struct times {
 /* The least times. */
 static struct {
     struct times whole[SHAPES][SIZES][WHOLE], queries[SHAPES][SHOWN][LOOKUP], strings[LENGTHS][2], fields[ORDERS];
+    struct times lookups[SHAPES][SHOWN];
+    double singles[SHAPES][SHOWN][SINGLES];
 } least;
 
 /* The sizes at which queries are timed, and whose ratios are told. Dense, clique and pair have fewer terminals, and
@@ -591,21 +594,31 @@ static const size_t lengths[LENGTHS] = { 20, 60, 250, 1000, 4000, 36864, 430000 
 /* The orders in which fields are timed. */
 static const char *const order_names[ORDERS] = { "in a row", "drawn" };
 
-/* The least and the greatest ratio of each operation, by size; at 0, of Rank and Select over all lengths, and of Field
-   over both orders. */
-static struct {
+struct range {
     double least, greatest;
-} ratios[OPS][SIZES];
+};
 
-/* The ratio of the two times, which is kept where none was less or greater. */
+/* The least and the greatest ratio of each operation, by size; at 0, of Rank and Select over all lengths, and of Field
+   over both orders. Then those of Lookup to single calls. */
+static struct range ratios[OPS][SIZES], beside[BESIDE][SIZES];
+
+static const char *const beside_names[BESIDE] = { "Lookup of 512 / single calls",
+    "Lookup of 512 / climbs, where these are long", "Lookup of one / single calls" };
+
+/* A ratio, which is kept where none was less or greater. */
+static double kept(struct range *r, double ratio)
+{
+    if (r->least == 0 || ratio < r->least)
+        r->least = ratio;
+    if (ratio > r->greatest)
+        r->greatest = ratio;
+    return ratio;
+}
+
+/* The ratio of the two times. */
 static double noted(enum op op, int size, struct times t)
 {
-    double ratio = t.product / t.plain;
-    if (ratios[op][size].least == 0 || ratio < ratios[op][size].least)
-        ratios[op][size].least = ratio;
-    if (ratio > ratios[op][size].greatest)
-        ratios[op][size].greatest = ratio;
-    return ratio;
+    return kept(&ratios[op][size], t.product / t.plain);
 }
 
 /* The time of a call on each of the records from `first` on. */
@@ -633,21 +646,24 @@ static double pass_queries(const struct side *s, struct room *r, enum op op, con
     return (now() - from) / (double)count;
 }
 
-/* As many calls as take plain C 50 microseconds. */
-static size_t enough(enum op op, const size_t (*args)[2])
+/* As many calls as take plain C 50 microseconds, and at least so many. */
+static size_t enough(enum op op, const size_t (*args)[2], size_t count)
 {
-    size_t count = 64;
     while (pass_queries(&plain, &rooms[1], op, args, count) * (double)count < 5e4)
         count *= 2;
     return count;
 }
 
+static void keep_less(double *t, double a)
+{
+    if (*t == 0 || a < *t)
+        *t = a;
+}
+
 static void keep_least(struct times *t, double a, double b)
 {
-    if (t->product == 0 || a < t->product)
-        t->product = a;
-    if (t->plain == 0 || b < t->plain)
-        t->plain = b;
+    keep_less(&t->product, a);
+    keep_less(&t->plain, b);
 }
 
 /* One round of both sides. */
@@ -753,7 +769,7 @@ static void measure_queries(int shape, int i)
     ask(&records[0]);
     prepare_queries();
     for (op = DEGREE; op < LOOKUP; op++)
-        count[op] = enough((enum op)op, (const size_t(*)[2])arguments[op]);
+        count[op] = enough((enum op)op, (const size_t(*)[2])arguments[op], 64);
     for (round = 0; round < QUERY_ROUNDS; round++)
         for (op = DEGREE; op < LOOKUP; op++)
             try_both(&least.queries[shape][i][op], (enum op)op, (const size_t(*)[2])arguments[op], count[op]);
@@ -786,6 +802,76 @@ static void print_queries(void)
             print_record_queries(shape, i);
 }
 
+/* The terminals of the list that is timed and counted. */
+static void prepare_lookup(void)
+{
+    uint64_t state = 23;
+    size_t i;
+    for (i = 0; i < MOST_LOOKUP; i++)
+        terminals[i] = (uint16_t)(1 + draw(&state, asked->n));
+    found_lens[0] = found_lens[1] = MOST_LOOKUP;
+}
+
+/* Lookup of the whole list on one record; and single calls of the product for each of its terminals: Head, Visit,
+   Ancestor of the terminal and itself, which tries all that Head does, finds the starts and takes no step, and Lookup
+   of this terminal alone. */
+static void measure_lookups(int shape, int i)
+{
+    static const enum op ops[SINGLES] = { HEAD, VISIT, ANCESTOR, LOOKUP };
+    static size_t whole[ARGUMENTS][2], twice[ARGUMENTS][2], alone[ARGUMENTS][2];
+    size_t count, j;
+    int round, o;
+    make_record(shape, shown[i], 0, &records[0]);
+    ask(&records[0]);
+    prepare_queries();
+    prepare_lookup();
+    for (j = 0; j < ARGUMENTS; j++) {
+        whole[j][1] = MOST_LOOKUP;
+        twice[j][0] = twice[j][1] = terminals[j % MOST_LOOKUP];
+        alone[j][0] = j % MOST_LOOKUP;
+        alone[j][1] = 1;
+    }
+    count = enough(LOOKUP, (const size_t(*)[2])whole, 1);
+    for (round = 0; round < LOOKUP_ROUNDS; round++) {
+        found_lens[0] = found_lens[1] = MOST_LOOKUP;
+        try_both(&least.lookups[shape][i], LOOKUP, (const size_t(*)[2])whole, count);
+        found_lens[0] = found_lens[1] = 1;
+        for (o = 0; o < SINGLES; o++)
+            keep_less(&least.singles[shape][i][o], pass_queries(&product, &rooms[0], ops[o],
+                (const size_t(*)[2])(ops[o] == LOOKUP ? alone : twice), MOST_LOOKUP));
+    }
+}
+
+/* The climbs are what Head takes beyond Ancestor of a terminal and itself. They are long from a twentieth of the single
+   calls on. */
+static void print_record_lookups(int shape, int i)
+{
+    struct times t = least.lookups[shape][i];
+    const double *one = least.singles[shape][i];
+    double both = one[0] + one[1], calls = MOST_LOOKUP * both, climbs = MOST_LOOKUP * (one[0] - one[2]);
+    int size = shown[i];
+    make_record(shape, size, 0, &records[0]);
+    printf("| %s | %zu | %zu |", shape_names[shape], records[0].n, records[0].m);
+    printf(" %.0f | %.2f |", t.product, noted(LOOKUP, size, t));
+    printf(" %.0f | %.3f | %.0f |", calls, kept(&beside[0][size], t.product / calls), climbs);
+    if (climbs >= calls / 20)
+        printf(" %.2f |", kept(&beside[1][size], t.product / climbs));
+    else
+        printf(" short |");
+    printf(" %.0f | %.0f | %.2f |\n", one[3], both, kept(&beside[2][size], one[3] / both));
+}
+
+static void print_lookups(void)
+{
+    int shape, i;
+    printf("| shape | n | m | Lookup of 512 | ratio | single calls | Lookup / single | climbs | Lookup / climbs |"
+           " Lookup of one | single calls | Lookup / single |\n"
+           "|---|--:|--:|--:|--:|--:|--:|--:|--:|--:|--:|--:|\n");
+    for (shape = 0; shape < SHAPES; shape++)
+        for (i = 0; i < SHOWN; i++)
+            print_record_lookups(shape, i);
+}
+
 /* Rank and select in strings of drawn bytes that start inside a byte. Half the bits are ones, and on average half the
    string is read. */
 static void measure_strings(void)
@@ -807,7 +893,7 @@ static void measure_strings(void)
             string_arguments[i][1][j][0] = 1 + draw(&state, all);
         }
         for (o = 0; o < 2; o++)
-            count[i][o] = enough((enum op)(RANK + o), (const size_t(*)[2])string_arguments[i][o]);
+            count[i][o] = enough((enum op)(RANK + o), (const size_t(*)[2])string_arguments[i][o], 64);
     }
     for (round = 0; round < STRING_ROUNDS; round++) {
         for (i = 0; i < LENGTHS; i++) {
@@ -877,20 +963,21 @@ static void print_fields(void)
     }
 }
 
-static void print_ratios(void)
+static void print_ratios(const char *what, const char *const *names, const struct range (*rows)[SIZES], int count,
+                         int digits)
 {
-    int op, i;
-    printf("| operation |");
+    int row, i;
+    printf("| %s |", what);
     for (i = 0; i < SHOWN; i++)
         printf(" %s, least | greatest |", shown_names[i]);
     printf("\n|---|");
     for (i = 0; i < SHOWN; i++)
         printf("--:|--:|");
     printf("\n");
-    for (op = 0; op < RANK; op++) {
-        printf("| %s |", op_names[op]);
+    for (row = 0; row < count; row++) {
+        printf("| %s |", names[row]);
         for (i = 0; i < SHOWN; i++)
-            printf(" %.2f | %.2f |", ratios[op][shown[i]].least, ratios[op][shown[i]].greatest);
+            printf(" %.*f | %.*f |", digits, rows[row][shown[i]].least, digits, rows[row][shown[i]].greatest);
         printf("\n");
     }
 }
@@ -934,6 +1021,9 @@ static int once(const char *side, const char *name, const char *shape, const cha
     if (op < WHOLE)
         return call(s, &rooms[0], (enum op)op, 0, 0) > 0xFFFF;
     prepare_queries();
+    prepare_lookup();
+    if (op == LOOKUP)
+        return call(s, &rooms[0], LOOKUP, 0, MOST_LOOKUP) > 0xFFFF;
     for (i = 0; i < ARGUMENTS; i++)
         sum += call(s, &rooms[0], (enum op)op, arguments[op][i][0], arguments[op][i][1]);
     sink = sum;
@@ -984,6 +1074,9 @@ static int measure(const char *path)
     for (shape = 0; shape < SHAPES; shape++)
         for (i = 0; i < SHOWN; i++)
             measure_queries(shape, i);
+    for (shape = 0; shape < SHAPES; shape++)
+        for (i = 0; i < SHOWN; i++)
+            measure_lookups(shape, i);
     measure_strings();
     measure_fields();
     file = fopen(path, "wb");
@@ -1001,12 +1094,16 @@ static int print(const char *path)
     print_whole();
     printf("\n### Queries: nanoseconds of the product per call, and product / plain\n\n");
     print_queries();
+    printf("\n### Lookup: nanoseconds of the product, product / plain, and single calls of the product beside it\n\n");
+    print_lookups();
     printf("\n### Strings: nanoseconds of the product per call and per word read, and product / plain\n\n");
     print_strings();
     printf("\n### One field: nanoseconds of the product and of plain C per field, and product / plain\n\n");
     print_fields();
     printf("\n### Ratios: product / plain, the least and the greatest over the shapes\n\n");
-    print_ratios();
+    print_ratios("operation", op_names, (const struct range(*)[SIZES])ratios, RANK, 2);
+    printf("\n### Ratios of Lookup and the product's single calls: the least and the greatest over the shapes\n\n");
+    print_ratios("ratio", beside_names, (const struct range(*)[SIZES])beside, BESIDE, 3);
     printf("\n### Ratios of Rank, Select and Field: the least and the greatest over the rows of their tables\n\n");
     print_other_ratios();
     return 0;
