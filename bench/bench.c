@@ -603,7 +603,7 @@ struct range {
 static struct range ratios[OPS][SIZES], beside[BESIDE][SIZES];
 
 static const char *const beside_names[BESIDE] = { "Lookup of 512 / single calls",
-    "Lookup of 512 / climbs, where these are long", "Lookup of one / single calls" };
+    "Lookup of 512 / climbs, where these are not short", "Lookup of one / single calls" };
 
 /* A ratio, which is kept where none was less or greater. */
 static double kept(struct range *r, double ratio)
@@ -842,8 +842,8 @@ static void measure_lookups(int shape, int i)
     }
 }
 
-/* The climbs are what Head takes beyond Ancestor of a terminal and itself. They are long from a twentieth of the single
-   calls on. */
+/* The climbs are what Head takes beyond Ancestor of a terminal and itself. Under a hundredth of the single calls they
+   are lost in the noise. */
 static void print_record_lookups(int shape, int i)
 {
     struct times t = least.lookups[shape][i];
@@ -854,7 +854,7 @@ static void print_record_lookups(int shape, int i)
     printf("| %s | %zu | %zu |", shape_names[shape], records[0].n, records[0].m);
     printf(" %.0f | %.2f |", t.product, noted(LOOKUP, size, t));
     printf(" %.0f | %.3f | %.0f |", calls, kept(&beside[0][size], t.product / calls), climbs);
-    if (climbs >= calls / 20)
+    if (climbs >= calls / 100)
         printf(" %.2f |", kept(&beside[1][size], t.product / climbs));
     else
         printf(" short |");
