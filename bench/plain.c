@@ -621,26 +621,39 @@ uint32_t plain_parent(const uint8_t *record, size_t len, const uint8_t *index, s
     }
 }
 
-/* The climb from vertex u to its head: that vertex, or n where the index is bad. */
+/* One step of Head from vertex u: 0 where the climb stops there, 1 with the parent, 2 where the index is bad. */
+static inline int step_to_head(const uint8_t *record, const uint8_t *index, size_t index_len, const struct sizes *s,
+                               const uint16_t *starts, size_t u, struct step *up)
+{
+    size_t base = 16 * mark_bytes(s->n, s->m);
+    switch (step_up(record, index, index_len, s, u, starts[u] + u + 1, starts[u + 1] + u + 1, up)) {
+    case 0:
+        return 0;
+    case 1:
+        return (index[(base + up->bit) / 8] >> (7 - up->bit % 8) & 1) == 0;
+    default:
+        return 2;
+    }
+}
+
+/* The climb from vertex u to its head: that terminal, or 0 where the index is bad. */
 static inline size_t climb(const uint8_t *record, const uint8_t *index, size_t index_len, const struct sizes *s,
                            const uint16_t *starts, size_t u)
 {
     struct step up;
-    size_t steps, base = 16 * mark_bytes(s->n, s->m);
+    size_t steps;
     for (steps = 0; steps < s->n; steps++) {
-        switch (step_up(record, index, index_len, s, u, starts[u] + u + 1, starts[u + 1] + u + 1, &up)) {
+        switch (step_to_head(record, index, index_len, s, starts, u, &up)) {
         case 0:
-            return u;
+            return u + 1;
         case 1:
-            if (index[(base + up.bit) / 8] >> (7 - up.bit % 8) & 1)
-                return u;
             u = up.to;
             break;
         default:
-            return s->n;
+            return 0;
         }
     }
-    return s->n;
+    return 0;
 }
 
 uint32_t plain_head(const uint8_t *record, size_t len, const uint8_t *index, size_t index_len, size_t v)
@@ -653,9 +666,7 @@ uint32_t plain_head(const uint8_t *record, size_t len, const uint8_t *index, siz
         return refused(why);
     fill_starts(record, len, s.n, s.m, starts);
     head = climb(record, index, index_len, &s, starts, v - 1);
-    if (head == s.n)
-        return refused(BAD_INDEX);
-    return (uint32_t)(head + 1);
+    return head == 0 ? refused(BAD_INDEX) : (uint32_t)head;
 }
 
 uint32_t plain_ancestor(const uint8_t *record, size_t len, const uint8_t *index, size_t index_len, size_t u, size_t v)
@@ -748,12 +759,41 @@ uint32_t plain_visited(const uint8_t *record, size_t len, const uint8_t *index, 
     return refused(BAD_INDEX);
 }
 
-/* One order R and one pass for the starts. The answers stay here until the last one is known. */
+/* The same climb, which ends at a vertex whose head is known: `known` has that terminal, or 0. All that the climb has
+   passed then have the same head. */
+static inline size_t climb_to_known(const uint8_t *record, const uint8_t *index, size_t index_len,
+                                    const struct sizes *s, const uint16_t *starts, uint16_t *known, size_t u)
+{
+    struct step up;
+    uint16_t way[MOST_TERMINALS];
+    size_t count = 0, head;
+    while ((head = known[u]) == 0) {
+        if (count == s->n)
+            return 0;
+        way[count++] = (uint16_t)u;
+        switch (step_to_head(record, index, index_len, s, starts, u, &up)) {
+        case 0:
+            known[u] = (uint16_t)(u + 1);
+            break;
+        case 1:
+            u = up.to;
+            break;
+        default:
+            return 0;
+        }
+    }
+    while (count > 0)
+        known[way[--count]] = (uint16_t)head;
+    return head;
+}
+
+/* One order R, one pass for the starts, and one look at each block on the way of any climb. The answers stay here until
+   the last one is known. */
 uint32_t plain_lookup(const uint8_t *record, size_t len, const uint8_t *index, size_t index_len, const uint16_t *list,
                       size_t list_len, uint16_t *heads, size_t heads_len, uint16_t *visits, size_t visits_len)
 {
     struct sizes s;
-    uint16_t starts[MOST_TERMINALS + 1], found_heads[MOST_LOOKUP], found_visits[MOST_LOOKUP];
+    uint16_t starts[MOST_TERMINALS + 1], known[MOST_TERMINALS], found_heads[MOST_LOOKUP], found_visits[MOST_LOOKUP];
     size_t i, v, head, number, base;
     uint32_t why = order_i(record, len, index_len, &s);
     if (why != 0)
@@ -761,18 +801,19 @@ uint32_t plain_lookup(const uint8_t *record, size_t len, const uint8_t *index, s
     if (list_len > MOST_LOOKUP || heads_len != list_len || visits_len != list_len)
         return refused(BAD_LIST);
     fill_starts(record, len, s.n, s.m, starts);
+    memset(known, 0, s.n * sizeof known[0]);
     base = 24 * mark_bytes(s.n, s.m);
     for (i = 0; i < list_len; i++) {
         v = list[i];
         if (v == 0 || v > s.n)
             return refused(NO_TERMINAL);
-        head = climb(record, index, index_len, &s, starts, v - 1);
-        if (head == s.n)
+        head = climb_to_known(record, index, index_len, &s, starts, known, v - 1);
+        if (head == 0)
             return refused(BAD_INDEX);
         number = read12(index, base + 12 * (v - 1));
         if (number >= s.n)
             return refused(BAD_INDEX);
-        found_heads[i] = (uint16_t)(head + 1);
+        found_heads[i] = (uint16_t)head;
         found_visits[i] = (uint16_t)(number + 1);
     }
     memcpy(heads, found_heads, list_len * sizeof heads[0]);
