@@ -25,8 +25,8 @@
 
 enum { MOST_N = 4096, MOST_M = 16384, MOST_INDEX = 3 * 4608 + 6144, ARGUMENTS = 1024, ROUNDS = 40, QUERY_ROUNDS = 50,
        STRING_ROUNDS = 200, LENGTHS = 7, COLUMNS = 4, SHOWN = 3, FIELD_BYTES = 4096, FIELDS = 1 << 18, ORDERS = 2,
-       MIXED_COPIES = 100, MOST_LOOKUP = 512, MOST_ASKED = 2 * MOST_LOOKUP, LISTED = 7, LOOKUP_ROUNDS = 10,
-       SINGLES = 4, BESIDE = 3 };
+       MIXED_COPIES = 100, UNBUILT = 16, MOST_LOOKUP = 512, MOST_ASKED = 2 * MOST_LOOKUP, LISTED = 7,
+       LOOKUP_ROUNDS = 10, SINGLES = 4, BESIDE = 3 };
 
 /* The bits at which a field can start in so many bytes. */
 enum { FIELD_STARTS = 8 * FIELD_BYTES - 11 };
@@ -466,6 +466,64 @@ static void compare_harmed(const struct record *r, uint64_t *state)
     }
 }
 
+/* Turns the room's index into one that nobody built. In P, `parents` of 16 blocks get other marks: mostly one, so that
+   climbs run into cycles, else none or two. In B, `bridges` of 16 bits are set. All of this is drawn. */
+static void draw_marks(struct room *r, size_t parents, size_t bridges, uint64_t *state)
+{
+    size_t d = asked->n + 2 * asked->m, k = (d + 7) / 8, v, i, from, places, kind;
+    uint8_t *p = r->index + k, *b = p + k;
+    memset(b, 0, k);
+    for (i = 0; i < d; i++)
+        if (draw(state, 16) < bridges)
+            turn_bit(b, i);
+    for (v = 1; v <= asked->n; v++) {
+        uint64_t block = plain_neighbours(asked->bytes, asked->len, 2 * asked->m, v);
+        from = (size_t)(block >> 32) + v;
+        places = block & 0xFFFFFFFF;
+        if (places == 0 || draw(state, 16) >= parents)
+            continue;
+        for (i = 0; i < places; i++)
+            if (bit(p, from + i) != 0)
+                turn_bit(p, from + i);
+        kind = draw(state, 16);
+        if (kind > 0)
+            turn_bit(p, from + draw(state, places));
+        if (kind == 1)
+            turn_bit(p, from + draw(state, places));
+    }
+}
+
+/* A list of terminals that mostly have a head; the last few may be any. */
+static void draw_list_with_heads(size_t count, uint64_t *state)
+{
+    size_t any = draw(state, 3), i;
+    int turn;
+    draw_list(count, state);
+    for (i = 0; i + any < count; i++)
+        for (turn = 0; turn < 8 && call(&plain, &rooms[1], HEAD, terminals[i], 0) > 0xFFFF; turn++)
+            terminals[i] = (uint16_t)(1 + draw(state, asked->n));
+}
+
+/* Lookup on indexes that nobody built, where climbs meet, run into cycles or end at two marks in a block: lists of any
+   terminals, and lists that get beyond their first. */
+static void compare_unbuilt(const struct record *r, int turns, uint64_t *state)
+{
+    static const size_t rates[3] = { 0, 1, 16 };
+    size_t count;
+    ask(r);
+    for (; turns > 0; turns--) {
+        start = 1 + draw(state, r->n);
+        call(&plain, &rooms[1], BUILD, 0, 0);
+        draw_marks(&rooms[1], rates[draw(state, 3)], draw(state, 3), state);
+        memcpy(rooms[0].index, rooms[1].index, index_len);
+        draw_list(MOST_LOOKUP, state);
+        compare_lookup(MOST_LOOKUP);
+        count = draw(state, 2) == 0 ? MOST_LOOKUP : draw(state, 13);
+        draw_list_with_heads(count, state);
+        compare_lookup(count);
+    }
+}
+
 static void compare_strings(const struct record *r, uint64_t *state)
 {
     size_t i, bits;
@@ -538,6 +596,7 @@ static void compare_mixed(struct record *r, uint64_t *state)
                 compare_queries(v, state);
             compare_list(state);
         }
+        compare_unbuilt(r, UNBUILT, state);
     }
 }
 
@@ -555,6 +614,7 @@ static void compare_all(void)
             for (v = 0; v <= r.n + 1; v++)
                 compare_queries(v, &state);
             compare_lists(&state);
+            compare_unbuilt(&r, copies(size), &state);
             compare_strings(&r, &state);
         }
     }
