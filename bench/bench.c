@@ -915,7 +915,7 @@ static void print_record_lookups(int shape, int i)
     printf(" %.0f | %.2f |", t.product, noted(LOOKUP, size, t));
     printf(" %.0f | %.3f | %.0f |", calls, kept(&beside[0][size], t.product / calls), climbs);
     if (climbs >= calls / 100)
-        printf(" %.2f |", kept(&beside[1][size], t.product / climbs));
+        printf(" %.3f |", kept(&beside[1][size], t.product / climbs));
     else
         printf(" short |");
     printf(" %.0f | %.0f | %.2f |\n", one[3], both, kept(&beside[2][size], one[3] / both));
