@@ -1,11 +1,11 @@
--- Demands 2 and 3 as theorems, and what document 02 says of the start and of doubled wires: open this file first. The
--- index is any that Build writes for the record, with any start (`Written`), and the marks are the bits of that index;
--- the answers are those of the operations, as `Operations` defines them and as the contracts of the code say. Terminal
--- v is vertex v - 1 of the graph; positions of a block count from 0.
+-- Demands 2 and 3 as theorems, and what document 02 says of the start, of doubled wires and of a list of terminals: open
+-- this file first. The index is any that Build writes for the record, with any start (`Written`), and the marks are the
+-- bits of that index; the answers are those of the operations, as `Operations` defines them and as the contracts of the
+-- code say. Terminal v is vertex v - 1 of the graph; positions of a block count from 0, and so do cells of a list.
 use mathlib.Core.Path.{_≡_, sym, ap, subst, _∙_}
 use mathlib.Core.Logic.{_⊎_, _↔_}
 use mathlib.Core.Bool.{Bool, true, false}
-use mathlib.Core.List.{List}
+use mathlib.Core.List.{List, []}
 use mathlib.Core.Option.{none}
 use Prim.Native.Nat.{ℕ, suc, _+_, _-_, _*_, _≤_, _<_}
 use lib.ListN.{length, getD, take}
@@ -17,13 +17,14 @@ use Rattle.graph.specs.Laws.Tree.Ancestors.{ancestor as ancestorIn}
 use Rattle.graph.specs.Forest.{number, vertexAt, parent as parentIn, head as headIn, Ancestor, children as childrenIn}
 use Rattle.graph.specs.Theorems.{wire-places, ancestor-told}
 use Rattle.record.specs.Record.{terminals, wires, unary, blocks}
+use Rattle.record.specs.Rules.{firstBroken}
 use Rattle.record.specs.Answers.{refused, answered}
 use Rattle.forest.specs.Index.{indexBy, indexOf, markBytes, indexLength}
 use Rattle.forest.specs.Operations.{build, built, firstStart}
 use Rattle.forest.specs.Laws.Taken.{first-index}
 use Rattle.queries.specs.View.{sectionBit, numberBit, placeOf, Alike}
 use Rattle.queries.specs.Answers.{unlessZero}
-use Rattle.queries.specs.Operations.{parent, head, ancestor, children, child, visit, visited}
+use Rattle.queries.specs.Operations.{besideRules, parent, head, ancestor, children, child, visit, visited}
 use Rattle.queries.specs.Written.{Written, forestFrom, Terminal, VisitNumber, Once, HeadsTell, SameAnswers}
 use Rattle.queries.specs.Laws.Answered as Answered
 use Rattle.queries.specs.Laws.Built.{built-own, built-fill, built-rest}
@@ -31,6 +32,10 @@ use Rattle.queries.specs.Laws.Edges.{E-told, P-told, P-as-E, E-as-P, P-n
 use Rattle.queries.specs.Laws.Alike.{alike-answers}
 use Rattle.queries.specs.Laws.Columns.{table-cells}
 use Rattle.queries.specs.Laws.Given.{never-seven}
+use Rattle.queries.specs.Laws.Looked as Looked
+use Rattle.queries.specs.Laws.Looked.{lookup-cells, lookup-refuses-head, lookup-refuses-visit, lookup-none}
+use Rattle.queries.specs.Laws.Looked.{lookup-built, head-gives, visit-gives}
+use Rattle.queries.specs.Lookup.{Lists, lists, badList, lookup, lookedUp, LookupCells, Answers}
 use Rattle.queries.specs.Table.{tableOn, tableOf, Tabled}
 use Rattle.queries.specs.Given.{NeverGiven}
 
@@ -46,6 +51,44 @@ never-7 = never-seven
 -- fill bits, and the bits at D's ones, affect no answer, on any index of the right length
 pub fill-unread : {bytes a b : List ℕ} → Alike bytes a b → SameAnswers bytes a b
 fill-unread = alike-answers
+
+-- ---- Lookup, on any index
+
+module _ (bytes index list : List ℕ) (lent : Lists) where
+  -- where it refuses nothing, each answer is the single call's
+  pub lookup-told : lookup bytes index list lent ≡ answered tt
+      → LookupCells bytes index list (lookedUp bytes index list lent)
+  lookup-told = lookup-cells bytes index list lent
+
+  -- and else nothing is written
+  pub lookup-unwritten : {k : ℕ} → lookup bytes index list lent ≡ refused k → lookedUp bytes index list lent ≡ lent
+  lookup-unwritten = Looked.lookup-unwritten bytes index list lent
+
+  -- once order R, 10 and 15 are kept, and the single calls answer for the terminals before cell i
+  module _ (b : firstBroken (besideRules bytes index) ≡ 0) (g : badList list lent ≡ false)
+      {i : ℕ} (h : i < length list) (before : (j : ℕ) → j < i → Answers bytes index (getD list j 0)) where
+    -- a refusal by Head there is the call's, and so is one by Visit where Head answers
+    pub lookup-head-refused : {k : ℕ} → head bytes index (getD list i 0) ≡ refused k
+        → lookup bytes index list lent ≡ refused k
+    lookup-head-refused = lookup-refuses-head bytes index list lent b g h before
+
+    pub lookup-visit-refused : {k x : ℕ} → head bytes index (getD list i 0) ≡ answered x
+        → visit bytes index (getD list i 0) ≡ refused k → lookup bytes index list lent ≡ refused k
+    lookup-visit-refused = lookup-refuses-visit bytes index list lent b g h before
+
+-- a list of none is answered, once order R, 10 and 15 are kept
+pub lookup-of-none : (bytes index : List ℕ) → firstBroken (besideRules bytes index) ≡ 0
+    → lookup bytes index [] (lists [] []) ≡ answered tt
+lookup-of-none = lookup-none
+
+-- by then Head refuses with 11 or 12, and Visit, where Head answers, with 12
+pub head-refusals : (bytes index : List ℕ) → firstBroken (besideRules bytes index) ≡ 0 → (v : ℕ) {k : ℕ}
+    → head bytes index v ≡ refused k → (k ≡ 11) ⊎ (k ≡ 12)
+head-refusals = head-gives
+
+pub visit-refusals : (bytes index : List ℕ) (v : ℕ) {h k : ℕ} → head bytes index v ≡ answered h
+    → visit bytes index v ≡ refused k → k ≡ 12
+visit-refusals = visit-gives
 
 -- ---- for any index that Build writes
 
@@ -168,6 +211,11 @@ module _ {bytes index : List ℕ} (w : Written bytes index) where
     pub ancestor-relation : (ancestorIn F (u - 1) (v - 1) ≡ true) ↔ Ancestor F (u - 1) (v - 1)
     ancestor-relation =
         ancestor-told (Answered.formed w .in-range) (Answered.covered w) (u - 1) (v - 1) (Answered.vertex-of w r)
+
+  -- Lookup: a list of terminals is answered, if it has at most 512 and the answer lists have its length
+  pub lookup-answered : (list : List ℕ) (lent : Lists) → badList list lent ≡ false
+      → ((i : ℕ) → i < length list → Terminal bytes (getD list i 0)) → lookup bytes index list lent ≡ answered tt
+  lookup-answered = lookup-built w
 
   -- Table: each cell is what its query answers, so none is a refusal
   pub table-told : Tabled bytes index (tableOf bytes (w .start))

@@ -1,9 +1,9 @@
--- Document 01's lines that are marked P, all of them, as document 02 changes them, the columns of its listing, and the
--- sample from another start, as one list of cases under one theorem, computed by the checker.
+-- Document 01's lines that are marked P, all of them, as document 02 changes them, the columns of its listing, the sample
+-- from another start, and lists of terminals, as one list of cases under one theorem, computed by the checker.
 use mathlib.Core.Path.{_≡_, refl}
 use mathlib.Core.List.{List, [], _∷_, _++_, map, flatten}
 use Prim.Native.Nat.{ℕ, _-_}
-use lib.ListN.{length, take}
+use lib.ListN.{length, take, replicate}
 use Rattle.bits.specs.Bits.{toBits, bits, string, count, onesAt, select, value, field, packed, pack}
 use Rattle.graph.specs.Graph.{Blocks, mentions, position, pair}
 use Rattle.graph.specs.Search.{entered, arcs, run, search, countUp, startsFrom}
@@ -14,7 +14,7 @@ use Rattle.record.specs.Record.{terminals, wires, usedBits, recordLength, unary
 use Rattle.record.specs.Record.{blocks, layOut, unaryOf, fieldBits, recordBits, recordOf}
 use Rattle.record.specs.Rules.{firstBroken, beginsWithZero, orderR, spareSet, placeRules, layoutRules, checkRules}
 use Rattle.adjacency.specs.Places.{anyIn, anyFrom, stray, oneSided}
-use Rattle.record.specs.Answers.{Answer, refused, answered, outcome, otherwise, said}
+use Rattle.record.specs.Answers.{Answer, refused, answered, outcome, otherwise, bufferAfter, said}
 use Rattle.record.specs.Operations.{check, otherLength, outOfRange}
 use Rattle.forest.specs.Index.{marksFrom, section, sectionE, sectionP, sectionB, numbers, indexBy, indexOf}
 use Rattle.forest.specs.Index.{markBytes, numberBytes, indexLength}
@@ -22,9 +22,12 @@ use Rattle.queries.specs.View.{blockMarks, sectionOf, numberOf}
 use Rattle.queries.specs.Queries.{stepBy, stepUp, headOf, parentOf, childCount, visitOf}
 use Rattle.queries.specs.Operations.{besideRules, orderQ, head, parent, children, visit}
 use Rattle.queries.specs.Table.{Columns, columns, answersOf, tableOn, tableOf}
+use Rattle.queries.specs.Lookup.{Lists, lists, both, headAndVisit, refusedBy, badList, lookupRules, lookup}
+use Rattle.queries.specs.Lookup.{lookupLists, lookedUp}
 
 -- a line: blocks and their record, a record and its blocks, a record and what Check says, a record, a start and its
--- index, a record with its index and the heads of its terminals, or a record, a start and its table
+-- index, a record with its index and the heads of its terminals, a record, a start and its table, or a record, an index,
+-- a list of terminals and two lists that are lent, with what Lookup answers and the two lists afterwards
 pub data Line : Type 0 where
   files : Blocks → List ℕ → Line
   reads : List ℕ → Blocks → Line
@@ -32,6 +35,7 @@ pub data Line : Type 0 where
   indexed : List ℕ → ℕ → List ℕ → Line
   headed : List ℕ → List ℕ → List (Answer ℕ) → Line
   listed : List ℕ → ℕ → Columns → Line
+  looks : List ℕ → List ℕ → List ℕ → Lists → Answer (Unit {0}) → Lists → Line
 
 abbrev pub computed : Line → Line
 computed (files g bytes) = files g (recordOf g)
@@ -40,6 +44,8 @@ computed (checks bytes a) = checks bytes (check bytes)
 computed (indexed bytes start index) = indexed bytes start (indexOf (blocks bytes) (start - 1))
 computed (headed bytes index heads) = headed bytes index (map (head bytes index) (countUp 1 (length heads)))
 computed (listed bytes start t) = listed bytes start (tableOf bytes start)
+computed (looks bytes index list lent a l) =
+    looks bytes index list lent (lookup bytes index list lent) (lookedUp bytes index list lent)
 
 -- the sample loom, terminals less 1
 abbrev pub loom : Blocks
@@ -87,6 +93,14 @@ sampleTable =
     (1 ∷ 0 ∷ 2 ∷ 0 ∷ 1 ∷ 0 ∷ [])
     (1 ∷ 1 ∷ 1 ∷ 4 ∷ 5 ∷ 6 ∷ [])
 
+-- every bit set: terminal 1 shows two parents, terminal 4 is its own head, and all stored numbers are 4,095
+abbrev pub fullIndex : List ℕ
+fullIndex = replicate 15 0xFF
+
+-- two lists that are lent
+abbrev pub lent : Lists
+lent = lists (90 ∷ 91 ∷ []) (92 ∷ 93 ∷ [])
+
 -- for any three bytes a, b and c
 abbrev pub lines : ℕ → ℕ → ℕ → List Line
 lines a b c =
@@ -98,6 +112,15 @@ lines a b c =
     ∷ listed sample 1 sampleTable
     ∷ indexed sample 4 sampleIndex4
     ∷ headed sample sampleIndex4 (map answered (3 ∷ 3 ∷ 3 ∷ 4 ∷ 5 ∷ 6 ∷ []))
+    ∷ looks sample sampleIndex (4 ∷ 2 ∷ []) lent (answered tt) (lists (4 ∷ 1 ∷ []) (4 ∷ 3 ∷ []))
+    ∷ looks sample sampleIndex (2 ∷ 2 ∷ []) lent (answered tt) (lists (1 ∷ 1 ∷ []) (3 ∷ 3 ∷ []))
+    ∷ looks sample sampleIndex (4 ∷ 7 ∷ []) lent (refused 11) lent
+    ∷ looks sample fullIndex (1 ∷ 0 ∷ []) lent (refused 12) lent
+    ∷ looks sample fullIndex (0 ∷ 1 ∷ []) lent (refused 11) lent
+    ∷ looks sample fullIndex (4 ∷ 0 ∷ []) lent (refused 12) lent
+    ∷ looks sample sampleIndex (4 ∷ []) lent (refused 15) lent
+    ∷ looks sample [] (7 ∷ []) lent (refused 10) lent
+    ∷ looks empty [] [] (lists [] []) (answered tt) (lists [] [])
     ∷ files [] empty
     ∷ reads empty []
     ∷ checks empty (answered tt)
@@ -129,5 +152,6 @@ unfolding toBits bits string count onesAt select value field packed pack mention
     firstBroken beginsWithZero orderR anyIn anyFrom spareSet stray oneSided placeRules layoutRules
     checkRules outcome otherwise check otherLength outOfRange marksFrom section sectionE sectionP sectionB
     numbers indexBy markBytes numberBytes indexLength blockMarks sectionOf numberOf stepBy stepUp headOf besideRules
-    orderQ head flatten visit visitOf parent parentOf children childCount said answersOf tableOn
+    orderQ head flatten visit visitOf parent parentOf children childCount said answersOf tableOn bufferAfter both
+    headAndVisit refusedBy badList lookupRules lookup lookupLists lookedUp
 as-stated a b c = refl

@@ -6,6 +6,7 @@ use Rattle.record.specs.Answers.{refused}
 use Rattle.record.specs.Operations.{check, degree, unpack, loopFigure}
 use Rattle.forest.specs.Operations.{build}
 use Rattle.queries.specs.Operations.{parent, head, ancestor, children, child, visit, visited}
+use Rattle.queries.specs.Lookup.{Lists, lookup}
 use Rattle.queries.specs.Table.{Columns, table}
 
 -- no operation refuses this record with k, whatever else it is lent. (Neighbours refuses without a number, and `accept`
@@ -23,4 +24,5 @@ pub record NeverGiven (k : ℕ) (bytes : List ℕ) : Type 0 where
   pub by-child : (index : List ℕ) (v j : ℕ) → child bytes index v j ≡ refused k → ⊥
   pub by-visit : (index : List ℕ) (v : ℕ) → visit bytes index v ≡ refused k → ⊥
   pub by-visited : (index : List ℕ) (i : ℕ) → visited bytes index i ≡ refused k → ⊥
+  pub by-lookup : (index list : List ℕ) (lent : Lists) → lookup bytes index list lent ≡ refused k → ⊥
   pub by-table : (start : ℕ) (work : List ℕ) (lent : Columns) → table bytes start work lent ≡ refused k → ⊥

@@ -13,5 +13,6 @@ pub mod Ready
 pub mod Answered
 pub mod Edges
 pub mod Columns
-pub mod Given
+pub mod Twelve
 pub mod Looked
+pub mod Given

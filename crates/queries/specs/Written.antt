@@ -14,6 +14,7 @@ use Rattle.forest.specs.Index.{indexOf}
 use Rattle.forest.specs.Operations.{noStart}
 use Rattle.queries.specs.Steps.{Ranged}
 use Rattle.queries.specs.Operations.{parent, head, ancestor, children, child, visit, visited}
+use Rattle.queries.specs.Lookup.{Lists, lookup, lookedUp}
 
 -- the record is accepted, Build takes the start, and the index is the one that it writes
 pub record Written (bytes index : List ℕ) : Type 0 where
@@ -56,3 +57,5 @@ pub record SameAnswers (bytes a b : List ℕ) : Type 0 where
   pub same-child : (v j : ℕ) → child bytes a v j ≡ child bytes b v j
   pub same-visit : (v : ℕ) → visit bytes a v ≡ visit bytes b v
   pub same-visited : (i : ℕ) → visited bytes a i ≡ visited bytes b i
+  pub same-lookup : (list : List ℕ) (lent : Lists) → lookup bytes a list lent ≡ lookup bytes b list lent
+  pub same-lists : (list : List ℕ) (lent : Lists) → lookedUp bytes a list lent ≡ lookedUp bytes b list lent

@@ -12,7 +12,7 @@ use Rattle.bits.specs.Laws.Bytes.{length-bits}
 use Rattle.graph.specs.Graph.{block}
 use Rattle.record.specs.Record.{terminals, wires, unary, fieldsFrom, blocks}
 use Rattle.record.specs.Rules.{Rule}
-use Rattle.record.specs.Answers.{answered, triedThen}
+use Rattle.record.specs.Answers.{Answer, answered, tried, triedThen, bufferAfter}
 use Rattle.record.specs.Operations.{otherLength, outOfRange}
 use Rattle.forest.specs.Index.{markBytes}
 use Rattle.queries.specs.View.{View, blockMarks, sectionOf, numberOf, viewOf, placeOf, Alike}
@@ -20,6 +20,7 @@ use Rattle.queries.specs.Queries.{parentOf, headOf, ancestorOf, childCou
 use Rattle.queries.specs.Queries.{pastCount}
 use Rattle.queries.specs.Operations.{besideRules, orderQ, parent, head, ancestorRules, ancestor, children}
 use Rattle.queries.specs.Operations.{noChild, childRules, child, visit, visited}
+use Rattle.queries.specs.Lookup.{Lists, headAndVisit, lookupRules, lookup, lookupLists, lookedUp}
 use Rattle.queries.specs.Written.{SameAnswers}
 use Rattle.queries.specs.Laws.Framed.{section-length, section-bit}
 
@@ -131,16 +132,35 @@ module _ {bytes a b : List ℕ} (s : Alike bytes a b) where
       → question (orderQ bytes a k) (viewOf bytes a) ≡ question (orderQ bytes b k) (viewOf bytes b)
   asked-alike k question = ap₂ question (alike-order k) alike-view
 
+  -- Lookup, by its single calls
+  alike-head : head bytes a ≡ head bytes b
+  unfolding head
+  alike-head = fun-ext (λ v. asked-alike v (λ q w. triedThen q (headOf w (v - 1))))
+
+  alike-visit : visit bytes a ≡ visit bytes b
+  unfolding visit
+  alike-visit = fun-ext (λ v. asked-alike v (λ q w. triedThen q (visitOf w (v - 1))))
+
+  alike-rules : (list : List ℕ) (lent : Lists) → lookupRules bytes a list lent ≡ lookupRules bytes b list lent
+  unfolding lookupRules headAndVisit
+  alike-rules list lent = rw (alike-beside, alike-head, alike-visit)
+
+  alike-lists : (list : List ℕ) → lookupLists bytes a list ≡ lookupLists bytes b list
+  unfolding lookupLists
+  alike-lists list = rw (alike-head, alike-visit)
+
   pub alike-answers : SameAnswers bytes a b
-  unfolding parent head ancestor ancestorRules children child childRules noChild visit visited
+  unfolding parent ancestor ancestorRules children child childRules noChild visited lookup lookedUp
   alike-answers = record {
     same-parent = λ v. asked-alike v (λ q w. triedThen q (parentOf w (v - 1)));
-    same-head = λ v. asked-alike v (λ q w. triedThen q (headOf w (v - 1)));
+    same-head = λ v. ap (λ f. f v) alike-head;
     same-ancestor =
         λ u v. asked-alike u (λ q w. triedThen (q ++ ((11, outOfRange n v) ∷ [])) (ancestorOf w (u - 1) (v - 1)));
     same-children = λ v. asked-alike v (λ q w. triedThen q (answered (childCount w (v - 1))));
     same-child = λ v j. asked-alike v (λ q w.
         triedThen (q ++ ((13, pastCount w (v - 1) j) ∷ [])) (childOf w (v - 1) j));
-    same-visit = λ v. asked-alike v (λ q w. triedThen q (visitOf w (v - 1)));
+    same-visit = λ v. ap (λ f. f v) alike-visit;
     same-visited = λ i. asked-alike i (λ q w. triedThen q (visitedOf w (i - 1)));
+    same-lookup = λ list lent. ap (λ r. tried r tt) (alike-rules list lent);
+    same-lists = λ list lent. ap₂ (λ r l. bufferAfter r l lent) (alike-rules list lent) (alike-lists list);
   }

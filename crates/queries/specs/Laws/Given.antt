@@ -1,116 +1,27 @@
--- Which refusals are given: 12 alone by what is asked of a view, and 7 by no operation, since no rule has that number.
-use mathlib.Core.Path.{_≡_, refl}
-use mathlib.Core.Bool.{Bool, true, false}
-use mathlib.Core.List.{List, map}
-use mathlib.Core.Logic.{_⊎_, inl, inr}
-use mathlib.Core.Option.{none, some}
-use Prim.Native.Nat.{ℕ, zero, suc, _-_}
+-- Which refusals are given: 7 by no operation, since no rule has that number and a view is refused with 12 alone.
+use mathlib.Core.Path.{_≡_, refl, sym}
+use mathlib.Core.Bool.{false, _||_}
+use mathlib.Core.List.{List, [], _∷_, map}
+use mathlib.Core.Logic.{inl, inr}
+use Prim.Native.Nat.{ℕ, _-_}
 use native.Mathlib.Omega.{arith}
-use lib.Dec.{eqb, ltb}
-use lib.ListN.{length, getD}
-use Rattle.bits.specs.Bits.{select}
-use Rattle.graph.specs.Search.{countUp}
-use Rattle.graph.specs.Walk.{walk}
+use borrow.Author.Tests.{ne-eqb}
+use lib.Dec.{eqb}
 use Rattle.record.specs.Rules.{Rule, orderR, placeRules, layoutRules, checkRules}
 use Rattle.record.specs.Answers.{Answer, refused, answered, triedThen}
 use Rattle.record.specs.Operations.{check, degreeRules, degree, unpackRules, unpack, loopFigure}
 use Rattle.record.specs.Laws.Given.{has, never-tried, never-then}
 use Rattle.forest.specs.Operations.{buildRules, build}
-use Rattle.queries.specs.View.{View, viewOf}
-use Rattle.queries.specs.Queries.{Step, stuck, top, rise, stepUp, parentBy, parentOf, headBy, headNext, headOf}
-use Rattle.queries.specs.Queries.{ancestorBy, ancestorNext, ancestorOf, childCount, vertexOr, childOf, visitOf}
-use Rattle.queries.specs.Queries.{found, visitedOf}
+use Rattle.queries.specs.View.{viewOf}
+use Rattle.queries.specs.Queries.{childCount, childOf}
 use Rattle.queries.specs.Operations.{besideRules, orderQ, parent, head, ancestorRules, ancestor, children}
 use Rattle.queries.specs.Operations.{childRules, child, visit, visited}
 use Rattle.queries.specs.Table.{tableRules, table}
+use Rattle.queries.specs.Lookup.{Lists, headAndVisit, refusedBy, badList, lookupRules, lookup}
 use Rattle.queries.specs.Given.{NeverGiven}
-
--- ---- the answers on a view
-
--- a refusal is 12
-abbrev pub Twelve : {A : Type 0} → Answer A → Type 0
-Twelve a = (k : ℕ) → a ≡ refused k → k ≡ 12
-
-bad : {A : Type 0} → Twelve {A = A} (refused 12)
-bad k e = cc
-
-value : {A : Type 0} (a : A) → Twelve (answered a)
-value a k e = absurd (let z : _≡_ {A = ℕ} 0 1 = cc in omega arith)
-
-parent-twelve : (w : View) (u : ℕ) → Twelve (parentOf w u)
-unfolding parentOf
-parent-twelve w u = go (stepUp (w .graph) (w .marksP) u)
-  where
-    go : (s : Step) → Twelve (parentBy s)
-    go stuck = bad
-    go top = value none
-    go (rise j p) = value (some (suc p))
-
-vertex-twelve : (w : View) (v : ℕ) → Twelve (vertexOr w v)
-vertex-twelve w v = go (ltb v (length (w .graph)))
-  where
-    go : (b : Bool) → Twelve {A = ℕ} (elim b [ true ↦ answered (suc v) | false ↦ refused 12 ])
-    go true = value (suc v)
-    go false = bad
-
-pub visit-twelve : (w : View) (u : ℕ) → Twelve (visitOf w u)
-unfolding visitOf
-visit-twelve w u = vertex-twelve w (w .stored u)
-
-visited-twelve : (w : View) (k : ℕ) → Twelve (visitedOf w k)
-unfolding visitedOf
-visited-twelve w k = go (select (map (λ u. eqb (w .stored u) k) (countUp 0 (length (w .graph)))) 1)
-  where
-    go : (u : ℕ) → Twelve (found u)
-    go zero = bad
-    go (suc u) = value (suc u)
-
--- a step of a climb that stops with an answer
-data Stops {A : Type 0} : Answer A ⊎ ℕ → Type 0 where
-  stop : {a : Answer A} → Twelve a → Stops (inl a)
-  on : (u : ℕ) → Stops (inr u)
-
-walk-twelve : {A : Type 0} (next : ℕ → Answer A ⊎ ℕ) → ((v : ℕ) → Stops (next v)) → (k v : ℕ)
-    → Twelve (walk next (refused 12) k v)
-unfolding walk
-walk-twelve {A} next h zero v = go (next v) (h v)
-  where
-    go : (s : Answer A ⊎ ℕ) → Stops s → Twelve {A = A} (elim s [ inl a ↦ a | inr u ↦ refused 12 ])
-    go (inl a) (stop t) = t
-    go (inr u) (on u′) = bad
-walk-twelve {A} next h (suc k) v = go (λ u. walk-twelve next h k u) (next v) (h v)
-  where
-    go : ((u : ℕ) → Twelve (walk next (refused 12) k u)) → (s : Answer A ⊎ ℕ) → Stops s
-        → Twelve {A = A} (elim s [ inl a ↦ a | inr u ↦ walk next (refused 12) k u ])
-    go rec (inl a) (stop t) = t
-    go rec (inr u) (on u′) = rec u
-
-pub head-twelve : (w : View) (u : ℕ) → Twelve (headOf w u)
-unfolding headOf
-head-twelve w u = walk-twelve (headNext w) (λ v. step v (stepUp (w .graph) (w .marksP) v)) (length (w .graph) - 1) u
-  where
-    mark : (v p : ℕ) (b : Bool) → Stops {A = ℕ} (elim b [ true ↦ inl (answered (suc v)) | false ↦ inr p ])
-    mark v p true = stop (value (suc v))
-    mark v p false = on p
-
-    step : (v : ℕ) (s : Step) → Stops (headBy w v s)
-    step v stuck = stop bad
-    step v top = stop (value (suc v))
-    step v (rise j p) = mark v p (getD (w .marksB v) j false)
-
-ancestor-twelve : (w : View) (x u : ℕ) → Twelve (ancestorOf w x u)
-unfolding ancestorOf
-ancestor-twelve w x u =
-    walk-twelve (ancestorNext w x) (λ v. met (eqb x v) (stepUp (w .graph) (w .marksP) v)) (length (w .graph) - 1) u
-  where
-    step : (s : Step) → Stops (ancestorBy s)
-    step stuck = stop bad
-    step top = stop (value false)
-    step (rise j p) = on p
-
-    met : (b : Bool) (s : Step) → Stops {A = Bool} (elim b [ true ↦ inl (answered true) | false ↦ ancestorBy s ])
-    met true s = stop (value true)
-    met false s = step s
+use Rattle.queries.specs.Laws.Twelve.{Twelve, value, parent-twelve, head-twelve, ancestor-twelve, vertex-twelve}
+use Rattle.queries.specs.Laws.Twelve.{visit-twelve, visited-twelve}
+use Rattle.queries.specs.Laws.Looked.{both-refused}
 
 -- ---- the operations
 
@@ -119,10 +30,35 @@ not-7 : {A : Type 0} (rules : List Rule) → has 7 rules ≡ false → {a : Answ
     → triedThen rules a ≡ refused 7 → ⊥
 not-7 rules lacks {a} t = never-then rules lacks a (λ e. (let f = t 7 e in omega arith))
 
+not-7-head : (bytes index : List ℕ) (v : ℕ) → head bytes index v ≡ refused 7 → ⊥
+unfolding has besideRules orderR orderQ head
+not-7-head bytes index v = not-7 (orderQ bytes index v) refl (head-twelve (viewOf bytes index) (v - 1))
+
+not-7-visit : (bytes index : List ℕ) (v : ℕ) → visit bytes index v ≡ refused 7 → ⊥
+unfolding has besideRules orderR orderQ visit
+not-7-visit bytes index v = not-7 (orderQ bytes index v) refl (visit-twelve (viewOf bytes index) (v - 1))
+
+-- the questions of a list have not that number
+module _ (bytes index : List ℕ) where
+  asked-7 : (v : ℕ) (a : Answer (ℕ × ℕ)) → a ≡ headAndVisit bytes index v → eqb 7 (refusedBy a .0) ≡ false
+  unfolding headAndVisit refusedBy
+  asked-7 v (answered p) e = refl
+  asked-7 v (refused k) e = ne-eqb 7 k (λ z. (
+      elim (both-refused (head bytes index v) (visit bytes index v) e) [
+        | inl f ↦ not-7-head bytes index v (rw z (sym f))
+        | inr f ↦ not-7-visit bytes index v (rw z (sym f))
+      ]
+      ))
+
+  lacks-7 : (list : List ℕ) → has 7 (map (λ v. refusedBy (headAndVisit bytes index v)) list) ≡ false
+  unfolding has
+  lacks-7 [] = refl
+  lacks-7 (v ∷ list) = rw (asked-7 v (headAndVisit bytes index v) refl, lacks-7 list)
+
 pub never-seven : (bytes : List ℕ) → NeverGiven 7 bytes
 unfolding has orderR layoutRules placeRules checkRules degreeRules unpackRules buildRules besideRules orderQ
-    ancestorRules childRules tableRules check degree unpack loopFigure build parent head ancestor children child visit visited
-    table childOf visitOf
+    ancestorRules childRules tableRules lookupRules check degree unpack loopFigure build parent ancestor children child
+    visited table lookup childOf
 never-seven bytes = record {
   by-check = never-tried (checkRules bytes) refl tt;
   by-degree = λ v. never-tried (degreeRules bytes v) refl _;
@@ -130,12 +66,14 @@ never-seven bytes = record {
   by-loop-figure = never-tried (checkRules bytes) refl _;
   by-build = λ start work index. never-tried (buildRules bytes start work index) refl tt;
   by-parent = λ index v. not-7 (orderQ bytes index v) refl (parent-twelve (viewOf bytes index) (v - 1));
-  by-head = λ index v. not-7 (orderQ bytes index v) refl (head-twelve (viewOf bytes index) (v - 1));
+  by-head = not-7-head bytes;
   by-ancestor = λ index u v.
       not-7 (ancestorRules bytes index u v) refl (ancestor-twelve (viewOf bytes index) (u - 1) (v - 1));
   by-children = λ index v. not-7 (orderQ bytes index v) refl (value (childCount (viewOf bytes index) (v - 1)));
   by-child = λ index v j. not-7 (childRules bytes index v j) refl (vertex-twelve (viewOf bytes index) _);
-  by-visit = λ index v. not-7 (orderQ bytes index v) refl (visit-twelve (viewOf bytes index) (v - 1));
+  by-visit = not-7-visit bytes;
   by-visited = λ index i. not-7 (orderQ bytes index i) refl (visited-twelve (viewOf bytes index) (i - 1));
+  by-lookup = λ index list lent.
+      never-tried (lookupRules bytes index list lent) (lacks-7 bytes index list) tt;
   by-table = λ start work lent. never-tried (tableRules bytes start work lent) refl tt;
 }

@@ -6,6 +6,7 @@
 --   told-number      the refusal of a first broken rule that has a number other than 0
 --   head-cell, visit-cell    the cells of an answered terminal
 --   lookup-cells     where nothing is refused, each cell is its single call's answer
+--   lookup-unwritten where one is, the lists stay
 --   lookup-refuses-head, lookup-refuses-visit    the first refusal in list order is the answer
 --   lookup-none      a list of none is answered
 --   lookup-built     so is a list of terminals, on an index that Build writes
@@ -25,7 +26,7 @@ use Rattle.record.specs.Answers.{Answer, refused, answered, said, outcome, othe
 use Rattle.record.specs.Operations.{otherLength, outOfRange}
 use Rattle.record.specs.Laws.First.{first-broken, first-kept, append-kept, both-kept, rule-kept}
 use Rattle.record.specs.Laws.Mapped.{map-at}
-use Rattle.record.specs.Laws.Told.{told, untold, untold-back, buffer-written}
+use Rattle.record.specs.Laws.Told.{told, untold, told-back, untold-back, buffer-kept, buffer-written}
 use Rattle.queries.specs.View.{viewOf}
 use Rattle.queries.specs.Queries.{headOf, visitOf}
 use Rattle.queries.specs.Operations.{besideRules, orderQ, head, visit}
@@ -34,7 +35,7 @@ use Rattle.queries.specs.Lookup.{lookupLists, lookedUp, LookupCells, Ans
 use Rattle.queries.specs.Written.{Written, Terminal}
 use Rattle.queries.specs.Laws.Asked.{beside-numbered, beside-unbroken, order-numbered-q}
 use Rattle.queries.specs.Laws.Answered.{beside-written, head-answer, visit-answer}
-use Rattle.queries.specs.Laws.Given.{Twelve, head-twelve, visit-twelve}
+use Rattle.queries.specs.Laws.Twelve.{Twelve, head-twelve, visit-twelve}
 
 -- ---- two answers
 
@@ -238,6 +239,13 @@ module _ (bytes index list : List ℕ) (lent : Lists) where
       let (_, none) = rule-kept 14 (badList list lent) questions more in
       subst (LookupCells bytes index list) (buffer-written rules (lookupLists bytes index list) lent k)
       (record { heads-are = λ i h. head-found none h; visits-are = λ i h. visit-found none h })
+
+  pub lookup-unwritten : {k : ℕ} → lookup bytes index list lent ≡ refused k → lookedUp bytes index list lent ≡ lent
+  unfolding lookup lookedUp
+  lookup-unwritten e =
+      let rules = lookupRules bytes index list lent in
+      let (i, f, _) = told-back (firstBroken rules) tt (sym e) in
+      sym (buffer-kept rules (lookupLists bytes index list) lent f)
 
   -- once order R, 10 and 15 are kept
   module _ (b : firstBroken (besideRules bytes index) ≡ 0) (g : badList list lent ≡ false) where

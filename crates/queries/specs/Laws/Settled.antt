@@ -2,6 +2,7 @@
 --
 --   above-settles, terminal-settles, related-settles, numbered-settles    what the queries answer
 --   step-settles, move-settles, turn-settles                              one step of a climb
+--   looked-settles                                                        one terminal of a list
 use mathlib.Core.Path.{_≡_, refl, ap}
 use mathlib.Core.Bool.{Bool, true, false}
 use mathlib.Core.Logic.{_⊎_, inl, inr}
@@ -12,6 +13,7 @@ use Rattle.record.specs.Laws.Settled.{named, named-number, settled}
 use Rattle.queries.specs.Queries as Queries
 use Rattle.queries.specs.Answers.{above, terminal, related, numbered}
 use Rattle.queries.specs.Steps.{stepOf, moveOf, turnOf}
+use Rattle.queries.specs.Looking.{lookedOf}
 use Rattle.queries.specs.declared.Above.{Above}
 use Rattle.queries.specs.declared.Above.the-variants as Above
 use Rattle.queries.specs.declared.Found.{Found}
@@ -26,6 +28,8 @@ use Rattle.queries.specs.declared.climbs.Move.{Move}
 use Rattle.queries.specs.declared.climbs.Move.the-variants as Move
 use Rattle.queries.specs.declared.climbs.Turn.{Turn}
 use Rattle.queries.specs.declared.climbs.Turn.the-variants as Turn
+use Rattle.queries.specs.declared.lookups.Looked.{Looked}
+use Rattle.queries.specs.declared.lookups.Looked.the-variants as Looked
 
 -- ---- what the queries answer
 
@@ -126,3 +130,17 @@ turn-settles = settled turnOf turnBack back
     back Turn.Yes = refl
     back Turn.No = refl
     back (Turn.Up p) = refl
+
+-- ---- one terminal of a list
+
+pub lookedBack : Answer (ℕ × ℕ) → Looked
+lookedBack (answered p) = Looked.Both (record { head = p .0; visit = p .1 })
+lookedBack (refused k) = Looked.Refused (named k)
+
+pub looked-settles : (r : Looked) {a : Answer (ℕ × ℕ)} → lookedOf r ≡ a → r ≡ lookedBack a
+unfolding lookedBack
+looked-settles = settled lookedOf lookedBack back
+  where
+    back : (r : Looked) → lookedBack (lookedOf r) ≡ r
+    back (Looked.Both s) = refl
+    back (Looked.Refused r) = ap Looked.Refused (named-number r)
