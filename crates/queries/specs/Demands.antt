@@ -1,7 +1,7 @@
--- Demands 2 and 3 as theorems, and what document 02 says of the start, of doubled wires and of a list of terminals: open
--- this file first. The index is any that Build writes for the record, with any start (`Written`), and the marks are the
--- bits of that index; the answers are those of the operations, as `Operations` defines them and as the contracts of the
--- code say. Terminal v is vertex v - 1 of the graph; positions of a block count from 0, and so do cells of a list.
+-- Demands 2 and 3 as theorems, and what document 02 says of the start, of doubled wires and of a list of terminals:
+-- open this file first. The index is any that Build writes for the record, with any start (`Written`), and the marks
+-- are the bits of that index; the answers are those of the operations, as `Operations` defines them and as the contracts
+-- of the code say. Terminal v is vertex v - 1 of the graph; positions of a block and cells of a list count from 0.
 use mathlib.Core.Path.{_≡_, sym, ap, subst, _∙_}
 use mathlib.Core.Logic.{_⊎_, _↔_}
 use mathlib.Core.Bool.{Bool, true, false}

@@ -1,5 +1,5 @@
--- Document 01's lines that are marked P, all of them, as document 02 changes them, the columns of its listing, the sample
--- from another start, and lists of terminals, as one list of cases under one theorem, computed by the checker.
+-- Document 01's lines that are marked P, all of them, as document 02 changes them, the columns of its listing, the
+-- sample from another start, and lists of terminals, as one list of cases under one theorem, computed by the checker.
 use mathlib.Core.Path.{_≡_, refl}
 use mathlib.Core.List.{List, [], _∷_, _++_, map, flatten}
 use Prim.Native.Nat.{ℕ, _-_}
@@ -26,8 +26,8 @@ use Rattle.queries.specs.Lookup.{Lists, lists, both, headAndVisit, refus
 use Rattle.queries.specs.Lookup.{lookupLists, lookedUp}
 
 -- a line: blocks and their record, a record and its blocks, a record and what Check says, a record, a start and its
--- index, a record with its index and the heads of its terminals, a record, a start and its table, or a record, an index,
--- a list of terminals and two lists that are lent, with what Lookup answers and the two lists afterwards
+-- index, a record with its index and the heads of its terminals, a record, a start and its table, or a record, an
+-- index, a list of terminals and two lists that are lent, with what Lookup answers and the two lists afterwards
 pub data Line : Type 0 where
   files : Blocks → List ℕ → Line
   reads : List ℕ → Blocks → Line

@@ -1,6 +1,6 @@
 // The queries on a record and its index (document 01, "Operations and their answers"), and their answers for a list of
-// terminals and for all terminals at once. No operation of this file has a precondition: each answers for every record and index, built or
-// not, and every number.
+// terminals and for all terminals at once. No operation of this file has a precondition: each answers for every record
+// and index, built or not, and every number.
 ghost use mathlib.Core.Path.{_≡_};
 ghost use Rattle.record.specs.Answers.{counted, verdict};
 ghost use Rattle.queries.specs.Answers.{above, terminal, related, numbered};
@@ -154,10 +154,16 @@ pub fn visited(bytes: &[u8], index: &[u8], i: Dfi) -> Found
     }
 }
 
-// Lookup: what Head and Visit answer for each terminal of a list, cell i for the list's terminal i. The rules are tried
-// once for all of them, and then the terminals in list order, Head before Visit. A refused call leaves the lists as they
-// were.
-pub fn lookup(bytes: &[u8], index: &[u8], list: &[u16], heads: &mut [u16], visits: &mut [u16]) -> Verdict
+// Lookup: what Head and Visit answer for each terminal of a list, cell i for the list's terminal i. Order R, 10 and 15
+// are tried once for all of them, and then the terminals in list order, Head before Visit. A refused call leaves the
+// lists as they were.
+pub fn lookup(
+    bytes: &[u8],
+    index: &[u8],
+    list: &[u16],
+    heads: &mut [u16],
+    visits: &mut [u16],
+) -> Verdict
     ensures { λ r. ⌜ LookupDone (now (bytes .entry)) (now (index .entry)) (now (list .entry))
         (lists (now (heads .entry)) (now (visits .entry)))
         (lists (now (heads .exit)) (now (visits .exit)))

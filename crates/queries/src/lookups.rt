@@ -80,7 +80,10 @@ fn look(
         Found::Terminal(h) => {
             match visit_in(bytes, index, n, m, v) {
                 Numbered::Refused(r) => Looked::Refused(r),
-                Numbered::Number(i) => Looked::Both(Seen { head: h.0, visit: i.0 }),
+                Numbered::Number(i) => Looked::Both(Seen {
+                    head: h.0,
+                    visit: i.0,
+                }),
             }
         }
     }
@@ -152,6 +155,8 @@ fn lookup_by(
         × (length (now way) ≡ n)
         × (length (now first) ≡ length (now list))
         × (length (now second) ≡ length (now list))
+        × (length (now heads) ≡ length (now list))
+        × (length (now visits) ≡ length (now list))
         ⌝ }
     ensures { λ r. ⌜ LookupDone (now (bytes .entry)) (now (index .entry)) (now (list .entry))
         (lists (now (heads .entry)) (now (visits .entry)))

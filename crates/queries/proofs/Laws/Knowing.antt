@@ -41,8 +41,10 @@ module _ {way : List ℕ} {i h : ℕ} {before found : List ℕ} (k : Kept way i 
           → (getD after u 0 ≡ getD before u 0) ⊎ ((getD after u 0 ≡ h) × OnWay way (i + 1) u)
       cell u (yes q) =
           let s = k .size in
-          inr (ap (λ (t : List ℕ). getD t u 0) e ∙ cell-same found h q (omega arith),
-          record { at = i; before = omega arith; is = sym q })
+          inr (
+            ap (λ (t : List ℕ). getD t u 0) e ∙ cell-same found h q (omega arith),
+            record { at = i; before = omega arith; is = sym q },
+          )
       cell u (no q) =
           let same = ap (λ (t : List ℕ). getD t u 0) e ∙ cell-other found h q in
           elim (k .cells u) [

@@ -69,32 +69,32 @@ eleventh bytes k = (11, outOfRange (terminals bytes) k) ∷ []
 
 -- r is what order R and rule 10 hand on
 module _ (bytes index : List ℕ) (k : ℕ) {r : Shape} (e : shape r ≡ tried (besideRules bytes index) (sizesOf bytes))
-    where
-  pub beside-refused : {q : Refusal} → r ≡ Shape.Refused q
-      → refused (number q) ≡ tried (orderQ bytes index k) (sizesOf bytes)
-  unfolding orderQ
-  beside-refused f =
-      told-append (besideRules bytes index) (eleventh bytes k) (sizesOf bytes) (sizesOf bytes) (sym (ap shape f) ∙ e)
-
-  -- t is the test of the number
-  module _ {s : Sizes} (f : r ≡ Shape.Passed s) {t : Bool} (g : t ≡ outOfRange (s .n) k) where
-    passed : answered s ≡ tried (besideRules bytes index) (sizesOf bytes)
-    passed = sym (ap shape f) ∙ e
-
-    last-told : firstBroken (orderQ bytes index k) ≡ firstBroken ((11, t) ∷ [])
+  where
+    pub beside-refused : {q : Refusal} → r ≡ Shape.Refused q
+        → refused (number q) ≡ tried (orderQ bytes index k) (sizesOf bytes)
     unfolding orderQ
-    last-told =
-        let kept = untold-back (firstBroken (besideRules bytes index)) (sizesOf bytes) passed .0 in
-        let b : Beside bytes index (s .n) (s .m) = beside-told bytes index passed in
-        let test = ap (λ (y : ℕ). outOfRange y k) (sym (b .sound .is-n)) ∙ sym g in
-        append-kept (beside-numbered bytes index) (eleventh bytes k) kept
-        ∙ ap (λ (b : Bool). firstBroken ((11, b) ∷ [])) test
+    beside-refused f =
+        told-append (besideRules bytes index) (eleventh bytes k) (sizesOf bytes) (sizesOf bytes) (sym (ap shape f) ∙ e)
 
-    pub number-outside : t ≡ true → refused 11 ≡ tried (orderQ bytes index k) (sizesOf bytes)
-    number-outside o = told (sizesOf bytes) (last-told ∙ first-broken 11 [] o)
+    -- t is the test of the number
+    module _ {s : Sizes} (f : r ≡ Shape.Passed s) {t : Bool} (g : t ≡ outOfRange (s .n) k) where
+      passed : answered s ≡ tried (besideRules bytes index) (sizesOf bytes)
+      passed = sym (ap shape f) ∙ e
 
-    pub order-passed : t ≡ false → answered s ≡ tried (orderQ bytes index k) (sizesOf bytes)
-    unfolding firstBroken
-    order-passed i =
-        let (_, q) = untold-back (firstBroken (besideRules bytes index)) (sizesOf bytes) passed in
-        ap answered q ∙ untold (sizesOf bytes) (last-told ∙ first-kept 11 [] i)
+      last-told : firstBroken (orderQ bytes index k) ≡ firstBroken ((11, t) ∷ [])
+      unfolding orderQ
+      last-told =
+          let kept = untold-back (firstBroken (besideRules bytes index)) (sizesOf bytes) passed .0 in
+          let b : Beside bytes index (s .n) (s .m) = beside-told bytes index passed in
+          let test = ap (λ (y : ℕ). outOfRange y k) (sym (b .sound .is-n)) ∙ sym g in
+          append-kept (beside-numbered bytes index) (eleventh bytes k) kept
+          ∙ ap (λ (b : Bool). firstBroken ((11, b) ∷ [])) test
+
+      pub number-outside : t ≡ true → refused 11 ≡ tried (orderQ bytes index k) (sizesOf bytes)
+      number-outside o = told (sizesOf bytes) (last-told ∙ first-broken 11 [] o)
+
+      pub order-passed : t ≡ false → answered s ≡ tried (orderQ bytes index k) (sizesOf bytes)
+      unfolding firstBroken
+      order-passed i =
+          let (_, q) = untold-back (firstBroken (besideRules bytes index)) (sizesOf bytes) passed in
+          ap answered q ∙ untold (sizesOf bytes) (last-told ∙ first-kept 11 [] i)

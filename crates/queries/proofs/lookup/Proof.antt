@@ -14,9 +14,10 @@ begin c = c .before .before .before .before .before .before
 
 lookup-in-requires : tie.Need-lookup-in-requires
 lookup-in-requires c κs =
-    let o = c .before .before .before .before .before in
+    let case = c .before .before .before in
+    let o = case .before .before in
     let a = begin o .args in
-    beside-told (a .bytes .now) (a .index .now) (sym (ap shape (c .before .before .before .s .given .1)) ∙ o .beside .ensures)
+    beside-told (a .bytes .now) (a .index .now) (sym (ap shape (case .s .given .1)) ∙ o .beside .ensures)
 
 returns : tie.Need-returns
 returns c =

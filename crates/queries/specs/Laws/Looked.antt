@@ -44,7 +44,8 @@ module _ {A B : Type 0} where
   unfolding both
   both-first b e = ap (λ x. both x b) e
 
-  pub both-second : {x : A} {k : ℕ} {a : Answer A} {b : Answer B} → answered x ≡ a → refused k ≡ b → refused k ≡ both a b
+  pub both-second : {x : A} {k : ℕ} {a : Answer A} {b : Answer B} → answered x ≡ a → refused k ≡ b
+      → refused k ≡ both a b
   unfolding both
   both-second e f = rw (← e, ← f)
 
@@ -259,23 +260,24 @@ module _ (bytes index list : List ℕ) (lent : Lists) where
     both-answered a = ((a .its-head, a .its-visit), both-values (sym (a .head-is)) (sym (a .visit-is)))
 
     module _ {i : ℕ} (h : i < length list) (before : (j : ℕ) → j < i → Answers bytes index (getD list j 0)) {k : ℕ}
-        where
-      stops : refused k ≡ headAndVisit bytes index (getD list i 0) → lookup bytes index list lent ≡ refused k
-      unfolding lookup
-      stops e =
-          let ask = headAndVisit bytes index in
-          let left = questions-left ∙ passed-to ask list i (omega arith) (λ j l. both-answered (before j l)) in
-          sym (told-number (firstBroken (lookupRules bytes index list lent)) tt (left ∙ asked-refused ask list h e)
-          (both-some bytes index (getD list i 0) k e))
+      where
+        stops : refused k ≡ headAndVisit bytes index (getD list i 0) → lookup bytes index list lent ≡ refused k
+        unfolding lookup
+        stops e =
+            let ask = headAndVisit bytes index in
+            let left = questions-left ∙ passed-to ask list i (omega arith) (λ j l. both-answered (before j l)) in
+            sym (told-number (firstBroken (lookupRules bytes index list lent)) tt (left ∙ asked-refused ask list h e)
+            (both-some bytes index (getD list i 0) k e))
 
-      pub lookup-refuses-head : head bytes index (getD list i 0) ≡ refused k → lookup bytes index list lent ≡ refused k
-      unfolding headAndVisit
-      lookup-refuses-head e = stops (both-first (visit bytes index (getD list i 0)) (sym e))
+        pub lookup-refuses-head : head bytes index (getD list i 0) ≡ refused k
+            → lookup bytes index list lent ≡ refused k
+        unfolding headAndVisit
+        lookup-refuses-head e = stops (both-first (visit bytes index (getD list i 0)) (sym e))
 
-      pub lookup-refuses-visit : {x : ℕ} → head bytes index (getD list i 0) ≡ answered x
-          → visit bytes index (getD list i 0) ≡ refused k → lookup bytes index list lent ≡ refused k
-      unfolding headAndVisit
-      lookup-refuses-visit e f = stops (both-second (sym e) (sym f))
+        pub lookup-refuses-visit : {x : ℕ} → head bytes index (getD list i 0) ≡ answered x
+            → visit bytes index (getD list i 0) ≡ refused k → lookup bytes index list lent ≡ refused k
+        unfolding headAndVisit
+        lookup-refuses-visit e f = stops (both-second (sym e) (sym f))
 
     pub lookup-answers : ((i : ℕ) → i < length list → Answers bytes index (getD list i 0))
         → lookup bytes index list lent ≡ answered tt

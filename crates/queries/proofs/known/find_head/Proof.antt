@@ -78,99 +78,150 @@ told : (c : Moved) {r : Move} → c .head-move .result ≡ r
 told c e = sym (ap (moveOf (place (put c) .loop .u)) e) ∙ c .head-move .ensures
 
 -- it stops here
-stopped : (c : Moved) → inl (answered (suc (place (put c) .loop .u))) ≡ headNext (view (place (put c))) (place (put c) .loop .u)
+stopped : (c : Moved)
+    → inl (answered (suc (place (put c) .loop .u))) ≡ headNext (view (place (put c))) (place (put c) .loop .u)
     → HeadIs (view (place (put c))) (place (put c) .loop .u) (place (put c) .loop .u + 1)
 stopped c e = head-here (ap (λ (x : ℕ). inl (answered x)) (add-one (place (put c) .loop .u)) ∙ e)
 
 -- ---- the answers
 
 loop-holds : tie.Need-loop-holds Inv-loop μ-loop
-loop-holds c = climbed-begins (c .before .before .before .before .before .pre .0) (c .before .before .before .before .before .pre .2) (c .before .before .before .before .before .pre .3) (c .before .before .before .before .before .pre .4)
+loop-holds c =
+    let start = c .before .before .before .before .before in
+    climbed-begins (start .pre .0) (start .pre .2) (start .pre .3) (start .pre .4)
 
 get-requires : tie.Need-get-requires Inv-loop μ-loop
-get-requires c κs = omega (arith, c .before .before .loop .inv .along .inside, c .before .before .loop .inv .heads .size)
+get-requires c κs =
+    let at = c .before .before in
+    omega (arith, at .loop .inv .along .inside, at .loop .inv .heads .size)
 
 keep-requires : tie.Need-keep-requires Inv-loop μ-loop
 keep-requires c κs =
-    let (a, b) = way-lent (c .before .before .before .before .before .before .loop .inv .along) (c .before .before .before .before .before .before .loop .inv .heads) (omega (arith, c .before .before .before .before .before .loop-test .taken)) in
-    (a, b, c .before .before .before .get .ensures .1)
+    let got = c .before .before .before in
+    let turn = got .before .before in
+    let at = turn .before in
+    let (a, b) = way-lent (at .loop .inv .along) (at .loop .inv .heads) (omega (arith, turn .loop-test .taken)) in
+    (a, b, got .get .ensures .1)
 
 same-length : tie.Need-same-length Inv-loop μ-loop
-same-length c = c .before .before .keep .ensures .size ∙ known-long (c .before .before .before .before .before .before .before .before .before)
+same-length c =
+    let at = c .before .before .before .before .before .before .before .before .before in
+    c .before .before .keep .ensures .size ∙ known-long at
 
 same-length-2 : tie.Need-same-length-2 Inv-loop μ-loop
-same-length-2 c = c .before .before .before .before .before .before .before .before .before .loop .inv .along .size ∙ sym (c .before .before .before .before .before .before .before .before .before .before .before .before .before .before .before .pre .3)
+same-length-2 c =
+    let at = c .before .before .before .before .before .before .before .before .before in
+    let start = begin at in
+    at .loop .inv .along .size ∙ sym (start .pre .3)
 
 returns : tie.Need-returns Inv-loop μ-loop
 returns c =
-    let at = c .before .before .before .before .before .before .before .before .before in
-    let is = climbed-known (at .loop .inv) (c .before .before .before .before .before .before .get .ensures .0) (c .before .before .before .before .before .if1 .taken) in
-    (way-head (at .loop .inv .along) is (vertices at) (begin at .pre .4),
-    way-kept (at .loop .inv .along) is (at .loop .inv .heads) (c .before .before .keep .ensures))
+    let test = c .before .before .before .before .before in
+    let got = test .before in
+    let at = got .before .before .before in
+    let is = climbed-known (at .loop .inv) (got .get .ensures .0) (test .if1 .taken) in (
+      way-head (at .loop .inv .along) is (vertices at) (begin at .pre .4),
+      way-kept (at .loop .inv .along) is (at .loop .inv .heads) (c .before .before .keep .ensures),
+    )
 
 put-requires : tie.Need-put-requires Inv-loop μ-loop
 put-requires c κs =
-    let at = c .before .before .before .before .before in
+    let turn = c .before .before .before .before in
+    let at = turn .before in
     let s = at .loop .inv .along .size in
     let u = near at in
-    (omega (arith, c .before .before .before .before .loop-test .taken), omega arith)
+    (omega (arith, turn .loop-test .taken), omega arith)
 
 add-k : tie.Need-add-k Inv-loop μ-loop
-add-k c = omega (arith, c .before .before .before .before .before .before .before .loop-test .taken, c .before .before .before .before .before .before .before .before .before .before .before .before .before .before .pre .0 .framed .n-fits)
+add-k c =
+    let turn = c .before .before .before .before .before .before .before in
+    let start = turn .before .before .before .before .before .before .before in
+    omega (arith, turn .loop-test .taken, start .pre .0 .framed .n-fits)
 
 head-move-requires : tie.Need-head-move-requires Inv-loop μ-loop
-head-move-requires c κs = (c .before .before .before .before .before .before .before .before .before .before .before .before .before .before .pre .0, c .before .before .before .before .before .before .before .before .before .before .before .before .before .before .pre .1, c .before .before .before .before .before .before .before .before .loop .inv .along .inside)
+head-move-requires c κs =
+    let at = c .before .before .before .before .before .before .before .before in
+    let start = begin at in
+    (start .pre .0, start .pre .1, at .loop .inv .along .inside)
 
 same-length-3 : tie.Need-same-length-3 Inv-loop μ-loop
-same-length-3 c = known-long (c .before .before .before .before .before .before .before .before .before .before .before)
+same-length-3 c =
+    let at = c .before .before .before .before .before .before .before .before .before .before .before in
+    known-long at
 
 same-length-4 : tie.Need-same-length-4 Inv-loop μ-loop
-same-length-4 c = along (c .before .before .before .before .before) .size ∙ sym (c .before .before .before .before .before .before .before .before .before .before .before .before .before .before .before .before .before .pre .3)
+same-length-4 c =
+    let stored = c .before .before .before .before .before in
+    let start = begin (place stored) in
+    along stored .size ∙ sym (start .pre .3)
 
 returns-2 : tie.Need-returns-2 Inv-loop μ-loop
 returns-2 c =
-    let at = c .before .before .before .before .before .before .before .before .before .before .before in
-    (climbed-stops (at .loop .inv) (below (c .before .before .before .before .before)) (told (c .before .before) (c .enum-told .given .1)), at .loop .inv .heads)
+    let stored = c .before .before .before .before .before in
+    let at = place stored in
+    let stop = told (c .before .before) (c .enum-told .given .1) in
+    (climbed-stops (at .loop .inv) (below stored) stop, at .loop .inv .heads)
 
 add-keep : tie.Need-add-keep Inv-loop μ-loop
-add-keep c = omega (arith, near (c .before .before .before .before .before .before .before .before .before .before .before .before .before))
+add-keep c =
+    let stored = c .before .before .before .before .before .before .before in
+    omega (arith, near (place stored))
 
 keep-requires-2 : tie.Need-keep-requires-2 Inv-loop μ-loop
 keep-requires-2 c κs =
-    let (a, b) = way-lent (along (c .before .before .before .before .before .before .before)) (c .before .before .before .before .before .before .before .before .before .before .before .before .before .loop .inv .heads) (omega (arith, below (c .before .before .before .before .before .before .before))) in
-    (a, b, near (c .before .before .before .before .before .before .before .before .before .before .before .before .before))
+    let stored = c .before .before .before .before .before .before .before in
+    let at = place stored in
+    let (a, b) = way-lent (along stored) (at .loop .inv .heads) (omega (arith, below stored)) in
+    (a, b, near at)
 
 add-t32 : tie.Need-add-t32 Inv-loop μ-loop
-add-t32 c = omega (arith, near (c .before .before .before .before .before .before .before .before .before .before .before .before .before .before .before .before))
+add-t32 c =
+    let stored = c .before .before .before .before .before .before .before .before .before .before in
+    omega (arith, near (place stored))
 
 same-length-5 : tie.Need-same-length-5 Inv-loop μ-loop
-same-length-5 c = c .before .before .keep2 .ensures .size ∙ known-long (c .before .before .before .before .before .before .before .before .before .before .before .before .before .before .before .before)
+same-length-5 c =
+    let stored = c .before .before .before .before .before .before .before .before .before .before in
+    c .before .before .keep2 .ensures .size ∙ known-long (place stored)
 
 same-length-6 : tie.Need-same-length-6 Inv-loop μ-loop
-same-length-6 c = along (c .before .before .before .before .before .before .before .before .before .before) .size ∙ sym (c .before .before .before .before .before .before .before .before .before .before .before .before .before .before .before .before .before .before .before .before .before .before .pre .3)
+same-length-6 c =
+    let stored = c .before .before .before .before .before .before .before .before .before .before in
+    let start = begin (place stored) in
+    along stored .size ∙ sym (start .pre .3)
 
 returns-3 : tie.Need-returns-3 Inv-loop μ-loop
 returns-3 c =
-    let at = c .before .before .before .before .before .before .before .before .before .before .before .before .before .before .before .before in
-    let is = stopped (c .before .before .before .before .before .before .before) (told (c .before .before .before .before .before .before .before) (c .before .before .before .before .before .enum-told2 .given .1)) in
-    (way-head (along (c .before .before .before .before .before .before .before .before .before .before)) is (vertices at) (begin at .pre .4),
-    way-kept (along (c .before .before .before .before .before .before .before .before .before .before)) is (at .loop .inv .heads) (c .before .before .keep2 .ensures))
+    let case = c .before .before .before .before .before in
+    let moved = case .before .before in
+    let stored = put moved in
+    let at = place stored in
+    let is = stopped moved (told moved (case .enum-told2 .given .1)) in (
+      way-head (along stored) is (vertices at) (begin at .pre .4),
+      way-kept (along stored) is (at .loop .inv .heads) (c .before .before .keep2 .ensures),
+    )
 
 loop-less : tie.Need-loop-less Inv-loop μ-loop
-loop-less c = omega (arith, c .before .before .before .before .before .before .before .before .before .before .before .loop-test .taken)
+loop-less c =
+    let turn = c .before .before .before .before .before .before .before .before .before .before .before in
+    omega (arith, turn .loop-test .taken)
 
 loop-again : tie.Need-loop-again Inv-loop μ-loop
 loop-again c =
-    let at = c .before .before .before .before .before .before .before .before .before .before .before .before in
-    let e = told (c .before .before .before) (c .before .p .given .1) in
+    let moved = c .before .before .before in
+    let stored = put moved in
+    let at = place stored in
+    let e = told moved (c .before .p .given .1) in
     let inside = head-inside (view at) (at .loop .u) e in
-    climbed-on (at .loop .inv) (below (c .before .before .before .before .before .before)) (c .before .before .before .before .before .before .put .ensures) e (omega (arith, inside, vertices at))
+    climbed-on (at .loop .inv) (below stored) (stored .put .ensures) e (omega (arith, inside, vertices at))
 
 same-length-7 : tie.Need-same-length-7 Inv-loop μ-loop
 same-length-7 c = known-long (c .before)
 
 same-length-8 : tie.Need-same-length-8 Inv-loop μ-loop
-same-length-8 c = c .before .loop .inv .along .size ∙ sym (c .before .before .before .before .before .before .before .pre .3)
+same-length-8 c =
+    let start = c .before .before .before .before .before .before .before in
+    c .before .loop .inv .along .size ∙ sym (start .pre .3)
 
 returns-4 : tie.Need-returns-4 Inv-loop μ-loop
 returns-4 c = (climbed-late (c .before .loop .inv) (c .loop-test .left), c .before .loop .inv .heads)

@@ -15,35 +15,51 @@ abbrev μ-loop : tie.MeasureT-loop
 μ-loop known₀ way k h i₀ known i = k - i
 
 loop-holds : tie.Need-loop-holds Inv-loop μ-loop
-loop-holds c = (omega arith, keep-none (c .before .before .args .way .now) (c .before .before .args .h) (c .before .before .args .known .now))
+loop-holds c =
+    let start = c .before .before in
+    (omega arith, keep-none (start .args .way .now) (start .args .h) (start .args .known .now))
 
--- the vertex at hand
 get-requires : tie.Need-get-requires Inv-loop μ-loop
 get-requires c κs = omega (arith, c .before .before .before .before .before .pre .0, c .before .loop-test .taken)
 
 put-requires : tie.Need-put-requires Inv-loop μ-loop
 put-requires c κs =
-    let vertex = c .before .before .before .before .before .before .pre .1 (c .before .before .before .loop .i) (c .before .before .loop-test .taken) in
-    (omega (arith, vertex, c .before .before .before .loop .inv .1 .size, c .get .ensures .0), c .before .before .before .before .before .before .pre .2)
+    let at = c .before .before .before in
+    let start = at .before .before .before in
+    let vertex = start .pre .1 (at .loop .i) (c .before .before .loop-test .taken) in
+    (omega (arith, vertex, at .loop .inv .1 .size, c .get .ensures .0), start .pre .2)
 
 add-i : tie.Need-add-i Inv-loop μ-loop
-add-i c = omega (arith, c .before .before .before .before .before .loop-test .taken)
+add-i c =
+    let turn = c .before .before .before .before .before in
+    omega (arith, turn .loop-test .taken)
 
 loop-less : tie.Need-loop-less Inv-loop μ-loop
-loop-less c = omega (arith, c .before .before .before .before .before .loop-test .taken)
+loop-less c =
+    let turn = c .before .before .before .before .before in
+    omega (arith, turn .loop-test .taken)
 
 loop-again : tie.Need-loop-again Inv-loop μ-loop
 loop-again c =
-    let vertex = c .before .before .before .before .before .before .before .before .before .pre .1 (c .before .before .before .before .before .before .loop .i) (c .before .before .before .before .before .loop-test .taken) in
-    (omega (arith, c .before .before .before .before .before .loop-test .taken), keep-one (c .before .before .before .before .before .before .loop .inv .1) (c .before .before .put .ensures ∙ ap (λ (x : ℕ). set (c .before .before .before .before .before .before .loop .known) x (c .before .before .before .before .before .before .before .before .before .args .h)) (c .before .before .before .get .ensures .0)) vertex)
+    let got = c .before .before .before in
+    let turn = got .before .before in
+    let at = turn .before in
+    let start = at .before .before .before in
+    let vertex = start .pre .1 (at .loop .i) (turn .loop-test .taken) in
+    let cell = ap (λ (x : ℕ). set (at .loop .known) x (start .args .h)) (got .get .ensures .0) in (
+      omega (arith, turn .loop-test .taken),
+      keep-one (at .loop .inv .1) (c .before .before .put .ensures ∙ cell) vertex,
+    )
 
 same-length : tie.Need-same-length Inv-loop μ-loop
 same-length c = c .before .loop .inv .1 .size
 
 returns : tie.Need-returns Inv-loop μ-loop
 returns c =
-    let z : c .before .loop .i ≡ c .before .before .before .before .args .k = omega (arith, c .before .loop .inv .0, c .loop-test .left) in
-    subst (λ (x : ℕ). Kept (c .before .before .before .before .args .way .now) x (c .before .before .before .before .args .h) (c .before .before .before .before .args .known .now) (c .before .loop .known)) z (c .before .loop .inv .1)
+    let at = c .before in
+    let a = at .before .before .before .args in
+    let z : at .loop .i ≡ a .k = omega (arith, at .loop .inv .0, c .loop-test .left) in
+    subst (λ (x : ℕ). Kept (a .way .now) x (a .h) (a .known .now) (at .loop .known)) z (at .loop .inv .1)
 
 pub keep-spec : {M : Type 1} → statement M
 keep-spec =

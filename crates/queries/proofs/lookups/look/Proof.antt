@@ -45,15 +45,22 @@ returns c =
     (outside-told (s .pre .0) (s .args .v .0) (sym (c .before .out-of-range .ensures) ∙ c .if1 .taken), s .pre .2)
 
 sub-find-head : tie.Need-sub-find-head
-sub-find-head c = omega (arith, ranged (c .before .before .before .before) (c .before .before .before .if1 .left) .some)
+sub-find-head c =
+    let test = c .before .before .before in
+    let call = test .before in
+    omega (arith, ranged call (test .if1 .left) .some)
 
 find-head-requires : tie.Need-find-head-requires
 find-head-requires c κs =
-    let s = begin (c .before .before .before .before) in
-    (s .pre .0, s .pre .1, s .pre .2, s .pre .3, vertex-in (ranged (c .before .before .before .before) (c .before .before .before .if1 .left)))
+    let test = c .before .before .before in
+    let call = test .before in
+    let s = begin call in
+    (s .pre .0, s .pre .1, s .pre .2, s .pre .3, vertex-in (ranged call (test .if1 .left)))
 
 visit-in-requires : tie.Need-visit-in-requires
-visit-in-requires c κs = (begin (tested (c .before .before .before .before .before .before .before)) .pre .0, inside (c .before .before .before .before .before .before .before))
+visit-in-requires c κs =
+    let found = c .before .before .before .before .before .before .before in
+    (begin (tested found) .pre .0, inside found)
 
 returns-2 : tie.Need-returns-2
 returns-2 c =
@@ -63,17 +70,21 @@ returns-2 c =
 
 returns-3 : tie.Need-returns-3
 returns-3 c =
-    let f = c .before .before .before .before .before .before .before .before .before .before .before in
+    let visited = c .before .before .before in
+    let up = visited .before .before in
+    let f = up .before .before .before .before .before .before in
     let s = begin (tested f) in
-    let visit = sym (ap numbered (c .before .r2 .given .1)) ∙ c .before .before .before .visit-in .ensures in
-    (visit-refused (s .pre .0) (s .args .v .0) (inside f) (told f (c .before .before .before .before .before .h .given .1)) visit, f .find-head .ensures .1)
+    let visit = sym (ap numbered (c .before .r2 .given .1)) ∙ visited .visit-in .ensures in
+    (visit-refused (s .pre .0) (s .args .v .0) (inside f) (told f (up .h .given .1)) visit, f .find-head .ensures .1)
 
 returns-4 : tie.Need-returns-4
 returns-4 c =
-    let f = c .before .before .before .before .before .before .before .before .before .before .before in
+    let visited = c .before .before .before in
+    let up = visited .before .before in
+    let f = up .before .before .before .before .before .before in
     let s = begin (tested f) in
-    let visit = sym (ap numbered (c .before .i .given .1)) ∙ c .before .before .before .visit-in .ensures in
-    (both-told (s .pre .0) (s .args .v .0) (inside f) (told f (c .before .before .before .before .before .h .given .1)) visit, f .find-head .ensures .1)
+    let visit = sym (ap numbered (c .before .i .given .1)) ∙ visited .visit-in .ensures in
+    (both-told (s .pre .0) (s .args .v .0) (inside f) (told f (up .h .given .1)) visit, f .find-head .ensures .1)
 
 pub look-spec : {M : Type 1} → statement M
 look-spec =

@@ -67,23 +67,42 @@ way-long c = c .look .kept .1 .1 .1 .1 .1 .1 .0 ∙ place c .loop .inv .1
 
 loop-holds : tie.Need-loop-holds Inv-loop μ-loop
 loop-holds c =
-    let a = c .before .before .before .before .before .before .before .before .args in
-    (c .before .before .before .before .before .before .before .before .pre .2, c .before .before .before .before .before .before .before .before .pre .3, looking-begins (a .bytes .now) (a .index .now) (a .list .now) (c .before .before .before .before .before .before .before .before .pre .4) (c .before .before .before .before .before .before .before .before .pre .5))
+    let start = c .before .before .before .before .before .before .before .before in
+    let a = start .args in (
+      start .pre .2,
+      start .pre .3,
+      looking-begins (a .bytes .now) (a .index .now) (a .list .now) (start .pre .4) (start .pre .5),
+    )
 
 look-requires : tie.Need-look-requires Inv-loop μ-loop
-look-requires c κs = (c .before .before .before .before .before .before .before .before .before .before .before .before .before .pre .0, c .before .before .before .before .before .before .before .before .before .before .before .before .before .pre .1, c .before .before .before .before .loop .inv .0, c .before .before .before .before .loop .inv .1)
+look-requires c κs =
+    let at = c .before .before .before .before in
+    let start = begin at in
+    (start .pre .0, start .pre .1, at .loop .inv .0, at .loop .inv .1)
 
 same-length : tie.Need-same-length Inv-loop μ-loop
-same-length c = c .before .before .before .before .before .before .before .look .ensures .1 .size ∙ sym (c .before .before .before .before .before .before .before .before .before .before .before .before .before .before .before .before .before .before .before .before .before .pre .2 .size)
+same-length c =
+    let looked = c .before .before .before .before .before .before .before in
+    let start = begin (place looked) in
+    looked .look .ensures .1 .size ∙ sym (start .pre .2 .size)
 
 same-length-2 : tie.Need-same-length-2 Inv-loop μ-loop
-same-length-2 c = way-long (c .before .before .before .before .before .before .before) ∙ sym (c .before .before .before .before .before .before .before .before .before .before .before .before .before .before .before .before .before .before .before .before .before .pre .3)
+same-length-2 c =
+    let looked = c .before .before .before .before .before .before .before in
+    let start = begin (place looked) in
+    way-long looked ∙ sym (start .pre .3)
 
 same-length-3 : tie.Need-same-length-3 Inv-loop μ-loop
-same-length-3 c = heads-long (c .before .before .before .before .before .before .before .before .before .before .before .before) ∙ sym (c .before .before .before .before .before .before .before .before .before .before .before .before .before .before .before .before .before .before .before .before .before .pre .4)
+same-length-3 c =
+    let at = c .before .before .before .before .before .before .before .before .before .before .before .before in
+    let start = begin at in
+    heads-long at ∙ sym (start .pre .4)
 
 same-length-4 : tie.Need-same-length-4 Inv-loop μ-loop
-same-length-4 c = visits-long (c .before .before .before .before .before .before .before .before .before .before .before .before) ∙ sym (c .before .before .before .before .before .before .before .before .before .before .before .before .before .before .before .before .before .before .before .before .before .pre .5)
+same-length-4 c =
+    let at = c .before .before .before .before .before .before .before .before .before .before .before .before in
+    let start = begin at in
+    visits-long at ∙ sym (start .pre .5)
 
 returns : tie.Need-returns Inv-loop μ-loop
 returns c =
@@ -101,37 +120,57 @@ put-requires c κs =
 
 put-requires-2 : tie.Need-put-requires-2 Inv-loop μ-loop
 put-requires-2 c κs =
-    let l = c .before .before .before .before .before .before .before .before .before .before .before .before in
+    let case = c .before .before .before .before .before .before in
+    let l = case .before .before .before .before .before .before in
     let a = begin (place l) .args in
-    let near = both-near (a .bytes .now) (a .index .now) _ (told l (c .before .before .before .before .before .before .s .given .1)) in
+    let near = both-near (a .bytes .now) (a .index .now) _ (told l (case .s .given .1)) in
     (omega (arith, inside l, visits-long (place l)), near .1)
 
 add-i : tie.Need-add-i Inv-loop μ-loop
-add-i c = omega (arith, inside (c .before .before .before .before .before .before .before .before .before .before .before .before .before .before .before), c .before .before .before .before .before .before .before .before .before .before .before .before .before .before .before .before .before .before .before .before .before .before .before .before .before .before .before .before .before .good .1 .1 .1 .1 .1 .1 .1 .0 .0)
+add-i c =
+    let looked =
+    c .before .before .before .before .before .before .before .before
+    .before .before .before .before .before .before .before in
+    let start = begin (place looked) in
+    omega (arith, inside looked, start .good .1 .1 .1 .1 .1 .1 .1 .0 .0)
 
 loop-less : tie.Need-loop-less Inv-loop μ-loop
-loop-less c = omega (arith, inside (c .before .before .before .before .before .before .before .before .before .before .before .before .before .before .before))
+loop-less c =
+    let looked =
+    c .before .before .before .before .before .before .before .before
+    .before .before .before .before .before .before .before in
+    omega (arith, inside looked)
 
 loop-again : tie.Need-loop-again Inv-loop μ-loop
 loop-again c =
-    let l = c .before .before .before .before .before .before .before .before .before .before .before .before .before .before .before in
+    let stored = c .before .before .before .before .before .before in
+    let case = stored .before .before .before in
+    let l = case .before .before .before .before .before .before in
     let a = begin (place l) .args in
-    let e = told l (c .before .before .before .before .before .before .before .before .before .s .given .1) in
-    (l .look .ensures .1, way-long l,
-    looking-on (a .bytes .now) (a .index .now) (a .list .now) (place l .loop .inv .2) (inside l) e (c .before .before .before .before .before .before .put .ensures)
-    (c .before .before .put2 .ensures))
+    let e = told l (case .s .given .1) in (
+      l .look .ensures .1,
+      way-long l,
+      looking-on (a .bytes .now) (a .index .now) (a .list .now) (place l .loop .inv .2) (inside l) e
+          (stored .put .ensures) (c .before .before .put2 .ensures),
+    )
 
 same-length-5 : tie.Need-same-length-5 Inv-loop μ-loop
 same-length-5 c = known-long (c .before)
 
 same-length-6 : tie.Need-same-length-6 Inv-loop μ-loop
-same-length-6 c = c .before .loop .inv .1 ∙ sym (c .before .before .before .before .before .before .before .before .before .before .pre .3)
+same-length-6 c =
+    let start = c .before .before .before .before .before .before .before .before .before .before in
+    c .before .loop .inv .1 ∙ sym (start .pre .3)
 
 same-length-7 : tie.Need-same-length-7 Inv-loop μ-loop
-same-length-7 c = heads-long (c .before) ∙ sym (c .before .before .before .before .before .before .before .before .before .before .pre .4)
+same-length-7 c =
+    let start = c .before .before .before .before .before .before .before .before .before .before in
+    heads-long (c .before) ∙ sym (start .pre .4)
 
 same-length-8 : tie.Need-same-length-8 Inv-loop μ-loop
-same-length-8 c = visits-long (c .before) ∙ sym (c .before .before .before .before .before .before .before .before .before .before .pre .5)
+same-length-8 c =
+    let start = c .before .before .before .before .before .before .before .before .before .before in
+    visits-long (c .before) ∙ sym (start .pre .5)
 
 returns-2 : tie.Need-returns-2 Inv-loop μ-loop
 returns-2 c =

@@ -5,37 +5,39 @@ use lib.ListN.{length}
 use Rattle.record.specs.Answers.{answered, verdict}
 use Rattle.record.specs.declared.Verdict.the-variants as Verdict
 use Rattle.queries.specs.Lookup.{Lists, lists}
-use Rattle.queries.proofs.Laws.Looking.{lookup-refused, lookup-filled, lists-fit}
+use Rattle.queries.proofs.Laws.Looking.{lookup-refused, lookup-filled}
 use Rattle.queries.proofs.lookups.lookup_by.Statement.{statement}
 use Rattle.queries.proofs.lookups.lookup_by.Tie as tie
 
 -- the call of `look_all`, and where it began
 abbrev begin : tie.After-look-all → tie.Start
-begin c = c .before .before .before .before .before .before .before .before .before .before .before .before .before .before .before .before .before .before .before .before
+begin c =
+    c .before .before .before .before .before .before .before .before .before .before
+    .before .before .before .before .before .before .before .before .before .before
 
 abbrev lent : tie.Start → Lists
 lent s = lists (s .args .heads .now) (s .args .visits .now)
 
--- the lists of the answers fit
-first-fits : (c : tie.After-look-all)
-    → length (begin c .args .heads .now) ≡ length (c .look-all .last .1 .1 .1 .1 .1 .1 .1 .1 .0)
-first-fits c =
-    let s = begin c in
-    let (_, h, _) = lists-fit (s .args .list .now) (s .args .heads .now) (s .args .visits .now) (s .pre .1) in
-    h ∙ sym (c .look-all .kept .1 .1 .1 .1 .1 .1 .1 .1 .0 ∙ s .pre .5)
+-- the answers are as many as the lists take
+first-long : (c : tie.After-look-all)
+    → length (c .look-all .last .1 .1 .1 .1 .1 .1 .1 .1 .0) ≡ length (begin c .args .list .now)
+first-long c = c .look-all .kept .1 .1 .1 .1 .1 .1 .1 .1 .0 ∙ begin c .pre .5
 
-second-fits : (c : tie.After-look-all)
-    → length (begin c .args .visits .now) ≡ length (c .look-all .last .1 .1 .1 .1 .1 .1 .1 .1 .1 .0)
-second-fits c =
-    let s = begin c in
-    let (_, _, v) = lists-fit (s .args .list .now) (s .args .heads .now) (s .args .visits .now) (s .pre .1) in
-    v ∙ sym (c .look-all .kept .1 .1 .1 .1 .1 .1 .1 .1 .1 .0 ∙ s .pre .6)
+second-long : (c : tie.After-look-all)
+    → length (c .look-all .last .1 .1 .1 .1 .1 .1 .1 .1 .1 .0) ≡ length (begin c .args .list .now)
+second-long c = c .look-all .kept .1 .1 .1 .1 .1 .1 .1 .1 .1 .0 ∙ begin c .pre .6
 
 copy-requires : tie.Need-copy-requires
-copy-requires c κs = first-fits (c .before .before .before .before .before .before .before .before .before .before .before .before)
+copy-requires c κs =
+    let asked = c .before .before .before .before .before .before .before .before .before .before .before .before in
+    begin asked .pre .7 ∙ sym (first-long asked)
 
 copy-requires-2 : tie.Need-copy-requires-2
-copy-requires-2 c κs = second-fits (c .before .before .before .before .before .before .before .before .before .before .before .before .before .before .before .before .before)
+copy-requires-2 c κs =
+    let asked =
+    c .before .before .before .before .before .before .before .before .before
+    .before .before .before .before .before .before .before .before in
+    begin asked .pre .8 ∙ sym (second-long asked)
 
 returns : tie.Need-returns
 returns c =
@@ -46,12 +48,14 @@ returns c =
 
 returns-2 : tie.Need-returns-2
 returns-2 c =
-    let l = c .before .before .before .before .before .before .before .before .before .before .before .before .before .before .before .before .before .before .before .before in
+    let copied = c .before .before .before .before .before .before .before in
+    let case = copied .before .before .before in
+    let l = case .before .before .before .before .before .before .before .before .before .before in
     let s = begin l in
-    let told = ap verdict (c .before .before .before .before .before .before .before .before .before .before .enum-told .given .1) in
+    let told = ap verdict (case .enum-told .given .1) in
     lookup-filled (s .args .bytes .now) (s .args .index .now) (s .args .list .now) (lent s) (s .pre .0) (s .pre .1)
     (sym told ∙ l .look-all .ensures .answers)
-    (ap₂ lists (c .before .before .before .before .before .before .before .copy .ensures) (c .before .before .copy2 .ensures) ∙ l .look-all .ensures .finds told)
+    (ap₂ lists (copied .copy .ensures) (c .before .before .copy2 .ensures) ∙ l .look-all .ensures .finds told)
 
 pub lookup-by-spec : {M : Type 1} → statement M
 lookup-by-spec =

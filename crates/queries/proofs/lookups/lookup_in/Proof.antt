@@ -25,10 +25,16 @@ returns c =
     (tested (c .before) (c .if1 .taken))
 
 lookup-small-requires : tie.Need-lookup-small-requires
-lookup-small-requires c κs = (begin (c .before .before .before .before) .pre, tested (c .before .before .before .before) (c .before .before .before .if1 .left), c .before .before .if2 .taken)
+lookup-small-requires c κs =
+    let test = c .before .before .before in
+    let call = test .before in
+    (begin call .pre, tested call (test .if1 .left), c .before .before .if2 .taken)
 
 lookup-full-requires : tie.Need-lookup-full-requires
-lookup-full-requires c κs = (begin (c .before .before .before .before) .pre, tested (c .before .before .before .before) (c .before .before .before .if1 .left))
+lookup-full-requires c κs =
+    let test = c .before .before .before in
+    let call = test .before in
+    (begin call .pre, tested call (test .if1 .left))
 
 pub lookup-in-spec : {M : Type 1} → statement M
 lookup-in-spec =
