@@ -1,5 +1,5 @@
-"""A plain program for document 01, in its order and from its sentences: bits, record, forest, operations, listing; the
-start of the search is document 02's, and so is what a wire is where several run between the same two terminals.
+"""A plain program for document 01, in its order and from its sentences: bits, record, forest, operations, listing. From
+document 02 are the start of the search, what a wire is where several run between the same two terminals, and Lookup.
 
 It shares no idea with the product: a bit string is a string of characters, the search is a recursion, a wire is its two
 places, and it has its marks in B where taking it out leaves its ends unjoined. An operation returns its answer, or
@@ -14,6 +14,8 @@ from itertools import cycle
 from packing import bits_of, fields_of, index_layout, index_length, number, record_length, whole
 
 MOST_TERMINALS, MOST_WIRES = 4096, 16384
+# so many terminals may one call of Lookup ask for
+MOST_ASKED = 512
 
 # the search enters the terminals of a path one inside the other
 sys.setrecursionlimit(2 * MOST_TERMINALS)
@@ -249,8 +251,12 @@ def order_r(data):
 
 def order_q(data, index, v):
     order_r(data)
-    refuse(10, len(index) != index_length(*sizes(data)))
+    refuse_10(data, index)
     refuse_11(data, v)
+
+
+def refuse_10(data, index):
+    refuse(10, len(index) != index_length(*sizes(data)))
 
 
 def refuse_11(data, v):
@@ -405,6 +411,24 @@ def visited(data, index, i):
     _, _, _, stored = sections_of(data, index)
     refuse(12, i - 1 not in stored)
     return stored.index(i - 1) + 1
+
+
+# Lookup
+
+@lru_cache(maxsize=MOST_TERMINALS)
+def head_and_visit(data, index, v):
+    """What the single calls answer. The first of their refusals is the refusal."""
+    return head(data, index, v), visit(data, index, v)
+
+
+def lookup(data, index, asked, *rooms):
+    """The heads and the visit numbers of the terminals in a list, for the lengths of the two answer lists. The first
+    refusal in the order of the list is the refusal."""
+    order_r(data)
+    refuse_10(data, index)
+    refuse(15, len(asked) > MOST_ASKED or rooms != (len(asked), len(asked)))
+    found = [head_and_visit(data, index, v) for v in asked]
+    return [top for top, _ in found], [i for _, i in found]
 
 
 # Table
