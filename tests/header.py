@@ -17,9 +17,10 @@ from programs import HEADER
 
 GUARD = bytes(range(0xC0, 0x100))
 
-# The four lists of the table, and of every slice the bytes of one number
-LISTS = ["visits", "parents", "children", "heads"]
-WIDTHS = {"record": 1, "index": 1, "work": 2, "list": 2, **dict.fromkeys(LISTS, 2)}
+# The four lists of the table, the two that Lookup writes, and of every slice the bytes of one number; "asked" is the
+# list of the terminals that Lookup is asked for
+LISTS, ANSWERS = ["visits", "parents", "children", "heads"], ["heads", "visits"]
+WIDTHS = {"record": 1, "index": 1, "work": 2, "list": 2, "asked": 2, **dict.fromkeys(LISTS, 2)}
 
 # What each returns, and what it takes: slices by their names above, all others are numbers
 FUNCTIONS = {
@@ -34,6 +35,7 @@ FUNCTIONS = {
     "child": (ctypes.c_uint32, ["record", "index", "v", "j"]),
     "visit": (ctypes.c_uint32, ["record", "index", "v"]),
     "visited": (ctypes.c_uint32, ["record", "index", "i"]),
+    "lookup": (ctypes.c_uint32, ["record", "index", "asked", *ANSWERS]),
     "degree": (ctypes.c_uint32, ["record", "v"]),
     "unpack": (ctypes.c_uint32, ["record", "list"]),
     "neighbours": (ctypes.c_uint64, ["record", "room", "v"]),
@@ -42,8 +44,9 @@ FUNCTIONS = {
     "select": (ctypes.c_size_t, ["record", "start", "places", "k"]),
 }
 SLICE, NUMBER = [ctypes.c_void_p, ctypes.c_size_t], [ctypes.c_size_t]
-# Those whose result has a refusal's number
+# Those whose result has a refusal's number, and what each writes its result to
 REFUSING = {name for name, (kind, taken) in FUNCTIONS.items() if kind is ctypes.c_uint32 and taken}
+WRITTEN = {"build": ["index"], "table": LISTS, "unpack": ["list"], "lookup": ANSWERS}
 
 
 # The library
@@ -144,6 +147,13 @@ def returned(refusal, value):
     return refusal << 16 | (value or 0) & 0xFFFF
 
 
+def told(argument, value):
+    """A number, or in a few words what a slice holds before the call."""
+    if argument not in WIDTHS:
+        return value
+    return shown(value) if argument == "asked" else f"of {len(value)} bytes"
+
+
 class Compared:
     """Calls on one record, and for the queries on one index: how many, and what differs from plain.py."""
 
@@ -184,20 +194,20 @@ class Compared:
 
     def write(self, name, outcome, *given):
         """An operation that writes: the refusal and what is written to each buffer of the result, as plain.py says.
-        Behind the record, in order, come its numbers and what the lent slices hold before, those buffers last."""
+        Behind the record, in order, come its numbers and what the lent slices hold before. All but those buffers, and
+        the work slice, hold the same after the call."""
         refusal, written = outcome
         taken = list(zip(FUNCTIONS[name][1][1:], given))
         held = {argument: data for argument, data in taken if argument in WIDTHS}
         passed = [lent[argument].hold(value) if argument in held else (value,) for argument, value in taken]
         found, expected = self.call(name, *self.record, *chain(*passed)), returned(refusal, None)
-        told = (f"{argument} {f'of {len(value)} bytes' if argument in held else value}" for argument, value in taken)
-        words = "with " + ", ".join(told)
+        words = "with " + ", ".join(f"{argument} {told(argument, value)}" for argument, value in taken)
         self.settle(found == expected, name, words, "gives", hex(found), "for", hex(expected))
-        buffers = [argument for argument in held if argument != "work"]
-        left = [held[argument] for argument in buffers] if refusal else written
-        assert len(left) == len(buffers)
-        for argument, data in zip(buffers, left):
-            self.settle(lent[argument].holds(data), name, words, f"leaves other bytes in the {argument}")
+        assert refusal or len(written) == len(WRITTEN[name])
+        left = held if refusal else {**held, **dict(zip(WRITTEN[name], written))}
+        for argument, data in left.items():
+            kept = argument == "work" or lent[argument].holds(data)
+            self.settle(kept, name, words, f"leaves other bytes in the {argument}")
         self.settle(all(lent[argument].guarded() for argument in held), name, words, "writes outside a slice")
 
     def rank_and_select(self, start, places, numbers):
