@@ -10,13 +10,16 @@ from random import Random
 
 import shapes
 from families import fail, summed, tally
-from header import FUNCTIONS, LISTS, Compared, exported, header_version, lent, load, with_library
+from header import ANSWERS, FUNCTIONS, LISTS, Compared, exported, header_version, lent, load, with_library
 from packing import WIRE, bits_of, index_layout, index_length, layout, packed, record
-from plain import MOST_TERMINALS, MOST_WIRES, answer, blocks_of, bridges_of, build, built, check, children, columns
-from plain import head, index_by, joined, order_r, sizes, table, unpack, wires, without
+from plain import MOST_ASKED, MOST_TERMINALS, MOST_WIRES, answer, blocks_of, bridges_of, build, built, check, children
+from plain import columns, head, index_by, joined, lookup, order_r, places_of, sections_of, sizes, table, unpack, visit
+from plain import wires, without
 from programs import ARCHIVE
 
 LARGE = [65536, 65537, 2**32 + 1, 2**63, 2**64 - 1]
+# the largest number that a list can hold
+TOP = 65535
 
 
 # The numbers and the slices of a call
@@ -119,7 +122,8 @@ def tabling(data):
 # A record and an index
 
 def asking(pair, most=14, large=LARGE):
-    """Every query, for all terminals or for some; for some children where there are more; and for the large numbers."""
+    """Every query, for all terminals or for some; for some children where there are more; and for the large numbers.
+    Then Lookup of several lists."""
     data, index = pair
     rng, compared = Random(data + index), Compared(data, index)
     numbers = terminals(rng, asked_sizes(data)[0], most) + large
@@ -131,6 +135,8 @@ def asking(pair, most=14, large=LARGE):
         _, count = answer(children, data, index, v)
         for j in terminals(rng, count or 0, most) + large:
             compared.query("child", v, j)
+    for asked, rooms in asked_lists(rng, asked_sizes(data)[0], most):
+        look_up(compared, rng, asked, *rooms)
     return compared.result()
 
 
@@ -138,6 +144,167 @@ def as_built(data):
     """On the index from the first terminal or from another one."""
     rng, (n, _) = Random(data), sizes(data)
     return asking((data, built(data, rng.choice([first(n), rng.randint(first(n), n)]))))
+
+
+# Lookup
+
+def right_rooms(asked):
+    """The lengths that the answer lists of this list have."""
+    return [len(asked)] * len(ANSWERS)
+
+
+def other_rooms(asked):
+    """Other lengths: each of the answer lists alone shorter, longer, empty; both."""
+    k = len(asked)
+    short = [k - 1, 0] if k else []
+    alone = [rooms for length in [*short, k + 1, 2 * k + 1] for rooms in ((length, k), (k, length))]
+    return alone + [(k + 1, k + 1)] + [(length, other) for length in short for other in (length, k + 1)]
+
+
+def no_terminals(n):
+    """Numbers that are refused with 11."""
+    return [0, n + 1, TOP]
+
+
+def asked_lists(rng, n, most):
+    """Lists for Lookup, each with the lengths of the answer lists: none; one terminal; all, or some; some of them again
+    and again; with a number that is no terminal in front, among them and last; and with other lengths."""
+    some = rng.sample(range(1, n + 1), min(n, most))
+    again = rng.choices(some, k=2 * most) if some else []
+    middle = len(some) // 2
+    bad = [[k, *some] for k in no_terminals(n)] + [[*some, k] for k in no_terminals(n)]
+    bad += [[*some[:middle], k, *some[middle:]] for k in no_terminals(n)]
+    found = [[], some[:1], some, again, *rng.sample(bad, 3)]
+    other = rng.choice([some, again, *bad])
+    trials = [(asked, right_rooms(asked)) for asked in found]
+    return trials + [(other, rooms) for rooms in rng.sample(other_rooms(other), 2)]
+
+
+def look_up(compared, rng, asked, *rooms):
+    """Lookup of this list, with answer lists of these lengths. Gives the refusal's number, 0 for none."""
+    refusal, found = answer(lookup, compared.data, compared.index, asked, *rooms)
+    outcome = refusal, [cells(column) for column in found or []]
+    held = [junk(rng, 2 * room) for room in rooms]
+    compared.write("lookup", outcome, compared.index, cells(asked), *held)
+    return refusal
+
+
+def expect(compared, rng, number, asked, *rooms):
+    """The same, and this is the refusal's number, 0 for none."""
+    refusal = look_up(compared, rng, asked, *rooms)
+    compared.settle(refusal == number, "plain.py's Lookup of", asked[:8], f"refuses with {refusal} for {number}")
+
+
+def lengths(data, index, number=0):
+    """Lists of all lengths, also with a number that is no terminal in front, among the others or last. This refusal, or
+    none, comes before that of the lengths."""
+    rng, compared, (n, _) = Random(data + index), Compared(data, index), sizes(data)
+    some = rng.sample(range(1, n + 1), min(n, 12)) or no_terminals(n)
+    for k in (0, 1, 2, MOST_ASKED - 1, MOST_ASKED, MOST_ASKED + 1, 2 * MOST_ASKED, TOP + 1 + rng.randrange(3)):
+        asked = rng.choices(some, k=k)
+        bad = zip(sorted({0, k // 2, k - 1}), rng.sample(no_terminals(n), 3)) if k else []
+        trials = [asked] + [[*asked[:i], v, *asked[i + 1 :]] for i, v in bad]
+        for given in trials:
+            refused = 0 if {*no_terminals(n)}.isdisjoint(given) else 11
+            expect(compared, rng, number or (15 if k > MOST_ASKED else refused), given, *right_rooms(given))
+        for rooms in rng.sample(other_rooms(asked), 4) + [(TOP + 1 + k, k), (k, TOP + 1 + k)]:
+            expect(compared, rng, number or 15, rng.choice(trials), *rooms)
+    return compared.result()
+
+
+def on_lengths(data):
+    """On an index from any start, and on one that is too long."""
+    n, _ = sizes(data)
+    index = built(data, Random(data).randint(first(n), n))
+    return summed([lengths(data, index), lengths(data, index + b"\0", 10)])
+
+
+def spoilt(rng, data):
+    """An index with every place of one block marked in P, and some stored numbers of n and more; and terminals by the
+    refusals of their Head and their Visit there, some for each: by 12 for either alone, and by none."""
+    n, _ = sizes(data)
+    while True:
+        e, p, b, numbers = sections_of(data, built(data, rng.randint(1, n)))
+        block = rng.choice([places for places in places_of(data) if len(places) > 1])
+        p = "".join("1" if place in block else bit for place, bit in enumerate(p))
+        numbers = [rng.choice([n, 4095]) if rng.random() < 0.3 else k for k in numbers]
+        index, found = index_layout(e, p, b, numbers), {}
+        for v in rng.sample(range(1, n + 1), min(n, 40)):
+            refusals = tuple(answer(single, data, index, v)[0] for single in (head, visit))
+            found.setdefault(refusals, []).append(v)
+        if {(12, 0), (0, 12), (0, 0)} <= found.keys():
+            return index, found
+
+
+def two_refused(rng, n, found):
+    """Lists with every two that are refused in one order and in the other, each with the refusal of the first: alone,
+    with others in front, between and behind, and at the ends of the longest list."""
+    good = found[0, 0]
+    refused = [(12, vs[0]) for refusals, vs in found.items() if 12 in refusals] + [(11, v) for v in no_terminals(n)]
+    for (number, u), (_, v) in product(refused, repeat=2):
+        front, between, behind = (rng.choices(good, k=rng.randint(0, 3)) for _ in range(3))
+        yield number, [u, v]
+        yield number, [*front, u, *between, v, *behind]
+        yield number, [u, *rng.choices(good, k=MOST_ASKED - 2), v]
+    for number, u in refused:
+        yield number, [*rng.choices(good, k=MOST_ASKED - 1), u]
+
+
+def in_order(data):
+    """Every two refusals in every order: of two terminals; 15 before them; 10 before all these; order R before all."""
+    rng, (n, m) = Random(data), sizes(data)
+    index, found = spoilt(rng, data)
+    trials = list(two_refused(rng, n, found))
+
+    def tried(data, index, number, trials):
+        compared = Compared(data, index)
+        for own, asked in trials:
+            expect(compared, rng, number or own, asked, *right_rooms(asked))
+            expect(compared, rng, number or 15, asked, *rng.choice(other_rooms(asked)))
+        return compared.result()
+
+    results = [tried(data, index, 0, trials)]
+    for other in index[:-1], index + b"\0":
+        results.append(tried(data, other, 10, rng.sample(trials, 12)))
+        for rule in 1, 2, 3, 4:
+            damaged = shapes.break_early(rng, data, rule, n, m)
+            results += [tried(damaged, given, rule, rng.sample(trials, 4)) for given in (index, other)]
+    return summed(results)
+
+
+# Lookup beside the library's own single calls
+
+def singly(compared, asked):
+    """What the single calls come to, in the order of the list: the first refusal's number, 0 for none, and the heads
+    and visit numbers before it."""
+    found = [], []
+    for v in asked:
+        for name, column in zip(("head", "visit"), found):
+            refusal, value = divmod(compared.call(name, *compared.both, v), 1 << 16)
+            if refusal:
+                return refusal, found
+            column.append(value)
+    return 0, found
+
+
+def beside(data, index):
+    """Lists of the most terminals, of fewer, and with one that is no terminal."""
+    rng, compared, (n, _) = Random(data + index), Compared(data, index), sizes(data)
+    some = rng.choices(range(1, n + 1), k=MOST_ASKED)
+    middle = rng.randrange(MOST_ASKED)
+    for asked in some, some[:middle], [*some[:middle], rng.choice(no_terminals(n)), *some[middle + 1 :]], some[:3]:
+        refusal, found = singly(compared, asked)
+        held = [junk(rng, 2 * room) for room in right_rooms(asked)]
+        compared.write("lookup", (refusal, [cells(column) for column in found]), index, cells(asked), *held)
+    return compared.result()
+
+
+def beside_singles(data):
+    """On an index from any start, on the same altered, and on others that nobody built."""
+    rng, blocks = Random(data), blocks_of(data)
+    index = built(data, rng.randint(1, len(blocks)))
+    given = [index, *shapes.altered(rng, blocks, index)[:2], *shapes.unbuilt(rng, blocks)[2:4]]
+    return summed(beside(data, index) for index in given)
 
 
 # Starts
@@ -218,7 +385,9 @@ def largest(data):
     terminal."""
     results = [alone(data), building(data), tabling(data)]
     if not answer(check, data)[0]:
-        results += [asking((data, built(data, start)), most=8) for start in (1, sizes(data)[0])] + [started(data)]
+        indexes = [built(data, start) for start in (1, sizes(data)[0])]
+        results += [asking((data, index), most=8) for index in indexes] + [started(data)]
+        results += [beside(data, index) for index in indexes]
     return summed(results)
 
 
@@ -381,6 +550,12 @@ def is_doubled(data):
     return any(len(set(block)) < len(block) for block in blocks_of(data))
 
 
+def one_loom(rng):
+    """A record of some terminals that are all joined."""
+    graph = rng.choice([shapes.loose(rng), shapes.bridged(rng, *shapes.several(rng, 6, 12))])
+    return record(shapes.shuffled(rng, shapes.renamed(rng, graph)))
+
+
 def twins(rng):
     """Two records with one n and m."""
     n = rng.randint(2, 14)
@@ -415,6 +590,9 @@ def families():
         "indexes of other lengths": (on_other_lengths, some(rng, small, 40, 60) + rng.sample(damaged, 300)),
         "sections": (sections, some(rng, small, 12, 400) + some(rng, doubled, 12, 100)),
         "starts": (started, every + small + medium),
+        "lengths of Lookup's lists": (on_lengths, small[: len(shapes.FIXED)] + medium[::60]),
+        "two refusals in Lookup's list": (in_order, [one_loom(rng) for _ in range(60)] + medium[7::60]),
+        "Lookup beside the single calls": (beside_singles, some(rng, small, 40, 40) + medium[::30]),
         "short strings": (counting, short_strings()),
         "strings": (counting, strings("strings", range(8, 200, 3), 20)),
         "long strings": (counting, strings("long strings", (1000, 6720, 53764, 100000), 4)),
