@@ -4,11 +4,14 @@
 The stored output is what `rt ci` holds the proved program to. Here the answers are plain.py's, and a query's refusal is shown as its number
 in brackets. With an argument it prints the lines instead.
 """
+from itertools import product
+
 from packing import SAMPLE, WIRE, flipped, index_layout, layout, ones_at, record, whole
-from plain import ancestor, answer, blocks_of, bridges, check, child, children, head, index_of, parent, refuse
+from plain import ancestor, answer, blocks_of, bridges, check, child, children, head, index_of, lookup, parent, refuse
 from plain import refuse_14, sizes, visit, visited
 from shapes import DOUBLED, FIXED, filled, places, with_ones
 from stored import main
+from stored import told as verdict
 
 LARGEST = 2**64 - 1
 
@@ -238,12 +241,44 @@ def tables():
     yield "spare", data["spare"], 0, 48, 6, 6, 6, 6
 
 
+# Lookup
+
+def spaced(numbers):
+    """Each behind a space, of more than six the first six."""
+    return "".join(f" {k}" for k in numbers[:6])
+
+
+def looked_up(name, data, index, asked, *rooms):
+    """The list, the lengths of the answer lists, the verdict and then these lists; a refused call leaves the marks that
+    they held, 901 and 911."""
+    refusal, found = answer(lookup, data, index, asked, *rooms)
+    heads, visits = [[mark] * room for mark, room in zip((901, 911), rooms)] if refusal else found
+    told = verdict(refusal, "accepted")
+    return f"{name} lookup{spaced(asked)} to{spaced(rooms)}: {told},{spaced(heads)},{spaced(visits)}"
+
+
+# lists, and the lengths of the answer lists where they are others
+ASKED = [([1, 2, 3, 4, 5, 6],), ([4, 1, 4, 4],), ([],), ([1, 5, 3, 0],), ([0, 3],), ([4, 7, 1],), ([1, 2, 65535],)]
+ASKED += [([1, 5], 1, 2), ([1, 5], 2, 3), ([0, 3], 3, 2), ([3], 1, 0)]
+LONG = [([2] * 512,), ([2] * 511 + [7],), ([2] * 513,)]
+
+
+def lookups():
+    """The same lists for several pairs. On two_marks Head refuses 3 and 2, and on numbers Visit alone refuses 2 and 4.
+    Then the longest lists."""
+    given = {name: (name, data, index) for name, data, index, _ in pairs()}
+    names = "sample", "two_marks", "numbers", "index_short", "three_bytes", "short_both"
+    for name, (asked, *rooms) in [*product(names, ASKED), *product(["sample"], LONG)]:
+        yield looked_up(*given[name], asked, *rooms or 2 * [len(asked)])
+
+
 def lines():
     for name, data, index, last in pairs():
         yield from answers(name, data, index, last)
     yield largest("sample", record(SAMPLE), built(SAMPLE))
     for given in tables():
         yield from tabled(*given)
+    yield from lookups()
 
 
 if __name__ == "__main__":

@@ -1,5 +1,5 @@
 // Asks `queries` about fixed records and indexes and prints the answers: a line for each query, of Child and Ancestor
-// one for each terminal; and then Table. The file stdout has what they must be.
+// one for each terminal; and then Table, and Lookup. The file stdout has what they must be.
 ghost use Prim.Native.Nat.{_≤_};
 use answers::above;
 use answers::counted;
@@ -14,6 +14,7 @@ use record::Vertex;
 
 mod answers; // answers.rt: how the answers are printed
 mod tables; // tables.rt: Table
+mod lookups; // lookups.rt: Lookup
 
 // What a line asks for each number: a query of one number, Child of a terminal, or whether a terminal is an ancestor.
 enum Asked {
@@ -548,4 +549,6 @@ fn main() {
     tables::other_starts();
     tables::doubled_starts();
     tables::bad_starts();
+    lookups::runs();
+    lookups::longest();
 }

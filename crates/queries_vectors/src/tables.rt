@@ -29,12 +29,11 @@ fn heading(
     text(b": ");
 }
 
-fn verdict(answer: Verdict) {
+pub fn verdict(answer: Verdict) {
     match answer {
         Verdict::Accepted => text(b"accepted"),
         Verdict::Refused(r) => refused(record::number_of(r)),
     }
-    text(b"\n");
 }
 
 fn column(name: &[u8], title: &[u8], list: &[u16]) {
@@ -64,6 +63,7 @@ fn table(
         heads.len(),
     );
     verdict(queries::table(bytes, Vertex(start), work, visits, parents, counts, heads));
+    text(b"\n");
     column(name, b" visits:", visits);
     column(name, b" parents:", parents);
     column(name, b" counts:", counts);
