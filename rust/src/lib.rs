@@ -68,6 +68,7 @@
 //! | [`table`](fn@table), [`Record::table`], [`Record::table_from`], [`Record::sections`] | 192 KiB |
 //! | [`check`], [`unpack`], [`loop_figure`], [`Record::new`], [`Record::unpack`], [`Record::loop_figure`] | 152 KiB |
 //! | [`build`], [`Record::index`], [`Record::index_from`] | 152 KiB |
+//! | [`lookup`], [`Index::lookup`] | 32 KiB |
 //! | all others | 16 KiB |
 //!
 //! The calls of the first three lines take time linear in the record's bits.
