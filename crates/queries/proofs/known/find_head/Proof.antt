@@ -167,6 +167,17 @@ add-keep c =
     let stored = c .before .before .before .before .before .before .before in
     omega (arith, near (place stored))
 
+returns-3 : tie.Need-returns-3 Inv-loop μ-loop
+returns-3 c =
+    let case = c .before .before .before .before .before in
+    let moved = case .before .before in
+    let stored = put moved in
+    let at = place stored in
+    let is = stopped moved (told moved (case .enum-told2 .given .1)) in (
+      way-head (along stored) is (vertices at) (begin at .pre .4),
+      way-kept (along stored) is (at .loop .inv .heads) (c .before .before .keep2 .ensures),
+    )
+
 keep-requires-2 : tie.Need-keep-requires-2 Inv-loop μ-loop
 keep-requires-2 c κs =
     let stored = c .before .before .before .before .before .before .before in
@@ -189,17 +200,6 @@ same-length-6 c =
     let stored = c .before .before .before .before .before .before .before .before .before .before in
     let start = begin (place stored) in
     along stored .size ∙ sym (start .pre .3)
-
-returns-3 : tie.Need-returns-3 Inv-loop μ-loop
-returns-3 c =
-    let case = c .before .before .before .before .before in
-    let moved = case .before .before in
-    let stored = put moved in
-    let at = place stored in
-    let is = stopped moved (told moved (case .enum-told2 .given .1)) in (
-      way-head (along stored) is (vertices at) (begin at .pre .4),
-      way-kept (along stored) is (at .loop .inv .heads) (c .before .before .keep2 .ensures),
-    )
 
 loop-less : tie.Need-loop-less Inv-loop μ-loop
 loop-less c =

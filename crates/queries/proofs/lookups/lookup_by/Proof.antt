@@ -18,6 +18,17 @@ begin c =
 abbrev lent : tie.Start → Lists
 lent s = lists (s .args .heads .now) (s .args .visits .now)
 
+-- ---- a refused call leaves the lists
+
+returns : tie.Need-returns
+returns c =
+    let l = c .before .before .before .before .before .before .before .before .before .before .before in
+    let s = begin l in
+    lookup-refused (s .args .bytes .now) (s .args .index .now) (s .args .list .now) (lent s) (s .pre .0) (s .pre .1)
+    (sym (ap verdict (c .before .r .given .1)) ∙ l .look-all .ensures .answers)
+
+-- ---- the others are written
+
 -- the answers are as many as the lists take
 first-long : (c : tie.After-look-all)
     → length (c .look-all .last .1 .1 .1 .1 .1 .1 .1 .1 .0) ≡ length (begin c .args .list .now)
@@ -38,13 +49,6 @@ copy-requires-2 c κs =
     c .before .before .before .before .before .before .before .before .before
     .before .before .before .before .before .before .before .before in
     begin asked .pre .8 ∙ sym (second-long asked)
-
-returns : tie.Need-returns
-returns c =
-    let l = c .before .before .before .before .before .before .before .before .before .before .before in
-    let s = begin l in
-    lookup-refused (s .args .bytes .now) (s .args .index .now) (s .args .list .now) (lent s) (s .pre .0) (s .pre .1)
-    (sym (ap verdict (c .before .r .given .1)) ∙ l .look-all .ensures .answers)
 
 returns-2 : tie.Need-returns-2
 returns-2 c =
