@@ -1,13 +1,15 @@
 -- What contracts inside the crate say while a list is looked up.
+--   HeadIs       where Head's climb stops, after however many steps
 --   Known        the heads that climbs have found
+--   Room         arrays for a call, with no head known
 --   Vertices     the first k numbers of a list are vertices
---   Kept         the first k vertices of a way get a head, and all others keep their cells
+--   OnWay, Kept  the first k vertices of a way get a head, and all others keep their cells
 --   lookedOf     what the code says of one terminal
 --   LookedAll    what it says of all, and the lists that it fills
 use mathlib.Core.Path.{_≡_}
 use mathlib.Core.List.{List, map}
 use mathlib.Core.Logic.{_⊎_}
-use Prim.Native.Nat.{ℕ, _<_}
+use Prim.Native.Nat.{ℕ, _+_, _≤_, _<_}
 use lib.ListN.{length, getD}
 use Rattle.graph.specs.Walk.{Ends}
 use Rattle.record.specs.Answers.{Answer, refused, answered, number, tried}
@@ -28,6 +30,13 @@ pub record HeadIs (w : View) (u h : ℕ) : Type 0 where
 pub record Known (w : View) (n : ℕ) (known : List ℕ) : Type 0 where
   pub size : length known ≡ n
   pub heads : (u : ℕ) → 0 < getD known u 0 → HeadIs w u (getD known u 0)
+
+-- there is room for n vertices, and no head is known
+pub record Room (n : ℕ) (starts known way : List ℕ) : Type 0 where
+  pub for-starts : n + 1 ≤ length starts
+  pub for-known : n ≤ length known
+  pub for-way : n ≤ length way
+  pub none-known : (u : ℕ) → getD known u 0 ≡ 0
 
 abbrev pub Vertices : ℕ → List ℕ → ℕ → Type 0
 Vertices n way k = (i : ℕ) → i < k → getD way i 0 < n

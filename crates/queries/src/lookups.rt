@@ -11,7 +11,7 @@ ghost use Rattle.record.specs.Answers.{verdict};
 ghost use Rattle.queries.specs.View.{viewBy};
 ghost use Rattle.queries.specs.Lookup.{lists, headAndVisit, badList, LookupDone};
 ghost use Rattle.queries.specs.Steps.{Beside};
-ghost use Rattle.queries.specs.Looking.{lookedOf, LookedAll, Known};
+ghost use Rattle.queries.specs.Looking.{lookedOf, LookedAll, Known, Room};
 use super::Found;
 use super::Numbered;
 use super::known::find_head;
@@ -174,7 +174,50 @@ fn lookup_by(
     }
 }
 
-// The same with room for at most 256 terminals.
+// The same in the front parts of arrays with room to spare, and with room for the answers.
+fn lookup_cut(
+    bytes: &[u8],
+    index: &[u8],
+    n: usize,
+    m: usize,
+    list: &[u16],
+    starts: &mut [u16],
+    known: &mut [u16],
+    way: &mut [u16],
+    heads: &mut [u16],
+    visits: &mut [u16],
+) -> Verdict
+    requires { ⌜
+        (Beside (now bytes) (now index) n m)
+        × (badList (now list) (lists (now heads) (now visits)) ≡ false)
+        × (Room n (now starts) (now known) (now way))
+        ⌝ }
+    ensures { λ r. ⌜ LookupDone (now (bytes .entry)) (now (index .entry)) (now (list .entry))
+        (lists (now (heads .entry)) (now (visits .entry)))
+        (lists (now (heads .exit)) (now (visits .exit)))
+        (verdict r) ⌝ }
+{
+    let mut first = [0u16; 512];
+    let mut second = [0u16; 512];
+    let blocks = n + 1;
+    let k = list.len();
+    lookup_by(
+        bytes,
+        index,
+        n,
+        m,
+        list,
+        &mut starts[..blocks],
+        &mut known[..n],
+        &mut way[..n],
+        &mut first[..k],
+        &mut second[..k],
+        heads,
+        visits,
+    )
+}
+
+// Room for at most 256 terminals.
 fn lookup_small(
     bytes: &[u8],
     index: &[u8],
@@ -197,27 +240,21 @@ fn lookup_small(
     let mut starts = [0u16; 257];
     let mut known = [0u16; 256];
     let mut way = [0u16; 256];
-    let mut first = [0u16; 512];
-    let mut second = [0u16; 512];
-    let blocks = n + 1;
-    let k = list.len();
-    lookup_by(
+    lookup_cut(
         bytes,
         index,
         n,
         m,
         list,
-        &mut starts[..blocks],
-        &mut known[..n],
-        &mut way[..n],
-        &mut first[..k],
-        &mut second[..k],
+        &mut starts,
+        &mut known,
+        &mut way,
         heads,
         visits,
     )
 }
 
-// The same with room for as many as there can be.
+// Room for as many as there can be.
 fn lookup_full(
     bytes: &[u8],
     index: &[u8],
@@ -239,21 +276,15 @@ fn lookup_full(
     let mut starts = [0u16; 4097];
     let mut known = [0u16; 4096];
     let mut way = [0u16; 4096];
-    let mut first = [0u16; 512];
-    let mut second = [0u16; 512];
-    let blocks = n + 1;
-    let k = list.len();
-    lookup_by(
+    lookup_cut(
         bytes,
         index,
         n,
         m,
         list,
-        &mut starts[..blocks],
-        &mut known[..n],
-        &mut way[..n],
-        &mut first[..k],
-        &mut second[..k],
+        &mut starts,
+        &mut known,
+        &mut way,
         heads,
         visits,
     )

@@ -1,24 +1,26 @@
 -- Heads that are known: a way that gets a head, and a climb up to a head that is known.
 --   keep-none, keep-one      a way that gets a head, vertex by vertex
 --   known-none, known-kept   the known heads at first, and after a way has got one
+--   room                     arrays of zeros are room
 --   head-at                  a climb that stops is what Head answers
 --   WayTo, way-..      the vertices that a climb has passed, and where it stands
 --   Climbed, climbed-..      what the loop keeps, from its begin to its end
 use mathlib.Core.Path.{_≡_, refl, sym, ap, subst, _∙_}
 use mathlib.Core.Logic.{_⊎_, inl, inr}
-use mathlib.Core.List.{List}
+use mathlib.Core.List.{List, [], _∷_}
 use Prim.Native.Nat.{ℕ, zero, suc, _+_, _-_, _≤_, _<_}
 use native.Mathlib.Decide.{ℕ-discrete}
 use native.Mathlib.Omega.{arith}
-use lib.ListN.{length, take, getD, set, replicate, length-set}
-use Rattle.adjacency.specs.Laws.Stores.{cell-same, cell-other, part-zeros}
+use lib.ListN.{length, take, getD, set, replicate, length-replicate, length-set}
+use lib.Seq.{length-take-le}
+use Rattle.adjacency.specs.Laws.Stores.{cell-zero, cell-same, cell-other}
 use Rattle.graph.specs.Walk.{walk, Ends, here, up}
 use Rattle.graph.specs.Laws.Heads.Limits.{walk-stops}
 use Rattle.record.specs.Answers.{Answer, refused, answered}
 use Rattle.queries.specs.View.{View, viewBy}
 use Rattle.queries.specs.Queries.{headNext, headOf}
 use Rattle.queries.specs.Steps.{Beside}
-use Rattle.queries.specs.Looking.{HeadIs, Known, Vertices, OnWay, Kept}
+use Rattle.queries.specs.Looking.{HeadIs, Known, Room, Vertices, OnWay, Kept}
 use Rattle.queries.proofs.Laws.Climbing.{climb, climb-stop, climb-on, climb-late, head-inside, head-begin}
 
 -- ---- a way that gets a head
@@ -55,17 +57,25 @@ module _ {way : List ℕ} {i h : ℕ} {before found : List ℕ} (k : Kept way i 
 -- ---- the known heads
 
 -- none is known in the front part of an array of zeros
-pub known-none : (w : View) (m n : ℕ) → n ≤ m → Known w n (take n (replicate m 0))
-known-none w m n h = record {
-  size = part-zeros m n h;
-  heads = λ u s. absurd (let z = zeros m n u in omega arith);
+pub known-none : (w : View) (n : ℕ) (known : List ℕ) → n ≤ length known → ((u : ℕ) → getD known u 0 ≡ 0)
+    → Known w n (take n known)
+known-none w n known h zeros = record {
+  size = length-take-le n known h;
+  heads = λ u s. absurd (let z = front n known u (zeros u) in omega arith);
 }
   where
-    zeros : (m k u : ℕ) → _≡_ {A = ℕ} (getD (take k (replicate m 0)) u 0) 0
-    zeros m zero u = refl
-    zeros zero (suc k) u = refl
-    zeros (suc m) (suc k) zero = refl
-    zeros (suc m) (suc k) (suc u) = zeros m k u
+    front : (k : ℕ) (l : List ℕ) (u : ℕ) → getD l u 0 ≡ 0 → getD (take k l) u 0 ≡ 0
+    front zero l u e = refl
+    front (suc k) [] u e = refl
+    front (suc k) (x ∷ l) zero e = e
+    front (suc k) (x ∷ l) (suc u) e = front k l u e
+
+-- room in arrays of zeros
+pub room : (n a k : ℕ) → n + 1 ≤ a → n ≤ k → Room n (replicate a 0) (replicate k 0) (replicate k 0)
+room n a k f g =
+    let s = length-replicate {A = ℕ} a 0 in
+    let t = length-replicate {A = ℕ} k 0 in
+    record { for-starts = omega arith; for-known = omega arith; for-way = omega arith; none-known = cell-zero k }
 
 module _ {w : View} {n : ℕ} where
   pub known-kept : {way : List ℕ} {k h : ℕ} {before after : List ℕ} → Known w n before → Kept way k h before after
