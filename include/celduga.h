@@ -237,10 +237,10 @@ uint32_t celduga_visited(const uint8_t *record, size_t record_len, const uint8_t
 
 /*
  * Writes what celduga_head and celduga_visit answer for each terminal of the list to the same element of heads and of
- * visits. D is read once for all of them, and no climb passes a terminal that another has passed. The list may be
- * empty, and may name a terminal several times. No value. Refuses 1 to 4, 10, 15 where the list has more than
- * CELDUGA_MAX_LOOKUP_LEN terminals or one of heads and visits has another length than the list; then the first 11 or 12
- * that is met in list order, celduga_head's before celduga_visit's.
+ * visits. D is checked, and its blocks are found, once for all of them, and no climb passes a terminal that another has
+ * passed. The list may be empty, and may name a terminal several times. No value. Refuses 1 to 4, 10, 15 where the list
+ * has more than CELDUGA_MAX_LOOKUP_LEN terminals or one of heads and visits has another length than the list; then the
+ * first 11 or 12 that is met in list order, celduga_head's before celduga_visit's.
  */
 uint32_t celduga_lookup(const uint8_t *record, size_t record_len, const uint8_t *index, size_t index_len,
     const uint16_t *list, size_t list_len, uint16_t *heads, size_t heads_len, uint16_t *visits, size_t visits_len);

@@ -20,9 +20,6 @@ SAMPLE_RECORD = record(SAMPLE)
 SAMPLE_INDEX = built(SAMPLE_RECORD)
 
 
-MOST_ASKED = 512
-
-
 def same(what, expected, found):
     demand(expected == found, f"{what}: expected {expected!r}, the page has {found!r}")
 
@@ -270,9 +267,9 @@ def limits(page):
     text = titled(page, "Index")
     same("the longest index", [f"{index_length(n, m):,}"], sought(r"bytes, so at most\s([\d,]+)\.", text))
     rules = tabled(titled(page, "Refusals"), "number", "name", "is broken where", "given by")
-    asked = f"the list has more than {MOST_ASKED} terminals, or an answer list has another length than it"
+    asked = f"the list has more than {plain.MOST_ASKED} terminals, or an answer list has another length than it"
     same("rule 15", ["15", "`BadList`", asked, "Lookup"], rules[-1])
-    same("the longest list", [str(MOST_ASKED)], sought(r"takes a list of at most ([\d,]+) terminals", page))
+    same("the longest list", [str(plain.MOST_ASKED)], sought(r"takes a list of at most ([\d,]+) terminals", page))
     same("what the program reads", [f"{longest + 1:,}"], sought(r"reads at most ([\d,]+) bytes", page))
     same("the least loop figure", [f"−{n - 1:,}"], sought(r"from (−[\d,]+) up", page))
 
@@ -338,15 +335,6 @@ def refusals(page):
     same("refusals", [[number, f"`{name}`"] for name, number in named], found)
 
 
-def lookup(data, index, terminals, *rooms):
-    """The heads and the visit numbers by the single calls, for the lengths of the two answer lists."""
-    plain.order_r(data)
-    plain.refuse(10, len(index) != index_length(*sizes(data)))
-    plain.refuse(15, len(terminals) > MOST_ASKED or rooms != (len(terminals), len(terminals)))
-    found = [(plain.head(data, index, v), plain.visit(data, index, v)) for v in terminals]
-    return [head for head, _ in found], [visit for _, visit in found]
-
-
 CALLS = {
     "Check": check,
     "Degree": plain.degree,
@@ -362,7 +350,7 @@ CALLS = {
     "Child": plain.child,
     "Visit": plain.visit,
     "Visited": plain.visited,
-    "Lookup": lookup,
+    "Lookup": plain.lookup,
     "Rank": lambda data, start, places, p: plain.rank(plain.string(data, start, places), p),
     "Select": lambda data, start, places, k: plain.select(plain.string(data, start, places), k),
 }
@@ -402,8 +390,8 @@ def operations(page):
         "work": lengths,
         "index buffer": lengths,
         "four lists": [(6, 6, 6, 6), (5, 6, 6, 6), (6, 5, 6, 6), (6, 6, 5, 6), (6, 6, 6, 5)],
-        "terminals": [[], [1], [2], [0], [1, 2], [1, 7], [1] * (MOST_ASKED + 1)],
-        "two lists": [(0, 0), (1, 1), (2, 2), (1, 2), (2, 1), (MOST_ASKED + 1, MOST_ASKED + 1)],
+        "terminals": [[], [1], [2], [0], [1, 2], [1, 7], [1] * (plain.MOST_ASKED + 1)],
+        "two lists": [(0, 0), (1, 1), (2, 2), (1, 2), (2, 1), (plain.MOST_ASKED + 1, plain.MOST_ASKED + 1)],
     }
     letters = orders(page)
     for operation, takes, tries, _ in shown:

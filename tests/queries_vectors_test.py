@@ -253,8 +253,8 @@ def looked_up(name, data, index, asked, *rooms):
     they held, 901 and 911."""
     refusal, found = answer(lookup, data, index, asked, *rooms)
     heads, visits = [[mark] * room for mark, room in zip((901, 911), rooms)] if refusal else found
-    told = verdict(refusal, "accepted")
-    return f"{name} lookup{spaced(asked)} to{spaced(rooms)}: {told},{spaced(heads)},{spaced(visits)}"
+    said = verdict(refusal, "accepted")
+    return f"{name} lookup{spaced(asked)} to{spaced(rooms)}: {said},{spaced(heads)},{spaced(visits)}"
 
 
 # lists, and the lengths of the answer lists where they are others

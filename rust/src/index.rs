@@ -193,7 +193,7 @@ impl<'a> Index<'a> {
     }
 
     /// The heads and the visit numbers of at most [`MAX_LOOKUP_LEN`](crate::MAX_LOOKUP_LEN) terminals, in list order:
-    /// what [`head`](Index::head) and [`visit`](Index::visit) answer for each, in one call that reads the degrees once.
+    /// what [`head`](Index::head) and [`visit`](Index::visit) answer for each, in one call that finds the blocks once.
     ///
     /// # Errors
     ///

@@ -51,7 +51,8 @@
 //! left unchanged.
 //!
 //! What the crate does beside these calls is tested, not proved: it reads the header for [`Sizes`] and a terminal's
-//! neighbours for the iterators, climbs by [`Index::parent`], and gathers the terminals with one head to a [`Section`].
+//! neighbours for the iterators, climbs by [`Index::parent`], gathers the terminals with one head to a [`Section`], and
+//! puts 0 for a terminal that 16 bits don't hold in [`Index::lookup`].
 //!
 //! # The library
 //!
@@ -71,7 +72,8 @@
 //! | [`lookup`], [`Index::lookup`] | 32 KiB |
 //! | all others | 16 KiB |
 //!
-//! The calls of the first three lines take time linear in the record's bits.
+//! The calls of the first three lines take time linear in the record's bits, and those of the fourth on an index that
+//! was built.
 
 #![no_std]
 #![warn(missing_docs)]

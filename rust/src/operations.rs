@@ -210,10 +210,10 @@ pub fn visited(record: &[u8], index: &[u8], i: Dfi) -> Result<Vertex, Refusal> {
 }
 
 /// Writes what [`head`] and [`visit`] answer for each terminal of the list, to the same place of `heads` and `visits`.
-/// The degrees are read once for all of them, and no climb passes a terminal that another has passed.
+/// D is checked, and its blocks are found, once for all of them, and no climb passes a terminal that another has passed.
 ///
-/// The list has at most [`MAX_LOOKUP_LEN`](crate::MAX_LOOKUP_LEN) terminals, or none, and may name one several times.
-/// `heads` and `visits` have its length.
+/// The list has at most [`MAX_LOOKUP_LEN`](crate::MAX_LOOKUP_LEN) terminals. It may be empty, and may name one several
+/// times. `heads` and `visits` have its length.
 ///
 /// # Errors
 ///

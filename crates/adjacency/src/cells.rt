@@ -1,4 +1,4 @@
-// Cells of 16 bits, read and written as numbers of the machine's width.
+// Cells of 16 bits: read and written as numbers of the machine's width, and copied.
 ghost use mathlib.Core.Path.{_≡_};
 ghost use Prim.Native.Nat.{_<_};
 ghost use lib.ListN.{length, getD, set};

@@ -1,7 +1,8 @@
 -- Demands 2 and 3 as theorems, and what document 02 says of the start, of doubled wires and of a list of terminals:
--- open this file first. The index is any that Build writes for the record, with any start (`Written`), and the marks
--- are the bits of that index; the answers are those of the operations, as `Operations` defines them and as the contracts
--- of the code say. Terminal v is vertex v - 1 of the graph; positions of a block and cells of a list count from 0.
+-- open this file first. The index is any that Build writes for the record, with any start (`Written`), or, where it is
+-- said, any at all; the marks are the bits of that index; the answers are those of the operations, as `Operations` and
+-- `Lookup` define them and as the contracts of the code say. Terminal v is vertex v - 1 of the graph; positions of a
+-- block and cells of a list count from 0.
 use mathlib.Core.Path.{_≡_, sym, ap, subst, _∙_}
 use mathlib.Core.Logic.{_⊎_, _↔_}
 use mathlib.Core.Bool.{Bool, true, false}
@@ -35,7 +36,7 @@ use Rattle.queries.specs.Laws.Given.{never-seven}
 use Rattle.queries.specs.Laws.Looked as Looked
 use Rattle.queries.specs.Laws.Looked.{lookup-cells, lookup-refuses-head, lookup-refuses-visit, lookup-none}
 use Rattle.queries.specs.Laws.Looked.{lookup-built, head-gives, visit-gives}
-use Rattle.queries.specs.Lookup.{Lists, lists, badList, lookup, lookedUp, LookupCells, Answers}
+use Rattle.queries.specs.Lookup.{Lists, lists, badList, lookup, lookedUp, BothAnswer, LookupCells}
 use Rattle.queries.specs.Table.{tableOn, tableOf, Tabled}
 use Rattle.queries.specs.Given.{NeverGiven}
 
@@ -66,7 +67,7 @@ module _ (bytes index list : List ℕ) (lent : Lists) where
 
   -- once order R, 10 and 15 are kept, and the single calls answer for the terminals before cell i
   module _ (b : firstBroken (besideRules bytes index) ≡ 0) (g : badList list lent ≡ false)
-      {i : ℕ} (h : i < length list) (before : (j : ℕ) → j < i → Answers bytes index (getD list j 0)) where
+      {i : ℕ} (h : i < length list) (before : (j : ℕ) → j < i → BothAnswer bytes index (getD list j 0)) where
     -- a refusal by Head there is the call's, and so is one by Visit where Head answers
     pub lookup-head-refused : {k : ℕ} → head bytes index (getD list i 0) ≡ refused k
         → lookup bytes index list lent ≡ refused k

@@ -1,5 +1,6 @@
--- Laws about the queries: answers settle values, order Q, answers on a view that shows a forest, the view and the
--- bits of a built index, indexes that agree where the queries look, and which refusals are given.
+-- Laws about the queries: answers settle values, order Q, numbers of 16 bits, answers on a view that shows a forest,
+-- the view and the bits of a built index, indexes that agree where the queries look, Lookup beside the single calls,
+-- and which refusals are given.
 pub mod Settled
 pub mod Framed
 pub mod Asked
@@ -14,5 +15,6 @@ pub mod Answered
 pub mod Edges
 pub mod Columns
 pub mod Twelve
+pub mod Asks
 pub mod Looked
 pub mod Given

@@ -7,7 +7,7 @@
 --   lookedOf     what the code says of one terminal
 --   LookedAll    what it says of all, and the lists that it fills
 use mathlib.Core.Path.{_≡_}
-use mathlib.Core.List.{List, map}
+use mathlib.Core.List.{List}
 use mathlib.Core.Logic.{_⊎_}
 use Prim.Native.Nat.{ℕ, _+_, _≤_, _<_}
 use lib.ListN.{length, getD}
@@ -15,7 +15,7 @@ use Rattle.graph.specs.Walk.{Ends}
 use Rattle.record.specs.Answers.{Answer, refused, answered, number, tried}
 use Rattle.queries.specs.View.{View}
 use Rattle.queries.specs.Queries.{headNext}
-use Rattle.queries.specs.Lookup.{Lists, headAndVisit, refusedBy, lookupLists}
+use Rattle.queries.specs.Lookup.{Lists, headAndVisit, asks, lookupLists}
 use Rattle.queries.specs.declared.lookups.Looked.{Looked}
 use Rattle.queries.specs.declared.lookups.Looked.the-variants as Looked
 
@@ -59,5 +59,5 @@ lookedOf (Looked.Refused r) = refused (number r)
 
 -- the first refusal in list order; where there is none, the lists have the answers
 pub record LookedAll (bytes index list : List ℕ) (found : Lists) (r : Answer (Unit {0})) : Type 0 where
-  pub answers : r ≡ tried (map (λ v. refusedBy (headAndVisit bytes index v)) list) tt
+  pub answers : r ≡ tried (asks (headAndVisit bytes index) list) tt
   pub finds : r ≡ answered tt → found ≡ lookupLists bytes index list

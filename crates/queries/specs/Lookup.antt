@@ -1,20 +1,21 @@
 -- Lookup: what Head and Visit answer for each terminal of a list, by one call (document 02, "Many questions on one
 -- reading").
---   Lists          two lists, in which cell i is that of the list's terminal i
+--   Lists, lists   two lists, in which cell i is that of the list's terminal i
 --   both           two answers as one: the first refusal, or the two values
 --   headAndVisit   what the single calls say of one terminal, Head before Visit
 --   refusedBy      an answer as a rule: broken where it refuses, and with that number
+--   asks           what is asked of each number of a list, as rules in list order
 --   badList        15
 --   lookupRules    order R, 10 and 15, and then what each terminal is refused with, in list order
 --   lookup         what the operation answers
 --   lookupLists    the heads and the visit numbers of a list
 --   lookedUp       what the two lists hold afterwards
 --   LookupDone     the answer and the lists of a call
+--   BothAnswer     both single calls answer for a terminal
 --   LookupCells    each cell is what its single call answers
---   Answers        both single calls answer for a terminal
 use mathlib.Core.Path.{_≡_}
 use mathlib.Core.Bool.{Bool, true, false, _||_}
-use mathlib.Core.List.{List, [], _∷_, _++_, map}
+use mathlib.Core.List.{List, _∷_, _++_, map}
 use Prim.Native.Nat.{ℕ, _<_}
 use lib.Dec.{ltb}
 use lib.ListN.{length, getD}
@@ -46,6 +47,9 @@ refusedBy (answered x) = (0, false)
 
 -- ---- the list
 
+abbrev pub asks : {A : Type 0} → (ℕ → Answer A) → List ℕ → List Rule
+asks ask list = map (λ v. refusedBy (ask v)) list
+
 -- it has more than 512 terminals, or an answer list has another length
 unfoldable pub badList : List ℕ → Lists → Bool
 badList list lent =
@@ -53,7 +57,7 @@ badList list lent =
 
 unfoldable pub lookupRules : List ℕ → List ℕ → List ℕ → Lists → List Rule
 lookupRules bytes index list lent =
-    besideRules bytes index ++ ((15, badList list lent) ∷ map (λ v. refusedBy (headAndVisit bytes index v)) list)
+    besideRules bytes index ++ ((15, badList list lent) ∷ asks (headAndVisit bytes index) list)
 
 unfoldable pub lookup : List ℕ → List ℕ → List ℕ → Lists → Answer (Unit {0})
 lookup bytes index list lent = tried (lookupRules bytes index list lent) tt
@@ -76,7 +80,7 @@ pub record LookupDone (bytes index list : List ℕ) (before after : Lists) (r : 
 -- ---- cell by cell
 
 -- both single calls answer for v
-pub record Answers (bytes index : List ℕ) (v : ℕ) : Type 0 where
+pub record BothAnswer (bytes index : List ℕ) (v : ℕ) : Type 0 where
   pub its-head : ℕ
   pub its-visit : ℕ
   pub head-is : head bytes index v ≡ answered its-head

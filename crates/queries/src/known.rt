@@ -1,8 +1,8 @@
 // Head by what earlier climbs have found. Cell u of `known` has the head of vertex u, from 1, or 0 where no climb has
-// passed it. So all climbs together look at each block once.
+// passed it. So no climb looks at a block that another has looked at.
 ghost use mathlib.Core.Path.{_≡_};
 ghost use Prim.Native.Nat.{_≤_, _<_};
-ghost use lib.ListN.{length, getD};
+ghost use lib.ListN.{length};
 ghost use Rattle.record.specs.Record.{unary};
 ghost use Rattle.record.specs.Starts.{startsOf};
 ghost use Rattle.queries.specs.View.{viewBy};

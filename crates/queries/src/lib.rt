@@ -17,7 +17,7 @@ use record::Verdict;
 use record::Vertex;
 use record::range::out_of_range;
 
-mod order; // order.rt: order Q
+mod order; // order.rt: order R with rule 10, and order Q
 mod marks; // marks.rt: a mark of B, and stored numbers
 mod blocks; // blocks.rt: the marks of one block
 mod climbs; // climbs.rt: steps up the forest

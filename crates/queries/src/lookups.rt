@@ -155,8 +155,6 @@ fn lookup_by(
         × (length (now way) ≡ n)
         × (length (now first) ≡ length (now list))
         × (length (now second) ≡ length (now list))
-        × (length (now heads) ≡ length (now list))
-        × (length (now visits) ≡ length (now list))
         ⌝ }
     ensures { λ r. ⌜ LookupDone (now (bytes .entry)) (now (index .entry)) (now (list .entry))
         (lists (now (heads .entry)) (now (visits .entry)))

@@ -74,8 +74,8 @@ fn run(name: &[u8], bytes: &[u8], index: &[u8]) {
     lent(name, bytes, index, &[3], 1, 0);
 }
 
-// The sample with its index; with one on which Head refuses 3 and 2; with one on which Visit alone refuses 2 and 4. Then
-// 10; 1; and 3 before 10.
+// The sample with its index; with one on which Head refuses 3 and 2; with one on which Visit alone refuses 2 and 4.
+// Then 10; 1; and 3 before 10.
 pub fn runs() {
     run(
         b"sample",

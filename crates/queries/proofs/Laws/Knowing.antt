@@ -3,7 +3,8 @@
 --   known-none, known-kept   the known heads at first, and after a way has got one
 --   room                     arrays of zeros are room
 --   head-at                  a climb that stops is what Head answers
---   WayTo, way-..      the vertices that a climb has passed, and where it stands
+--   head-here, head-above    a climb that stops here, and one that goes on
+--   WayTo, way-..            the vertices that a climb has passed, and where it stands
 --   Climbed, climbed-..      what the loop keeps, from its begin to its end
 use mathlib.Core.Path.{_≡_, refl, sym, ap, subst, _∙_}
 use mathlib.Core.Logic.{_⊎_, inl, inr}
@@ -14,7 +15,7 @@ use native.Mathlib.Omega.{arith}
 use lib.ListN.{length, take, getD, set, replicate, length-replicate, length-set}
 use lib.Seq.{length-take-le}
 use Rattle.adjacency.specs.Laws.Stores.{cell-zero, cell-same, cell-other}
-use Rattle.graph.specs.Walk.{walk, Ends, here, up}
+use Rattle.graph.specs.Walk.{here, up}
 use Rattle.graph.specs.Laws.Heads.Limits.{walk-stops}
 use Rattle.record.specs.Answers.{Answer, refused, answered}
 use Rattle.queries.specs.View.{View, viewBy}

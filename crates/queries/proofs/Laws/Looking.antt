@@ -1,12 +1,12 @@
 -- From the steps of the code to what Lookup answers.
---   outside-told, head-refused, visit-refused, both-told    one terminal
+--   outside-told, head-refused, visit-refused, both-told, both-near    one terminal
 --   LookingAt    the terminals before cell i are answered, and their answers are in the lists
 --   looking-..   from its begin to its end
 --   lookup-..    the call, by the rules that are tried in turn
 --   list-long, heads-misfit, visits-tested, lists-fit    rule 15
-use mathlib.Core.Path.{_≡_, refl, sym, ap, ap₂, _∙_}
+use mathlib.Core.Path.{_≡_, refl, sym, ap₂, _∙_}
 use mathlib.Core.Bool.{true, false, not}
-use mathlib.Core.List.{List, [], _∷_, _++_, map}
+use mathlib.Core.List.{List, _∷_, _++_}
 use Prim.Native.Nat.{ℕ, _+_, _-_, _≤_, _<_}
 use native.Mathlib.Omega.{arith}
 use borrow.Author.Tests.{eq-eqb, ne-eqb, lt-ltb, le-ltb, ltb-false}
@@ -21,20 +21,21 @@ use Rattle.record.specs.declared.Refusal.{Refusal}
 use Rattle.record.specs.Laws.First.{first-broken, append-kept, append-broken}
 use Rattle.record.specs.Laws.Settled.{number-bounds}
 use Rattle.record.specs.Laws.Valued.{value-at}
-use Rattle.record.specs.Laws.Told.{told, untold, told-back, untold-back, then-told, buffer-kept, buffer-written}
+use Rattle.record.specs.Laws.Told.{told, told-number, untold, told-back, untold-back, then-told}
+use Rattle.record.specs.Laws.Told.{buffer-kept, buffer-written}
 use Rattle.queries.specs.View.{View, viewBy, viewOf}
 use Rattle.queries.specs.Queries.{headOf, visitOf}
 use Rattle.queries.specs.Operations.{besideRules, orderQ, head, visit}
-use Rattle.queries.specs.Lookup.{Lists, lists, headAndVisit, refusedBy, badList, lookupRules, lookup}
+use Rattle.queries.specs.Lookup.{Lists, lists, headAndVisit, asks, badList, lookupRules, lookup}
 use Rattle.queries.specs.Lookup.{lookupLists, lookedUp, LookupDone}
 use Rattle.queries.specs.Looking.{LookedAll}
 use Rattle.queries.specs.Steps.{Beside, Ranged}
 use Rattle.queries.specs.Laws.Asked.{beside-numbered, same-length, beside-unbroken, Asked, asked-inside}
 use Rattle.queries.specs.Laws.Asked.{asked-outside}
+use Rattle.queries.specs.Laws.Asks.{asked-refused, asked-passed, asked-all}
 use Rattle.queries.specs.Laws.Looked.{both-first, both-second, both-values, both-back, head-cell, visit-cell}
 use Rattle.queries.specs.Laws.Looked.{questions-left}
 use Rattle.queries.specs.Laws.Small.{head-small, visit-small}
-use Rattle.queries.specs.Laws.Looked.{told-number, asked-refused, asked-passed, asked-all}
 use Rattle.queries.proofs.Laws.Asking.{passed-on}
 
 -- ---- one terminal
@@ -84,11 +85,9 @@ both-near bytes index v e =
 
 -- ---- the list, cell by cell
 
-abbrev questions : List ℕ → List ℕ → List ℕ → List Rule
-questions bytes index list = map (λ v. refusedBy (headAndVisit bytes index v)) list
-
 pub record LookingAt (bytes index list : List ℕ) (found : Lists) (i : ℕ) : Type 0 where
-  pub left : firstBroken (questions bytes index (drop i list)) ≡ firstBroken (questions bytes index list)
+  pub left : firstBroken (asks (headAndVisit bytes index) (drop i list))
+      ≡ firstBroken (asks (headAndVisit bytes index) list)
   pub heads-to : InOrder (lookupLists bytes index list .heads) (found .heads) i
   pub visits-to : InOrder (lookupLists bytes index list .visits) (found .visits) i
 
@@ -110,7 +109,7 @@ module _ (bytes index list : List ℕ) where
   }
 
   module _ {found : Lists} {i : ℕ} (l : LookingAt bytes index list found i) where
-    pub looking-inside : i ≤ length list
+    looking-inside : i ≤ length list
     looking-inside = let e = length-heads in let u = l .heads-to .upto in omega arith
 
     pub looking-heads : length (found .heads) ≡ length list
@@ -122,7 +121,7 @@ module _ (bytes index list : List ℕ) where
     pub looking-stops : i < length list → (q : Refusal) → refused (number q) ≡ headAndVisit bytes index (getD list i 0)
         → LookedAll bytes index list found (refused (number q))
     looking-stops h q e = record {
-      answers = told-number (firstBroken (questions bytes index list)) tt
+      answers = told-number (firstBroken (asks (headAndVisit bytes index) list)) tt
           (sym (l .left) ∙ asked-refused (headAndVisit bytes index) list h e) (number-bounds q .0);
       finds = λ f. absurd (let z : _≡_ {A = ℕ} 0 1 = cc in omega arith);
     }
@@ -154,7 +153,7 @@ module _ (bytes index list : List ℕ) where
 
 module _ (bytes index list : List ℕ) (lent : Lists) where
   abbrev rest : List Rule
-  rest = (15, badList list lent) ∷ questions bytes index list
+  rest = (15, badList list lent) ∷ asks (headAndVisit bytes index) list
 
   -- order R or rule 10 is broken
   pub lookup-unread : {k : ℕ} → refused k ≡ tried (besideRules bytes index) (sizesOf bytes)
@@ -176,30 +175,30 @@ module _ (bytes index list : List ℕ) (lent : Lists) where
     pub lookup-bad : badList list lent ≡ true → LookupDone bytes index list lent lent (refused 15)
     unfolding lookup lookedUp
     lookup-bad o =
-        let h = rest-told ∙ first-broken 15 (questions bytes index list) o in
+        let h = rest-told ∙ first-broken 15 (asks (headAndVisit bytes index) list) o in
         record {
           answers = told tt h;
           leaves = buffer-kept (lookupRules bytes index list lent) (lookupLists bytes index list) lent h;
         }
 
     module _ (g : badList list lent ≡ false) where
-      pub lookup-refused : {k : ℕ} → refused k ≡ tried {A = Unit {0}} (questions bytes index list) tt
+      pub lookup-refused : {k : ℕ} → refused k ≡ tried {A = Unit {0}} (asks (headAndVisit bytes index) list) tt
           → LookupDone bytes index list lent lent (refused k)
       unfolding lookup lookedUp
       lookup-refused e =
-          let (i, f, q) = told-back (firstBroken (questions bytes index list)) tt e in
+          let (i, f, q) = told-back (firstBroken (asks (headAndVisit bytes index) list)) tt e in
           let h = questions-left bytes index list lent (beside-unbroken b) g ∙ f in
           record {
             answers = rw q (told tt h);
             leaves = buffer-kept (lookupRules bytes index list lent) (lookupLists bytes index list) lent h;
           }
 
-      pub lookup-filled : {after : Lists} → answered tt ≡ tried {A = Unit {0}} (questions bytes index list) tt
+      pub lookup-filled : {after : Lists} → answered tt ≡ tried {A = Unit {0}} (asks (headAndVisit bytes index) list) tt
           → after ≡ lookupLists bytes index list → LookupDone bytes index list lent after (answered tt)
       unfolding lookup lookedUp
       lookup-filled e f =
           let h = questions-left bytes index list lent (beside-unbroken b) g
-          ∙ untold-back (firstBroken (questions bytes index list)) tt e .0 in
+          ∙ untold-back (firstBroken (asks (headAndVisit bytes index) list)) tt e .0 in
           record {
             answers = untold tt h;
             leaves = f ∙ buffer-written (lookupRules bytes index list lent) (lookupLists bytes index list) lent h;

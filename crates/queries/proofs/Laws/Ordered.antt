@@ -3,7 +3,7 @@ use mathlib.Core.Path.{_≡_, sym, ap, ap₂, _∙_}
 use mathlib.Core.Bool.{Bool, true, false, not}
 use mathlib.Core.List.{List, [], _∷_}
 use Prim.Native.Nat.{ℕ}
-use borrow.Author.Tests.{eq-eqb, ne-eqb}
+use borrow.Author.Tests.{ne-eqb}
 use lib.ListN.{length}
 use Rattle.record.specs.Record.{terminals, wires}
 use Rattle.record.specs.Rules.{Rule, firstBroken, orderR}
@@ -19,8 +19,8 @@ use Rattle.record.specs.Laws.Sounded.{told-sound}
 use Rattle.record.specs.Laws.Told.{told, untold, untold-back, told-append}
 use Rattle.forest.specs.Index.{indexLength}
 use Rattle.queries.specs.Operations.{besideRules, orderQ}
-use Rattle.queries.specs.Steps.{Beside}
-use Rattle.queries.specs.Laws.Asked.{beside-numbered, beside-told}
+use Rattle.queries.specs.Steps.{Framed}
+use Rattle.queries.specs.Laws.Asked.{beside-told, beside-unbroken, order-told}
 
 -- ---- rule 10
 
@@ -55,12 +55,12 @@ module _ (bytes index : List ℕ) {r : Shape} (e : shape r ≡ tried (orderR byt
           told (sizesOf bytes) (tenth-told ∙ first-broken 10 [] (ap not other))
 
       pub index-fits : length index ≡ x → answered s ≡ tried (besideRules bytes index) (sizesOf bytes)
-      unfolding otherLength firstBroken
       index-fits h =
-          let same = eq-eqb (length index) (indexLength (terminals bytes) (wires bytes)) (h ∙ right) in
+          let o = order-sound in
+          let f : Framed index (s .n) (s .m) = record { n-fits = o .n-fits; m-fits = o .m-fits; sized = h ∙ l } in
           let sizes : ℕ → ℕ → Sizes = λ x y. record { n = x; m = y } in
-          ap answered (ap₂ sizes (order-sound .is-n) (order-sound .is-m))
-          ∙ untold (sizesOf bytes) (tenth-told ∙ first-kept 10 [] (ap not same))
+          ap answered (ap₂ sizes (o .is-n) (o .is-m))
+          ∙ untold (sizesOf bytes) (beside-unbroken (record { sound = o; framed = f }))
 
 -- ---- rule 11
 
@@ -82,13 +82,8 @@ module _ (bytes index : List ℕ) (k : ℕ) {r : Shape} (e : shape r ≡ tried (
       passed = sym (ap shape f) ∙ e
 
       last-told : firstBroken (orderQ bytes index k) ≡ firstBroken ((11, t) ∷ [])
-      unfolding orderQ
       last-told =
-          let kept = untold-back (firstBroken (besideRules bytes index)) (sizesOf bytes) passed .0 in
-          let b : Beside bytes index (s .n) (s .m) = beside-told bytes index passed in
-          let test = ap (λ (y : ℕ). outOfRange y k) (sym (b .sound .is-n)) ∙ sym g in
-          append-kept (beside-numbered bytes index) (eleventh bytes k) kept
-          ∙ ap (λ (b : Bool). firstBroken ((11, b) ∷ [])) test
+          order-told (beside-told bytes index passed) k ∙ ap (λ (b : Bool). firstBroken ((11, b) ∷ [])) (sym g)
 
       pub number-outside : t ≡ true → refused 11 ≡ tried (orderQ bytes index k) (sizesOf bytes)
       number-outside o = told (sizesOf bytes) (last-told ∙ first-broken 11 [] o)

@@ -12,7 +12,7 @@ use Rattle.bits.specs.Laws.Bytes.{length-bits}
 use Rattle.graph.specs.Graph.{block}
 use Rattle.record.specs.Record.{terminals, wires, unary, fieldsFrom, blocks}
 use Rattle.record.specs.Rules.{Rule}
-use Rattle.record.specs.Answers.{Answer, answered, tried, triedThen, bufferAfter}
+use Rattle.record.specs.Answers.{answered, tried, triedThen, bufferAfter}
 use Rattle.record.specs.Operations.{otherLength, outOfRange}
 use Rattle.forest.specs.Index.{markBytes}
 use Rattle.queries.specs.View.{View, blockMarks, sectionOf, numberOf, viewOf, placeOf, Alike}

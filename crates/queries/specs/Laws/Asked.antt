@@ -95,7 +95,7 @@ asked bytes index v {s} e =
 
 -- for a number in range, and for one that is not, once order R and rule 10 are kept
 module _ {bytes index : List ℕ} {n m : ℕ} (b : Beside bytes index n m) (v : ℕ) where
-  order-told : firstBroken (orderQ bytes index v) ≡ firstBroken ((11, outOfRange n v) ∷ [])
+  pub order-told : firstBroken (orderQ bytes index v) ≡ firstBroken ((11, outOfRange n v) ∷ [])
   unfolding orderQ
   order-told =
       append-kept (beside-numbered bytes index) ((11, outOfRange (terminals bytes) v) ∷ []) (beside-unbroken b)

@@ -1,7 +1,7 @@
 -- Which refusals are given: 7 by no operation, since no rule has that number and a view is refused with 12 alone.
 use mathlib.Core.Path.{_≡_, refl, sym}
-use mathlib.Core.Bool.{false, _||_}
-use mathlib.Core.List.{List, [], _∷_, map}
+use mathlib.Core.Bool.{false}
+use mathlib.Core.List.{List, [], _∷_}
 use mathlib.Core.Logic.{inl, inr}
 use Prim.Native.Nat.{ℕ, _-_}
 use native.Mathlib.Omega.{arith}
@@ -17,7 +17,7 @@ use Rattle.queries.specs.Queries.{childCount, childOf}
 use Rattle.queries.specs.Operations.{besideRules, orderQ, parent, head, ancestorRules, ancestor, children}
 use Rattle.queries.specs.Operations.{childRules, child, visit, visited}
 use Rattle.queries.specs.Table.{tableRules, table}
-use Rattle.queries.specs.Lookup.{Lists, headAndVisit, refusedBy, badList, lookupRules, lookup}
+use Rattle.queries.specs.Lookup.{headAndVisit, refusedBy, asks, lookupRules, lookup}
 use Rattle.queries.specs.Given.{NeverGiven}
 use Rattle.queries.specs.Laws.Twelve.{Twelve, value, parent-twelve, head-twelve, ancestor-twelve, vertex-twelve}
 use Rattle.queries.specs.Laws.Twelve.{visit-twelve, visited-twelve}
@@ -50,7 +50,7 @@ module _ (bytes index : List ℕ) where
       ]
       ))
 
-  lacks-7 : (list : List ℕ) → has 7 (map (λ v. refusedBy (headAndVisit bytes index v)) list) ≡ false
+  lacks-7 : (list : List ℕ) → has 7 (asks (headAndVisit bytes index) list) ≡ false
   unfolding has
   lacks-7 [] = refl
   lacks-7 (v ∷ list) = rw (asked-7 v (headAndVisit bytes index v) refl, lacks-7 list)

@@ -1,41 +1,38 @@
 -- Lookup and the single calls.
 --   both-..          the two answers of one terminal, and back
---   refusal-first    a refused question is the first broken rule
---   value-passed     one that is answered is passed over
---   asked-..         the questions of a list from a cell on
---   told-number      the refusal of a first broken rule that has a number other than 0
 --   head-cell, visit-cell    the cells of an answered terminal
+--   head-gives, visit-gives  which refusals are left once order R and rule 10 are kept
 --   lookup-cells     where nothing is refused, each cell is its single call's answer
 --   lookup-unwritten where one is, the lists stay
+--   questions-left   the rules that are left once order R, 10 and 15 are kept
 --   lookup-refuses-head, lookup-refuses-visit    the first refusal in list order is the answer
---   lookup-none      a list of none is answered
---   lookup-built     so is a list of terminals, on an index that Build writes
---   head-gives, visit-gives  which refusals are left once order R and rule 10 are kept
+--   lookup-answers   where both single calls answer for each terminal, so does Lookup
+--   lookup-built     a list of terminals, on an index that Build writes
+--   lookup-none      a list of none
 use mathlib.Core.Path.{_≡_, refl, sym, ap, subst, _∙_}
 use mathlib.Core.Bool.{Bool, true, false}
-use mathlib.Core.List.{List, [], _∷_, _++_, map}
+use mathlib.Core.List.{List, [], _∷_}
 use mathlib.Core.Logic.{_⊎_, inl, inr}
-use Prim.Native.Nat.{ℕ, zero, suc, _+_, _-_, _≤_, _<_}
-use native.Mathlib.Numerals.{add-one}
+use Prim.Native.Nat.{ℕ, zero, suc, _-_, _≤_, _<_}
 use native.Mathlib.Omega.{arith}
-use lib.ListN.{length, drop, getD}
-use lib.Seq.{drop-cons, drop-length}
+use lib.ListN.{length, getD}
 use Rattle.record.specs.Record.{terminals}
 use Rattle.record.specs.Rules.{Rule, firstBroken}
-use Rattle.record.specs.Answers.{Answer, refused, answered, said, outcome, otherwise, tried, triedThen}
+use Rattle.record.specs.Answers.{Answer, refused, answered, said, otherwise, triedThen}
 use Rattle.record.specs.Operations.{otherLength, outOfRange}
 use Rattle.record.specs.Laws.First.{first-broken, first-kept, append-kept, both-kept, rule-kept}
 use Rattle.record.specs.Laws.Mapped.{map-at}
-use Rattle.record.specs.Laws.Told.{told, untold, told-back, untold-back, buffer-kept, buffer-written}
+use Rattle.record.specs.Laws.Told.{told-number, untold, told-back, untold-back, buffer-kept, buffer-written}
 use Rattle.queries.specs.View.{viewOf}
 use Rattle.queries.specs.Queries.{headOf, visitOf}
 use Rattle.queries.specs.Operations.{besideRules, orderQ, head, visit}
-use Rattle.queries.specs.Lookup.{Lists, lists, both, headAndVisit, refusedBy, badList, lookupRules, lookup}
-use Rattle.queries.specs.Lookup.{lookupLists, lookedUp, LookupCells, Answers}
+use Rattle.queries.specs.Lookup.{Lists, lists, both, headAndVisit, asks, badList, lookupRules, lookup}
+use Rattle.queries.specs.Lookup.{lookupLists, lookedUp, BothAnswer, LookupCells}
 use Rattle.queries.specs.Written.{Written, Terminal}
-use Rattle.queries.specs.Laws.Asked.{beside-numbered, beside-unbroken, order-numbered-q}
+use Rattle.queries.specs.Laws.Asked.{beside-numbered, beside-of, beside-unbroken, order-told}
 use Rattle.queries.specs.Laws.Answered.{beside-written, head-answer, visit-answer}
 use Rattle.queries.specs.Laws.Twelve.{Twelve, head-twelve, visit-twelve}
+use Rattle.queries.specs.Laws.Asks.{asked-refused, asked-all, passed-to, all-answered}
 
 -- ---- two answers
 
@@ -69,72 +66,6 @@ module _ {A B : Type 0} where
   both-refused (refused j) b {k} e = inl (let z : k ≡ j = cc in ap refused z)
   both-refused (answered x) (refused j) {k} e = inr (let z : k ≡ j = cc in ap refused z)
   both-refused (answered x) (answered y) e = absurd (let z : _≡_ {A = ℕ} 0 1 = cc in omega arith)
-
--- ---- questions in list order
-
--- the first broken rule has a number other than 0
-pub told-number : {A : Type 0} (j : ℕ) (a : A) {k : ℕ} → j ≡ k → 1 ≤ k → refused k ≡ outcome j a
-told-number zero a e h = absurd (omega arith)
-told-number (suc j) a e h = ap refused (sym e) ∙ told a refl
-
-module _ {A : Type 0} (rest : List Rule) {a : Answer A} where
-  pub refusal-first : {k : ℕ} → refused k ≡ a → firstBroken (refusedBy a ∷ rest) ≡ k
-  unfolding refusedBy firstBroken
-  refusal-first e = rw (← e)
-
-  pub value-passed : {x : A} → answered x ≡ a → firstBroken (refusedBy a ∷ rest) ≡ firstBroken rest
-  unfolding refusedBy firstBroken
-  value-passed e = rw (← e)
-
-module _ {A : Type 0} (ask : ℕ → Answer A) (list : List ℕ) where
-  -- the questions from cell i on
-  abbrev from : ℕ → List Rule
-  from i = map (λ v. refusedBy (ask v)) (drop i list)
-
-  from-cons : {i : ℕ} → i < length list → from i ≡ refusedBy (ask (getD list i 0)) ∷ from (i + 1)
-  from-cons {i} h =
-      ap (map (λ v. refusedBy (ask v))) (drop-cons list i 0 h)
-      ∙ ap (λ (k : ℕ). refusedBy (ask (getD list i 0)) ∷ from k) (sym (add-one i))
-
-  pub asked-refused : {i k : ℕ} → i < length list → refused k ≡ ask (getD list i 0) → firstBroken (from i) ≡ k
-  asked-refused {i} h e = ap firstBroken (from-cons h) ∙ refusal-first (from (i + 1)) e
-
-  pub asked-passed : {i : ℕ} {x : A} → i < length list → answered x ≡ ask (getD list i 0)
-      → firstBroken (from i) ≡ firstBroken (from (i + 1))
-  asked-passed {i} h e = ap firstBroken (from-cons h) ∙ value-passed (from (i + 1)) e
-
-  pub asked-all : {i : ℕ} → i ≡ length list → firstBroken (from i) ≡ 0
-  unfolding firstBroken
-  asked-all e = rw (e, drop-length list)
-
-  -- those before cell i are answered
-  pub passed-to : (i : ℕ) → i ≤ length list → ((j : ℕ) → j < i → (x : A) × (answered x ≡ ask (getD list j 0)))
-      → firstBroken (from 0) ≡ firstBroken (from i)
-  passed-to zero h each = refl
-  passed-to (suc i) h each =
-      let (x, e) = each i (omega arith) in
-      passed-to i (omega arith) (λ j l. each j (omega arith))
-      ∙ asked-passed (omega arith) e
-      ∙ ap (λ (k : ℕ). firstBroken (from k)) (add-one i)
-
--- where none is broken, all are answered, if none is refused with 0
-pub all-answered : {A : Type 0} (ask : ℕ → Answer A) → ((v k : ℕ) → refused k ≡ ask v → 1 ≤ k) → (list : List ℕ)
-    → firstBroken (map (λ v. refusedBy (ask v)) list) ≡ 0
-    → (i : ℕ) → i < length list → (x : A) × (answered x ≡ ask (getD list i 0))
-all-answered ask some [] k i h = absurd (omega arith)
-all-answered {A} ask some (v ∷ list) k i h = go (ask v) refl (λ e. all-answered ask some list e) i h
-  where
-    go : (a : Answer A) → a ≡ ask v
-        → (firstBroken (map (λ v. refusedBy (ask v)) list) ≡ 0 → (i : ℕ) → i < length list
-        → (x : A) × (answered x ≡ ask (getD list i 0)))
-        → (i : ℕ) → i < length (v ∷ list) → (x : A) × (answered x ≡ ask (getD (v ∷ list) i 0))
-    go (refused j) e more i h =
-        let z = some v j e in
-        let f = refusal-first (map (λ v. refusedBy (ask v)) list) e in
-        absurd (omega arith)
-    go (answered x) e more zero h = (x, e)
-    go (answered x) e more (suc i) h =
-        more (sym (value-passed (map (λ v. refusedBy (ask v)) list) e) ∙ k) i (omega arith)
 
 -- ---- the cells of a terminal
 
@@ -182,8 +113,7 @@ module _ (bytes index : List ℕ) where
   -- once order R and rule 10 are kept: 11 or 12 by Head, and then 12 alone by Visit
   module _ (b : firstBroken (besideRules bytes index) ≡ 0) (v : ℕ) where
     last-rule : firstBroken (orderQ bytes index v) ≡ firstBroken ((11, outOfRange (terminals bytes) v) ∷ [])
-    unfolding orderQ
-    last-rule = append-kept (beside-numbered bytes index) ((11, outOfRange (terminals bytes) v) ∷ []) b
+    last-rule = order-told (beside-of bytes index b refl refl) v
 
     pub head-gives : {k : ℕ} → head bytes index v ≡ refused k → (k ≡ 11) ⊎ (k ≡ 12)
     unfolding head otherwise firstBroken
@@ -212,7 +142,7 @@ module _ (bytes index : List ℕ) where
 
 module _ (bytes index list : List ℕ) (lent : Lists) where
   abbrev questions : List Rule
-  questions = map (λ v. refusedBy (headAndVisit bytes index v)) list
+  questions = asks (headAndVisit bytes index) list
 
   -- where none is refused
   module _ (none : firstBroken questions ≡ 0) {i : ℕ} (h : i < length list) where
@@ -255,11 +185,11 @@ module _ (bytes index list : List ℕ) (lent : Lists) where
     questions-left =
         append-kept (beside-numbered bytes index) ((15, badList list lent) ∷ questions) b ∙ first-kept 15 questions g
 
-    both-answered : {v : ℕ} → Answers bytes index v → (p : ℕ × ℕ) × (answered p ≡ headAndVisit bytes index v)
+    both-answered : {v : ℕ} → BothAnswer bytes index v → (p : ℕ × ℕ) × (answered p ≡ headAndVisit bytes index v)
     unfolding headAndVisit
     both-answered a = ((a .its-head, a .its-visit), both-values (sym (a .head-is)) (sym (a .visit-is)))
 
-    module _ {i : ℕ} (h : i < length list) (before : (j : ℕ) → j < i → Answers bytes index (getD list j 0)) {k : ℕ}
+    module _ {i : ℕ} (h : i < length list) (before : (j : ℕ) → j < i → BothAnswer bytes index (getD list j 0)) {k : ℕ}
       where
         stops : refused k ≡ headAndVisit bytes index (getD list i 0) → lookup bytes index list lent ≡ refused k
         unfolding lookup
@@ -279,7 +209,7 @@ module _ (bytes index list : List ℕ) (lent : Lists) where
         unfolding headAndVisit
         lookup-refuses-visit e f = stops (both-second (sym e) (sym f))
 
-    pub lookup-answers : ((i : ℕ) → i < length list → Answers bytes index (getD list i 0))
+    pub lookup-answers : ((i : ℕ) → i < length list → BothAnswer bytes index (getD list i 0))
         → lookup bytes index list lent ≡ answered tt
     unfolding lookup
     lookup-answers each =

@@ -1,6 +1,6 @@
 -- Every number that a query answers is one of 16 bits, for every record and index.
 use mathlib.Core.Path.{_≡_}
-use mathlib.Core.Logic.{_⊎_, inl, inr}
+use mathlib.Core.Logic.{_⊎_}
 use mathlib.Core.Bool.{Bool, false}
 use mathlib.Core.List.{List, map}
 use mathlib.Core.Option as Option
@@ -14,7 +14,7 @@ use Rattle.bits.specs.Laws.Rank.{count-le}
 use Rattle.bits.specs.Laws.Select.{select-le}
 use Rattle.graph.specs.Graph.{Blocks, block, target}
 use Rattle.graph.specs.Search.{countUp}
-use Rattle.graph.specs.Walk.{walk}
+use Rattle.graph.specs.Laws.Heads.Walks.{Steps, stops, leads, walk-has}
 use Rattle.graph.specs.Laws.Places.Basics.{Told, pass, fail, told}
 use Rattle.record.specs.Record.{terminals, wires, unary, blocks}
 use Rattle.record.specs.Rules.{firstBroken}
@@ -51,34 +51,18 @@ parent-by g l top i = value Option.none (omega arith)
 parent-by g l (rise j p) i = value (Option.some (suc p)) (omega arith)
 
 -- a climb: each step stops with a small number, or leads to a vertex
-data Climbs (b : ℕ) : Answer ℕ ⊎ ℕ → Type 0 where
-  stop : {a : Answer ℕ} → Small a → Climbs b (inl a)
-  up : {p : ℕ} → p < b → Climbs b (inr p)
-
-walk-small : (next : ℕ → Answer ℕ ⊎ ℕ) (b : ℕ) → ((u : ℕ) → u < b → Climbs b (next u))
-    → (k u : ℕ) → u < b → Small (walk next (refused 12) k u)
-unfolding walk
-walk-small next b each zero u h = last (next u) (each u h)
-  where
-    last : (x : Answer ℕ ⊎ ℕ) → Climbs b x → Small (elim x [ inl a ↦ a | inr p ↦ refused 12 ])
-    last (inl a) (stop s) = s
-    last (inr p) (up l) = none
-walk-small next b each (suc k) u h = on (λ p l. walk-small next b each k p l) (next u) (each u h)
-  where
-    on : ((p : ℕ) → p < b → Small (walk next (refused 12) k p)) → (x : Answer ℕ ⊎ ℕ) → Climbs b x
-        → Small (elim x [ inl a ↦ a | inr p ↦ walk next (refused 12) k p ])
-    on more (inl a) (stop s) = s
-    on more (inr p) (up l) = more p l
+abbrev Climbs : ℕ → Answer ℕ ⊎ ℕ → Type 0
+Climbs b = Steps Small (λ u. u < b)
 
 head-by : (w : View) → length (w .graph) ≤ 4096 → (u : ℕ) → u < length (w .graph) → (s : Step) → Inside (w .graph) s
     → Climbs (length (w .graph)) (headBy w u s)
-head-by w l u h stuck i = stop none
-head-by w l u h top i = stop (value (suc u) (omega arith))
+head-by w l u h stuck i = stops none
+head-by w l u h top i = stops (value (suc u) (omega arith))
 head-by w l u h (rise j p) i = go (told (getD (w .marksB u) j false))
   where
     go : Told (getD (w .marksB u) j false) → Climbs (length (w .graph)) (headBy w u (rise j p))
-    go (pass e) = rw (e, headBy) (stop (value (suc u) (omega arith)))
-    go (fail e) = rw (e, headBy) (up i)
+    go (pass e) = rw (e, headBy) (stops (value (suc u) (omega arith)))
+    go (fail e) = rw (e, headBy) (leads i)
 
 found-small : (k : ℕ) → k ≤ 4096 → Small (found k)
 found-small zero h = none
@@ -116,7 +100,7 @@ module _ (bytes index : List ℕ) where
   head-small v = then-valued (orderQ bytes index v) (headOf w (v - 1)) (λ k. (
       let (l, h) = vertices v k in
       let g = blocks bytes in
-      walk-small (headNext w) (length g) (λ u i. (
+      walk-has (headNext w) (refused 12) none (λ u i. (
       let marks = w .marksP u in
       let inside = step-inside g u (count marks) (select marks 1 - 1) in
       head-by w l u i (stepUp g (w .marksP) u) inside

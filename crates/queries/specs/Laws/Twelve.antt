@@ -14,6 +14,7 @@ use lib.ListN.{length, getD}
 use Rattle.bits.specs.Bits.{select}
 use Rattle.graph.specs.Search.{countUp}
 use Rattle.graph.specs.Walk.{walk}
+use Rattle.graph.specs.Laws.Heads.Walks.{Steps, stops, leads, walk-has}
 use Rattle.record.specs.Answers.{Answer, refused, answered}
 use Rattle.queries.specs.View.{View}
 use Rattle.queries.specs.Queries.{Step, stuck, top, rise, stepUp, parentBy, parentOf, headBy, headNext, headOf}
@@ -57,37 +58,25 @@ visited-twelve w k = go (select (map (λ u. eqb (w .stored u) k) (countUp 0 (len
     go zero = bad
     go (suc u) = value (suc u)
 
--- a step of a climb that stops with an answer
-data Stops {A : Type 0} : Answer A ⊎ ℕ → Type 0 where
-  stop : {a : Answer A} → Twelve a → Stops (inl a)
-  on : (u : ℕ) → Stops (inr u)
+-- a step of a climb stops with such an answer, or leads on
+abbrev Turns : {A : Type 0} → Answer A ⊎ ℕ → Type 0
+Turns = Steps Twelve (λ u. Unit {0})
 
-walk-twelve : {A : Type 0} (next : ℕ → Answer A ⊎ ℕ) → ((v : ℕ) → Stops (next v)) → (k v : ℕ)
+walk-twelve : {A : Type 0} (next : ℕ → Answer A ⊎ ℕ) → ((v : ℕ) → Turns (next v)) → (k v : ℕ)
     → Twelve (walk next (refused 12) k v)
-unfolding walk
-walk-twelve {A} next h zero v = go (next v) (h v)
-  where
-    go : (s : Answer A ⊎ ℕ) → Stops s → Twelve {A = A} (elim s [ inl a ↦ a | inr u ↦ refused 12 ])
-    go (inl a) (stop t) = t
-    go (inr u) (on u′) = bad
-walk-twelve {A} next h (suc k) v = go (λ u. walk-twelve next h k u) (next v) (h v)
-  where
-    go : ((u : ℕ) → Twelve (walk next (refused 12) k u)) → (s : Answer A ⊎ ℕ) → Stops s
-        → Twelve {A = A} (elim s [ inl a ↦ a | inr u ↦ walk next (refused 12) k u ])
-    go rec (inl a) (stop t) = t
-    go rec (inr u) (on u′) = rec u
+walk-twelve next each k v = walk-has next (refused 12) bad (λ u q. each u) k v tt
 
 pub head-twelve : (w : View) (u : ℕ) → Twelve (headOf w u)
 unfolding headOf
 head-twelve w u = walk-twelve (headNext w) (λ v. step v (stepUp (w .graph) (w .marksP) v)) (length (w .graph) - 1) u
   where
-    mark : (v p : ℕ) (b : Bool) → Stops {A = ℕ} (elim b [ true ↦ inl (answered (suc v)) | false ↦ inr p ])
-    mark v p true = stop (value (suc v))
-    mark v p false = on p
+    mark : (v p : ℕ) (b : Bool) → Turns {A = ℕ} (elim b [ true ↦ inl (answered (suc v)) | false ↦ inr p ])
+    mark v p true = stops (value (suc v))
+    mark v p false = leads tt
 
-    step : (v : ℕ) (s : Step) → Stops (headBy w v s)
-    step v stuck = stop bad
-    step v top = stop (value (suc v))
+    step : (v : ℕ) (s : Step) → Turns (headBy w v s)
+    step v stuck = stops bad
+    step v top = stops (value (suc v))
     step v (rise j p) = mark v p (getD (w .marksB v) j false)
 
 pub ancestor-twelve : (w : View) (x u : ℕ) → Twelve (ancestorOf w x u)
@@ -95,11 +84,11 @@ unfolding ancestorOf
 ancestor-twelve w x u =
     walk-twelve (ancestorNext w x) (λ v. met (eqb x v) (stepUp (w .graph) (w .marksP) v)) (length (w .graph) - 1) u
   where
-    step : (s : Step) → Stops (ancestorBy s)
-    step stuck = stop bad
-    step top = stop (value false)
-    step (rise j p) = on p
+    step : (s : Step) → Turns (ancestorBy s)
+    step stuck = stops bad
+    step top = stops (value false)
+    step (rise j p) = leads tt
 
-    met : (b : Bool) (s : Step) → Stops {A = Bool} (elim b [ true ↦ inl (answered true) | false ↦ ancestorBy s ])
-    met true s = stop (value true)
+    met : (b : Bool) (s : Step) → Turns {A = Bool} (elim b [ true ↦ inl (answered true) | false ↦ ancestorBy s ])
+    met true s = stops (value true)
     met false s = step s

@@ -1,7 +1,7 @@
 -- How an answer tells the first broken rule, or that none is broken; and the result buffer then.
-use mathlib.Core.Path.{_≡_, refl, sym, ap}
+use mathlib.Core.Path.{_≡_, refl, sym, ap, _∙_}
 use mathlib.Core.List.{List, _++_}
-use Prim.Native.Nat.{ℕ, zero, suc}
+use Prim.Native.Nat.{ℕ, zero, suc, _≤_}
 use native.Mathlib.Omega.{arith}
 use borrow.Author.Tests.{eq-eqb, ne-eqb}
 use lib.Dec.{eqb}
@@ -18,6 +18,11 @@ module _ {A : Type 0} where
   pub untold : {j : ℕ} (a : A) → j ≡ 0 → answered a ≡ outcome j a
   unfolding outcome
   untold a e = rw e
+
+  -- by a number other than 0
+  pub told-number : (j : ℕ) (a : A) {k : ℕ} → j ≡ k → 1 ≤ k → refused k ≡ outcome j a
+  told-number zero a e h = absurd (omega arith)
+  told-number (suc j) a e h = ap refused (sym e) ∙ told a refl
 
   -- the other way round
   pub told-back : (j : ℕ) (a : A) {k : ℕ} → refused k ≡ outcome j a → (i : ℕ) × (j ≡ suc i) × (k ≡ suc i)

@@ -63,6 +63,28 @@ module _ {A : Type 0} (next : ℕ → A ⊎ ℕ) (late : A) where
             ∙ (rec u (parent-entered b m) (omega arith) ∙ sym (s .1)))
       ]
 
+-- ---- what holds of every end of a walk
+
+-- a step that stops with such a value, or leads to such a vertex
+pub data Steps {A : Type 0} (P : A → Type 0) (Q : ℕ → Type 0) : A ⊎ ℕ → Type 0 where
+  stops : {a : A} → P a → Steps P Q (inl a)
+  leads : {u : ℕ} → Q u → Steps P Q (inr u)
+
+pub walk-has : {A : Type 0} {P : A → Type 0} {Q : ℕ → Type 0} (next : ℕ → A ⊎ ℕ) (late : A) → P late
+    → ((v : ℕ) → Q v → Steps P Q (next v)) → (k v : ℕ) → Q v → P (walk next late k v)
+unfolding walk
+walk-has {A} {P} {Q} next late l each zero v q = last (next v) (each v q)
+  where
+    last : (x : A ⊎ ℕ) → Steps P Q x → P (elim x [ inl a ↦ a | inr u ↦ late ])
+    last (inl a) (stops p) = p
+    last (inr u) (leads q) = l
+walk-has {A} {P} {Q} next late l each (suc k) v q = on (λ u r. walk-has next late l each k u r) (next v) (each v q)
+  where
+    on : ((u : ℕ) → Q u → P (walk next late k u)) → (x : A ⊎ ℕ) → Steps P Q x
+        → P (elim x [ inl a ↦ a | inr u ↦ walk next late k u ])
+    on more (inl a) (stops p) = p
+    on more (inr u) (leads q) = more u q
+
 -- ---- Head: up by the parent mark, unless it is at a bridge
 
 pub record HeadSteps {A : Type 0} (g : Blocks) (F : Forest) (answer : ℕ → A) (next : ℕ → A ⊎ ℕ) : Type 0 where

@@ -1,13 +1,13 @@
 -- `known::find_head` meets its contract: the heads that are known stay so, and those on the way get the head of where
 -- it leads.
 use mathlib.Core.Path.{_≡_, sym, ap, _∙_}
-use mathlib.Core.Logic.{_⊎_, inl}
+use mathlib.Core.Logic.{inl}
 use Prim.Native.Nat.{ℕ, suc, _+_, _-_, _<_}
 use native.Mathlib.Numerals.{add-one}
 use native.Mathlib.Omega.{arith}
 use borrow.Author.Needs.{needs}
 use lib.ListN.{length}
-use Rattle.record.specs.Answers.{Answer, answered}
+use Rattle.record.specs.Answers.{answered}
 use Rattle.record.specs.Laws.Sounded.{sound-vertices}
 use Rattle.queries.specs.Queries.{headNext}
 use Rattle.queries.specs.Steps.{moveOf}

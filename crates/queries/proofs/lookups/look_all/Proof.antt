@@ -1,6 +1,6 @@
 -- `lookups::look_all` meets its contract: the terminals before cell i are answered.
 use mathlib.Core.Path.{_≡_, sym, ap, _∙_}
-use Prim.Native.Nat.{ℕ, _-_, _<_}
+use Prim.Native.Nat.{_-_, _<_}
 use native.Mathlib.Omega.{arith}
 use borrow.Author.Needs.{needs}
 use lib.ListN.{length, getD}
@@ -8,7 +8,7 @@ use Rattle.queries.specs.View.{viewBy}
 use Rattle.queries.specs.Lookup.{lists, headAndVisit}
 use Rattle.queries.specs.Looking.{Known, lookedOf}
 use Rattle.queries.specs.declared.lookups.Looked.{Looked}
-use Rattle.queries.proofs.Laws.Looking.{both-near, LookingAt, looking-begins, looking-inside, looking-heads}
+use Rattle.queries.proofs.Laws.Looking.{both-near, LookingAt, looking-begins, looking-heads}
 use Rattle.queries.proofs.Laws.Looking.{looking-visits, looking-stops, looking-on, looking-ends}
 use Rattle.queries.proofs.lookups.look_all.Statement.{statement}
 use Rattle.queries.proofs.lookups.look_all.Tie as tie

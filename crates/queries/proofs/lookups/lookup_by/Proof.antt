@@ -1,11 +1,11 @@
 -- `lookups::lookup_by` meets its contract: the lists are written once the last answer is known.
 use mathlib.Core.Path.{_≡_, sym, ap, ap₂, _∙_}
+use Prim.Native.Nat.{_≤_}
 use borrow.Author.Needs.{needs}
 use lib.ListN.{length}
-use Rattle.record.specs.Answers.{answered, verdict}
-use Rattle.record.specs.declared.Verdict.the-variants as Verdict
+use Rattle.record.specs.Answers.{verdict}
 use Rattle.queries.specs.Lookup.{Lists, lists}
-use Rattle.queries.proofs.Laws.Looking.{lookup-refused, lookup-filled}
+use Rattle.queries.proofs.Laws.Looking.{lookup-refused, lookup-filled, lists-fit}
 use Rattle.queries.proofs.lookups.lookup_by.Statement.{statement}
 use Rattle.queries.proofs.lookups.lookup_by.Tie as tie
 
@@ -29,7 +29,13 @@ returns c =
 
 -- ---- the others are written
 
--- the answers are as many as the lists take
+-- the lists fit the answers
+fit : (s : tie.Start)
+    → (length (s .args .list .now) ≤ 512)
+    × (length (s .args .heads .now) ≡ length (s .args .list .now))
+    × (length (s .args .visits .now) ≡ length (s .args .list .now))
+fit s = lists-fit (s .args .list .now) (s .args .heads .now) (s .args .visits .now) (s .pre .1)
+
 first-long : (c : tie.After-look-all)
     → length (c .look-all .last .1 .1 .1 .1 .1 .1 .1 .1 .0) ≡ length (begin c .args .list .now)
 first-long c = c .look-all .kept .1 .1 .1 .1 .1 .1 .1 .1 .0 ∙ begin c .pre .5
@@ -41,14 +47,14 @@ second-long c = c .look-all .kept .1 .1 .1 .1 .1 .1 .1 .1 .1 .0 ∙ begin c .pre
 copy-requires : tie.Need-copy-requires
 copy-requires c κs =
     let asked = c .before .before .before .before .before .before .before .before .before .before .before .before in
-    begin asked .pre .7 ∙ sym (first-long asked)
+    fit (begin asked) .1 ∙ sym (first-long asked)
 
 copy-requires-2 : tie.Need-copy-requires-2
 copy-requires-2 c κs =
     let asked =
     c .before .before .before .before .before .before .before .before .before
     .before .before .before .before .before .before .before .before in
-    begin asked .pre .8 ∙ sym (second-long asked)
+    fit (begin asked) .2 ∙ sym (second-long asked)
 
 returns-2 : tie.Need-returns-2
 returns-2 c =

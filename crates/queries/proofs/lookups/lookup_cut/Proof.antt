@@ -1,5 +1,5 @@
 -- `lookups::lookup_cut` meets its contract: the parts lent are of the exact length.
-use mathlib.Core.Path.{_≡_, sym}
+use mathlib.Core.Path.{sym}
 use Prim.Native.Nat.{_≤_}
 use borrow.Author.Needs.{needs}
 use lib.ListN.{length}
@@ -12,11 +12,8 @@ use Rattle.queries.proofs.lookups.lookup_cut.Statement.{statement}
 use Rattle.queries.proofs.lookups.lookup_cut.Tie as tie
 
 -- there is room for the answers
-fit : (s : tie.Start)
-    → (length (s .args .list .now) ≤ 512)
-    × (length (s .args .heads .now) ≡ length (s .args .list .now))
-    × (length (s .args .visits .now) ≡ length (s .args .list .now))
-fit s = lists-fit (s .args .list .now) (s .args .heads .now) (s .args .visits .now) (s .pre .1)
+fit : (s : tie.Start) → length (s .args .list .now) ≤ 512
+fit s = lists-fit (s .args .list .now) (s .args .heads .now) (s .args .visits .now) (s .pre .1) .0
 
 slice-aggregate-lookup-by : tie.Need-slice-aggregate-lookup-by
 slice-aggregate-lookup-by c =
@@ -36,24 +33,24 @@ slice-aggregate-lookup-by-3 c =
 array-borrow-prefix-first : tie.Need-array-borrow-prefix-first
 array-borrow-prefix-first c =
     let start = c .before .before .before .before .before .before .before .before .before .before .before in
-    fit start .0
+    fit start
 
 slice-aggregate-lookup-by-4 : tie.Need-slice-aggregate-lookup-by-4
 slice-aggregate-lookup-by-4 c =
     let start = c .before .before .before .before .before .before .before .before .before .before .before .before in
-    sym (part-zeros 512 _ (fit start .0))
+    sym (part-zeros 512 _ (fit start))
 
 array-borrow-prefix-second : tie.Need-array-borrow-prefix-second
 array-borrow-prefix-second c =
     let start = c .before .before .before .before .before .before .before .before .before .before .before .before in
-    fit start .0
+    fit start
 
 slice-aggregate-lookup-by-5 : tie.Need-slice-aggregate-lookup-by-5
 slice-aggregate-lookup-by-5 c =
     let start =
     c .before .before .before .before .before .before .before
     .before .before .before .before .before .before in
-    sym (part-zeros 512 _ (fit start .0))
+    sym (part-zeros 512 _ (fit start))
 
 lookup-by-requires : tie.Need-lookup-by-requires
 lookup-by-requires c κs =
@@ -68,10 +65,8 @@ lookup-by-requires c κs =
       length-take-le _ _ (room .for-starts),
       known-none view (a .n) (a .known .now) (room .for-known) (room .none-known),
       length-take-le _ _ (room .for-way),
-      part-zeros 512 _ (fit s .0),
-      part-zeros 512 _ (fit s .0),
-      fit s .1,
-      fit s .2,
+      part-zeros 512 _ (fit s),
+      part-zeros 512 _ (fit s),
     )
 
 pub lookup-cut-spec : {M : Type 1} → statement M
