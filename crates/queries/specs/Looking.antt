@@ -54,7 +54,7 @@ pub record Kept (way : List ℕ) (k h : ℕ) (before after : List ℕ) : Type 0 
 -- ---- a terminal, and the list
 
 abbrev pub lookedOf : Looked → Answer (ℕ × ℕ)
-lookedOf (Looked.Both s) = answered (s .head, s .visit)
+lookedOf (Looked.Both s) = answered (s .head .0, s .visit .0)
 lookedOf (Looked.Refused r) = refused (number r)
 
 -- the first refusal in list order; where there is none, the lists have the answers

@@ -19,6 +19,7 @@ use super::visits::visit_in;
 use adjacency::cells::copy;
 use adjacency::cells::get;
 use adjacency::cells::put;
+use forest::Dfi;
 use record::Refusal;
 use record::Verdict;
 use record::Vertex;
@@ -27,8 +28,8 @@ use record::starts::fill_starts;
 
 // A terminal's head and visit number.
 pub struct Seen {
-    pub head: usize,
-    pub visit: usize,
+    pub head: Vertex,
+    pub visit: Dfi,
 }
 
 // What the single calls say of a terminal.
@@ -80,10 +81,7 @@ fn look(
         Found::Terminal(h) => {
             match visit_in(bytes, index, n, m, v) {
                 Numbered::Refused(r) => Looked::Refused(r),
-                Numbered::Number(i) => Looked::Both(Seen {
-                    head: h.0,
-                    visit: i.0,
-                }),
+                Numbered::Number(i) => Looked::Both(Seen { head: h, visit: i }),
             }
         }
     }
@@ -122,8 +120,8 @@ fn look_all(
             Looked::Both(s) => {
                 let h = s.head;
                 let x = s.visit;
-                put(heads, i, h);
-                put(visits, i, x);
+                put(heads, i, h.0);
+                put(visits, i, x.0);
             }
         }
         i += 1;

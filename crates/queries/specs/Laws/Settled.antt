@@ -134,7 +134,7 @@ turn-settles = settled turnOf turnBack back
 -- ---- one terminal of a list
 
 pub lookedBack : Answer (ℕ × ℕ) → Looked
-lookedBack (answered p) = Looked.Both (record { head = p .0; visit = p .1 })
+lookedBack (answered p) = Looked.Both (record { head = record { 0 = p .0 }; visit = record { 0 = p .1 } })
 lookedBack (refused k) = Looked.Refused (named k)
 
 pub looked-settles : (r : Looked) {a : Answer (ℕ × ℕ)} → lookedOf r ≡ a → r ≡ lookedBack a

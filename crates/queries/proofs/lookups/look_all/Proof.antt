@@ -113,14 +113,15 @@ returns c =
 
 put-requires : tie.Need-put-requires Inv-loop μ-loop
 put-requires c κs =
-    let l = c .before .before .before .before .before .before .before .before in
+    let case = c .before .before .before .before in
+    let l = case .before .before .before .before .before .before in
     let a = begin (place l) .args in
-    let near = both-near (a .bytes .now) (a .index .now) _ (told l (c .before .before .s .given .1)) in
+    let near = both-near (a .bytes .now) (a .index .now) _ (told l (case .s .given .1)) in
     (omega (arith, inside l, heads-long (place l)), near .0)
 
 put-requires-2 : tie.Need-put-requires-2 Inv-loop μ-loop
 put-requires-2 c κs =
-    let case = c .before .before .before .before .before .before in
+    let case = c .before .before .before .before .before .before .before .before in
     let l = case .before .before .before .before .before .before in
     let a = begin (place l) .args in
     let near = both-near (a .bytes .now) (a .index .now) _ (told l (case .s .given .1)) in
@@ -128,23 +129,21 @@ put-requires-2 c κs =
 
 add-i : tie.Need-add-i Inv-loop μ-loop
 add-i c =
-    let looked =
-    c .before .before .before .before .before .before .before .before
-    .before .before .before .before .before .before .before in
+    let case = c .before .before .before .before .before .before .before .before .before .before .before in
+    let looked = case .before .before .before .before .before .before in
     let start = begin (place looked) in
     omega (arith, inside looked, start .good .1 .1 .1 .1 .1 .1 .1 .0 .0)
 
 loop-less : tie.Need-loop-less Inv-loop μ-loop
 loop-less c =
-    let looked =
-    c .before .before .before .before .before .before .before .before
-    .before .before .before .before .before .before .before in
+    let case = c .before .before .before .before .before .before .before .before .before .before .before in
+    let looked = case .before .before .before .before .before .before in
     omega (arith, inside looked)
 
 loop-again : tie.Need-loop-again Inv-loop μ-loop
 loop-again c =
     let stored = c .before .before .before .before .before .before in
-    let case = stored .before .before .before in
+    let case = stored .before .before .before .before .before in
     let l = case .before .before .before .before .before .before in
     let a = begin (place l) .args in
     let e = told l (case .s .given .1) in (
