@@ -22,6 +22,11 @@ climb r s (via u j v ∷ F) x = elim (eqb x v) [ true ↦ s u j v (climb r s F u
 unfoldable pub parent : Forest → ℕ → ℕ  -- 0 for a root, else 1 + the parent
 parent F = climb (λ v. 0) (λ u j v a. suc u) F
 
+unfoldable pub roots : Forest → ℕ  -- how many roots there are
+roots [] = 0
+roots (root v ∷ F) = suc (roots F)
+roots (via u j v ∷ F) = roots F
+
 unfoldable pub rootOf : Forest → ℕ → ℕ  -- the root above v
 rootOf F = climb (λ v. v) (λ u j v a. a) F
 

@@ -2,6 +2,7 @@ pub mod Graph
 pub mod Search
 pub mod Joined
 pub mod Forest
+pub mod Counts
 pub mod Walk
 pub mod Theorems
 pub mod Sample

@@ -1,0 +1,42 @@
+-- Counting: the places and the wires that pass a test, and the looms.
+use Prim.Native.Nat.{ℕ, zero, suc, _+_}
+use mathlib.Core.Bool.{Bool, true, false, not, _||_}
+use lib.Dec.{eqb, ltb}
+use lib.ListN.{length}
+use Rattle.graph.specs.Graph.{Blocks, block, target, twin}
+use Rattle.graph.specs.Search.{PlaceTest, all}
+use Rattle.graph.specs.Joined.{joined}
+
+abbrev pub when : Bool → ℕ → ℕ  -- x where the test passes, else 0
+when true x = x
+when false x = 0
+
+unfoldable pub sum : ℕ → (ℕ → ℕ) → ℕ  -- f 0 + f 1 + .., n terms
+sum zero f = 0
+sum (suc n) f = sum n f + f n
+
+-- ---- places and wires
+
+unfoldable pub over : Blocks → (ℕ → ℕ → ℕ) → ℕ  -- the sum of f u j over the places (u, j)
+over g f = sum (length g) (λ u. sum (length (block g u)) (f u))
+
+unfoldable pub countPlaces : Blocks → PlaceTest → ℕ  -- how many places pass
+countPlaces g test = over g (λ u j. when (test u j) 1)
+
+unfoldable pub countEdges : Blocks → PlaceTest → ℕ  -- how many wires pass, each tested at its lower end alone
+countEdges g test = over g (λ u j. when (ltb u (target g u j)) (when (test u j) 1))
+
+unfoldable pub atNeither : Blocks → PlaceTest → PlaceTest  -- the wire at this place has the mark at neither end
+atNeither g mark u j = not (mark u j || mark (target g u j) (twin g u j))
+
+-- ---- looms
+
+unfoldable pub first : (ℕ → Bool) → ℕ → ℕ  -- the first number that passes, if it is below k, and else k
+first test zero = 0
+first test (suc k) = elim (test 0) [ true ↦ 0 | false ↦ suc (first (λ x. test (suc x)) k) ]
+
+unfoldable pub lowest : Blocks → ℕ → ℕ  -- the lowest vertex that is joined to v
+lowest g v = first (λ u. joined g all u v) v
+
+unfoldable pub looms : Blocks → ℕ  -- how many looms there are: a loom is the vertices joined to one, counted at its lowest
+looms g = sum (length g) (λ v. when (eqb (lowest g v) v) 1)
