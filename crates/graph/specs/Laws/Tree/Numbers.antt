@@ -119,6 +119,12 @@ module _ (w : ℕ → ℕ) where
   unfolding left
   left-new F {n} h = rw (test-new n F h, left)
 
+  -- nothing is left when all are entered
+  pub left-none : (F : Forest) (n : ℕ) → ((v : ℕ) → v < n → Entered v F) → left w F n ≡ 0
+  unfolding left
+  left-none F zero h = refl
+  left-none F (suc n) h = left-old (h n (omega arith)) ∙ left-none F n (λ v l. h v (omega arith))
+
   left-beyond : (a : Goal) (F : Forest) (n : ℕ) → n ≤ aim a → left w (a ∷ F) n ≡ left w F n
   unfolding left
   left-beyond a F zero h = refl
@@ -162,11 +168,6 @@ unfolding left entered
 left-all zero = refl
 left-all (suc n) = let e = left-all n in omega arith
 
-left-none : (F : Forest) (n : ℕ) → ((v : ℕ) → v < n → Entered v F) → left (λ x. 1) F n ≡ 0
-unfolding left
-left-none F zero h = refl
-left-none F (suc n) h = left-old (λ x. 1) (h n (omega arith)) ∙ left-none F n (λ v l. h v (omega arith))
-
 module _ {Ok : ℕ → ℕ → ℕ → Type 0} where
   count : {F : Forest} (n : ℕ) → Built Ok F → ((v : ℕ) → Entered v F → v < n) → length F + left (λ x. 1) F n ≡ n
   count {F = []} n b h = let e = left-all n in omega arith
@@ -180,4 +181,4 @@ module _ {Ok : ℕ → ℕ → ℕ → Type 0} where
 
   pub count-whole : {F : Forest} (n : ℕ) → Built Ok F → ((v : ℕ) → Entered v F → v < n)
       → ((v : ℕ) → v < n → Entered v F) → length F ≡ n
-  count-whole {F = F} n b h w = omega (arith, count n b h, left-none F n w)
+  count-whole {F = F} n b h w = omega (arith, count n b h, left-none (λ x. 1) F n w)
