@@ -8,3 +8,4 @@ pub mod Edges
 pub mod Bridges
 pub mod Heads
 pub mod Loop
+pub mod Counts

@@ -1,0 +1,3 @@
+-- Laws on theorem 9: roots, looms and wires, counted.
+pub mod Sums
+pub mod Places
