@@ -1,3 +1,4 @@
 -- Laws on theorem 9: roots, looms and wires, counted.
 pub mod Sums
 pub mod Places
+pub mod Entries
