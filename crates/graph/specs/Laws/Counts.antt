@@ -3,3 +3,4 @@ pub mod Sums
 pub mod Places
 pub mod Entries
 pub mod Edges
+pub mod Names
