@@ -4,3 +4,4 @@ pub mod Places
 pub mod Entries
 pub mod Edges
 pub mod Names
+pub mod Roots
