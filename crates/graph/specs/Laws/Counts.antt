@@ -5,3 +5,4 @@ pub mod Entries
 pub mod Edges
 pub mod Names
 pub mod Roots
+pub mod Looms
