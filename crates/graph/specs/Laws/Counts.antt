@@ -6,3 +6,4 @@ pub mod Edges
 pub mod Names
 pub mod Roots
 pub mod Looms
+pub mod Loops
