@@ -10,7 +10,9 @@ use lib.ListN.{length, take}
 use Rattle.graph.specs.Graph.{Blocks, block, Place, mentions, position, pair, twin, WellFormed}
 use Rattle.graph.specs.Search.{Forest, PlaceTest, all, entered, search, countUp, startsFrom, forest}
 use Rattle.graph.specs.Joined.{Chain, without, joined, bridge, DoublyJoined}
-use Rattle.graph.specs.Forest.{number, vertexAt, parent, rootOf, head, Ancestor, children, childMark, parentMark}
+use Rattle.graph.specs.Forest.{number, vertexAt, parent, roots, rootOf, head, Ancestor, children}
+use Rattle.graph.specs.Forest.{childMark, parentMark}
+use Rattle.graph.specs.Counts.{when, sum, countPlaces, countEdges, atNeither, lowest, looms}
 use Rattle.graph.specs.Walk.{walk}
 use Rattle.graph.specs.Laws.Places.Mentions.{Mention}
 use Rattle.graph.specs.Laws.Places.Pairing.{InRange, Balanced, pair-told, both-ends}
@@ -38,6 +40,10 @@ use Rattle.graph.specs.Laws.Loop.Arrays.{Cells, Kept, Enters}
 use Rattle.graph.specs.Laws.Loop.Invariant.{Loop, loop-begin, loop-pass-start, loop-enter-start, Visited}
 use Rattle.graph.specs.Laws.Loop.Invariant.{loop-enter-at, loop-leave, loop-end}
 use Rattle.graph.specs.Laws.Heads.Walks.{HeadSteps, walk-head, rise-head, AncestorSteps, walk-ancestor}
+use Rattle.graph.specs.Laws.Counts.Edges.{two-places, neither-twin}
+use Rattle.graph.specs.Laws.Counts.Roots.{roots-parentless, roots-fewer}
+use Rattle.graph.specs.Laws.Counts.Looms.{lowest-told, roots-looms}
+use Rattle.graph.specs.Laws.Counts.Loops.{roots-and-edges}
 
 -- `forest g s` takes s and then the vertices in order: they cover
 pub start-covers : (g : Blocks) (s : ℕ) → Startable g s → Covers g (startsFrom (length g) s)
@@ -288,3 +294,33 @@ module _ {g : Blocks} {H : Forest} {left : ℕ} {todo : List ℕ} {k : ℕ} {c :
 
 pub search-ends : {g : Blocks} {H : Forest} {left k : ℕ} {c : Cells} → Loop g H left [] 0 k c → Kept g H c
 search-ends = loop-end
+
+-- ---- 9. There are as many roots as looms. With m wires, m and the roots are as many as n and the wires that have a
+-- child mark at neither end
+
+-- a root is a vertex without a parent
+pub roots-counted : {g : Blocks} → InRange g → {starts : List ℕ} → Covers g starts
+    → sum (length g) (λ v. when (eqb (parent (search g all starts) v) 0) 1) ≡ roots (search g all starts)
+roots-counted r cov = roots-parentless (spans r cov)
+
+-- two vertices have the same lowest vertex exactly when they are joined
+pub looms-told : {g : Blocks} → WellFormed g → (u v : ℕ) → u < length g → v < length g
+    → (lowest g u ≡ lowest g v) ↔ Chain g all u v
+looms-told = lowest-told
+
+-- where a wire has a mark at neither end, two places say so
+pub counted-twice : {g : Blocks} → WellFormed g → (mark : PlaceTest)
+    → countPlaces g (atNeither g mark) ≡ 2 * countEdges g (atNeither g mark)
+counted-twice {g} wf mark = two-places wf (atNeither g mark) (neither-twin wf mark)
+
+module _ {g : Blocks} (wf : WellFormed g) {starts : List ℕ} (cov : Covers g starts) where
+  pub as-many-looms : roots (search g all starts) ≡ looms g
+  as-many-looms = roots-looms wf (spans (wf .in-range) cov)
+
+  -- where there is a wire, some vertex is no root
+  pub some-no-root : {u j v : ℕ} → Place g u j v → roots (search g all starts) < length g
+  some-no-root = roots-fewer wf (spans (wf .in-range) cov)
+
+  pub edges-outside : (m : ℕ) → length (flatten g) ≡ 2 * m
+      → m + roots (search g all starts) ≡ length g + countEdges g (atNeither g (childMark (search g all starts)))
+  edges-outside = roots-and-edges wf (spans (wf .in-range) cov)
