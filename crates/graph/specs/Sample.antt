@@ -1,5 +1,5 @@
--- The sample of document 01, from two starts, and a pair of doubled wires, computed. Vertices and visit numbers count
--- from 0.
+-- The sample of document 01, from two starts, a pair of doubled wires, and vertices without wires, computed. Vertices
+-- and visit numbers count from 0.
 use Prim.Native.Nat.{ℕ, suc, _<_}
 use mathlib.Core.Path.{_≡_, refl, sym, ap, _∙_}
 use mathlib.Core.Logic.{_↔_}
@@ -13,7 +13,9 @@ use Rattle.graph.specs.Graph.{Blocks, block, Place, mentions, position, 
 use Rattle.graph.specs.Search.{root, via, Forest, PlaceTest, entered, arcs, run, search, countUp, startsFrom}
 use Rattle.graph.specs.Search.{forest}
 use Rattle.graph.specs.Joined.{without, joined, bridge, DoublyJoined}
-use Rattle.graph.specs.Forest.{number, vertexAt, climb, parent, rootOf, head, children, childMark, parentMark}
+use Rattle.graph.specs.Forest.{number, vertexAt, climb, parent, roots, rootOf, head, children, childMark}
+use Rattle.graph.specs.Forest.{parentMark}
+use Rattle.graph.specs.Counts.{sum, over, countPlaces, countEdges, atNeither, first, lowest, looms}
 use Rattle.graph.specs.Theorems.{start-covers, same-heads}
 use Rattle.graph.specs.Laws.Places.Basics.{clash, and-parts}
 use Rattle.graph.specs.Laws.Places.Pairing.{well-formed-at}
@@ -28,6 +30,11 @@ marksOf test u j (v ∷ l) =
 marksFrom : PlaceTest → ℕ → Blocks → List (List ℕ)
 marksFrom test u [] = []
 marksFrom test u (l ∷ g) = marksOf test u 0 l ∷ marksFrom test (suc u) g
+
+-- the roots, the looms, and the wires and the places that have a child mark at neither end
+abbrev counts : Blocks → Forest → List ℕ
+counts g F =
+    roots F ∷ looms g ∷ countEdges g (atNeither g (childMark F)) ∷ countPlaces g (atNeither g (childMark F)) ∷ []
 
 -- ---- well formed: tested at each place
 
@@ -133,10 +140,21 @@ sample-apart d =
     let e : _≡_ {A = ℕ} 0 3 = sample-heads-tell 2 3 (omega arith) (omega arith) .1 d in
     omega arith
 
+sample-counts : counts sample sampleForest ≡ 2 ∷ 2 ∷ 1 ∷ 2 ∷ []
+unfolding roots looms lowest first joined search run arcs entered flatten countEdges countPlaces over sum atNeither
+    pair position mentions childMark
+sample-counts = refl
+
 -- from vertex 3: the same groups, in which 0, 1 and 2 have the head 2
 sample-heads-from-3 : map (head sample (forest sample 3)) vertices ≡ 2 ∷ 2 ∷ 2 ∷ 3 ∷ 4 ∷ 5 ∷ []
 unfolding head climb bridge joined without pair position mentions search run startsFrom countUp arcs entered flatten
 sample-heads-from-3 = refl
+
+-- and as many roots and wires outside the forest
+sample-counts-from-3 : counts sample (forest sample 3) ≡ 2 ∷ 2 ∷ 1 ∷ 2 ∷ []
+unfolding roots looms lowest first joined search run startsFrom countUp arcs entered flatten countEdges countPlaces over
+    sum atNeither pair position mentions childMark
+sample-counts-from-3 = refl
 
 -- ---- two wires between the same ends, and a single one further on
 
@@ -169,3 +187,22 @@ doubled-heads = refl
 doubled-twins : map (twin doubled 0) (0 ∷ 1 ∷ []) ≡ 0 ∷ 2 ∷ []
 unfolding pair position mentions
 doubled-twins = refl
+
+doubled-counts : counts doubled (forest doubled 0) ≡ 1 ∷ 1 ∷ 1 ∷ 2 ∷ []
+unfolding roots looms lowest first joined search run startsFrom countUp arcs entered flatten countEdges countPlaces over
+    sum atNeither pair position mentions childMark
+doubled-counts = refl
+
+-- ---- no vertices, and three without wires
+
+empty-counts : counts [] (forest [] 0) ≡ 0 ∷ 0 ∷ 0 ∷ 0 ∷ []
+unfolding roots looms search run startsFrom flatten countEdges countPlaces over sum
+empty-counts = refl
+
+abbrev isolated : Blocks
+isolated = [] ∷ [] ∷ [] ∷ []
+
+isolated-counts : counts isolated (forest isolated 0) ≡ 3 ∷ 3 ∷ 0 ∷ 0 ∷ []
+unfolding roots looms lowest first joined search run startsFrom countUp arcs entered flatten countEdges countPlaces over
+    sum
+isolated-counts = refl
