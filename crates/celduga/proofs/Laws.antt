@@ -1,3 +1,2 @@
 -- Laws behind the answers.
 pub mod Coded
-pub mod Signed

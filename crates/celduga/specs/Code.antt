@@ -2,8 +2,7 @@
 -- half, and the value, or 0 where there is none, in its low half.
 use mathlib.Core.Path.{_≡_}
 use mathlib.Core.List.{List}
-use Prim.Native.Nat.{ℕ, _+_, _-_, _*_}
-use lib.IntN.{ℤ, pos, negsuc}
+use Prim.Native.Nat.{ℕ, _+_, _*_}
 use lib.ListN.{length}
 use Rattle.record.specs.Answers.{Answer, refused, answered}
 use Rattle.record.specs.Operations.{neighbours, neighboursBefore}
@@ -22,11 +21,6 @@ nothing a = 0
 -- a number stands for itself
 unfoldable pub itself : ℕ → ℕ
 itself k = k
-
--- a signed number: two's complement in 16 bits
-unfoldable pub complement : ℤ → ℕ
-complement (pos k) = k
-complement (negsuc k) = 65535 - k
 
 -- ---- two numbers in one of 64 bits
 

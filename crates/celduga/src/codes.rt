@@ -1,20 +1,17 @@
 // Answers as numbers of 32 bits, a refusal in the high half and a value in the low half; and a part as one of 64 bits.
 ghost use mathlib.Core.Path.{_≡_};
 ghost use Prim.Native.Nat.{_+_, _*_, _≤_, _<_};
-ghost use lib.Signed.{mag};
 ghost use Rattle.bits.specs.Bits.{bit};
-ghost use Rattle.record.specs.Answers.{number, verdict, counted, figure};
+ghost use Rattle.record.specs.Answers.{number, verdict, counted};
 ghost use Rattle.record.specs.Laws.Valued.{Small};
 ghost use Rattle.queries.specs.Answers.{above, orZero, terminal, related, numbered};
 ghost use Rattle.queries.specs.Laws.Small.{SmallParent};
-ghost use Rattle.celduga.specs.Code.{code, nothing, itself, complement, inHalves};
-ghost use Rattle.celduga.specs.Laws.Halves.{Short};
+ghost use Rattle.celduga.specs.Code.{code, nothing, itself, inHalves};
 use queries::Above;
 use queries::Found;
 use queries::Numbered;
 use queries::Related;
 use record::Counted;
-use record::Figure;
 use record::Part;
 use record::Refusal;
 use record::Verdict;
@@ -91,27 +88,6 @@ pub fn of_related(a: Related) -> u32
         Related::Yes => 1,
         Related::No => 0,
         Related::Refused(r) => high(r),
-    }
-}
-
-// A signed number that fits 16 bits, in two's complement.
-fn twos(z: i32) -> u32
-    requires { ⌜ mag z < 32768 ⌝ }
-    ensures { λ r. ⌜ r ≡ complement z ⌝ }
-{
-    if z < 0 {
-        return low((65536 + z) as usize);
-    }
-    low(z as usize)
-}
-
-pub fn of_figure(a: Figure) -> u32
-    requires { ⌜ Short (figure a) ⌝ }
-    ensures { λ r. ⌜ r ≡ code complement (figure a) ⌝ }
-{
-    match a {
-        Figure::Loops(z) => twos(z),
-        Figure::Refused(r) => high(r),
     }
 }
 

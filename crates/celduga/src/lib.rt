@@ -2,13 +2,13 @@
 // value in its low half (specs/Code.antt). No function has a precondition. `include/celduga.h` declares them.
 ghost use mathlib.Core.Path.{_≡_};
 ghost use Rattle.bits.specs.Bits.{bit, string, rank, select};
-ghost use Rattle.record.specs.Operations.{check, degree, unpack, unpacked, loopFigure};
-ghost use Rattle.forest.specs.Operations.{build, built};
+ghost use Rattle.record.specs.Operations.{check, degree, unpack, unpacked};
+ghost use Rattle.forest.specs.Operations.{build, built, loopFigure};
 ghost use Rattle.queries.specs.Answers.{orZero};
 ghost use Rattle.queries.specs.Operations.{parent, head, ancestor, children, child, visit, visited};
 ghost use Rattle.queries.specs.Table.{columns, table, tabled};
 ghost use Rattle.queries.specs.Lookup.{lists, lookup, lookedUp};
-ghost use Rattle.celduga.specs.Code.{code, nothing, itself, complement, TellsPart, version};
+ghost use Rattle.celduga.specs.Code.{code, nothing, itself, TellsPart, version};
 use forest::Dfi;
 use record::Vertex;
 
@@ -50,9 +50,9 @@ pub extern "C" fn celduga_neighbours(bytes: &[u8], len: usize, v: usize) -> u64
 
 #[no_mangle]
 pub extern "C" fn celduga_loop_figure(bytes: &[u8]) -> u32
-    ensures { λ r. ⌜ r ≡ code complement (loopFigure (now (bytes .entry))) ⌝ }
+    ensures { λ r. ⌜ r ≡ code itself (loopFigure (now (bytes .entry))) ⌝ }
 {
-    codes::of_figure(record::loop_figure(bytes))
+    codes::of_counted(forest::loop_figure(bytes))
 }
 
 // ---- a record and its index
@@ -185,13 +185,13 @@ pub extern "C" fn celduga_select(bytes: &[u8], start: usize, places: usize, k: u
 
 const MAJOR: u32 = 0;
 
-const MINOR: u32 = 5;
+const MINOR: u32 = 6;
 
 const PATCH: u32 = 0;
 
 #[no_mangle]
 pub extern "C" fn celduga_version() -> u32
-    ensures { λ r. ⌜ r ≡ version 0 5 0 ⌝ }
+    ensures { λ r. ⌜ r ≡ version 0 6 0 ⌝ }
 {
     65536 * MAJOR + 256 * MINOR + PATCH
 }

@@ -6,6 +6,7 @@ pub mod Tied
 pub mod Passing
 pub mod Stepping
 pub mod Starting
+pub mod Rooting
 pub mod Begins
 pub mod Lowest
 pub mod Lifted
@@ -16,3 +17,4 @@ pub mod Bridged
 pub mod Numbers
 pub mod Fronts
 pub mod Building
+pub mod Figuring

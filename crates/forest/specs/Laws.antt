@@ -4,3 +4,4 @@ pub mod Starts
 pub mod Marking
 pub mod Bytes
 pub mod Taken
+pub mod Figures

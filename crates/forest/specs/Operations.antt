@@ -1,11 +1,14 @@
--- What Build answers, and the index buffer that it leaves (document 01, "Operations and their answers"; the start is
--- document 02's).
+-- What Build answers, the index buffer that it leaves, and the loop figure (document 01, "Operations and their
+-- answers"; the start, and the figure where there are several looms, are document 02's).
 use mathlib.Core.Path.{_≡_}
 use mathlib.Core.Bool.{Bool, not}
 use mathlib.Core.List.{List, [], _∷_, _++_}
-use Prim.Native.Nat.{ℕ, zero, suc, _-_, _*_}
+use Prim.Native.Nat.{ℕ, zero, suc, _+_, _-_, _*_}
 use lib.Dec.{eqb, ltb}
-use lib.ListN.{length}
+use lib.ListN.{length, getD}
+use Rattle.graph.specs.Search.{forest}
+use Rattle.graph.specs.Forest.{roots}
+use Rattle.graph.specs.Counts.{when, sum}
 use Rattle.record.specs.Record.{terminals, wires, blocks}
 use Rattle.record.specs.Rules.{Rule, checkRules}
 use Rattle.record.specs.Answers.{Answer, tried, bufferAfter}
@@ -44,3 +47,15 @@ pub record BuildDone (bytes : List ℕ) (start : ℕ) (work index after : List �
 unfoldable pub firstStart : ℕ → ℕ
 firstStart zero = 0
 firstStart (suc n) = 1
+
+-- Loop figure: m − n plus the number of roots. Another start gives as many roots (`roots-from`), and the difference is
+-- that of whole numbers: m and the roots together are no fewer than n (`loops-whole`)
+unfoldable pub loops : List ℕ → ℕ
+loops bytes = wires bytes + roots (forest (blocks bytes) 0) - terminals bytes
+
+unfoldable pub loopFigure : List ℕ → Answer ℕ
+loopFigure bytes = tried (checkRules bytes) (loops bytes)
+
+-- how many roots a list of parents shows: 0 stands for none
+unfoldable pub rootsIn : List ℕ → ℕ
+rootsIn parents = sum (length parents) (λ v. when (eqb (getD parents v 0) 0) 1)

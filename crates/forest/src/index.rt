@@ -119,7 +119,7 @@ fn write_sections(
 }
 
 // How far one part of the work slice stands behind the other.
-fn stride(n: usize) -> usize
+pub fn stride(n: usize) -> usize
     requires { ⌜ n ≤ 4096 ⌝ }
     ensures { λ r. ⌜ r ≡ strideOf n ⌝ }
 {

@@ -1,12 +1,14 @@
-// Has `forest` build the indexes of fixed records and prints the answers, a line for each call. The file stdout has
-// what they must be.
+// Has `forest` build the indexes of fixed records and tell their loop figures, and prints the answers, a line for each
+// call. The file stdout has what they must be.
 ghost use Prim.Native.Nat.{_+_, _*_, _≤_};
 use print::digest;
 use print::label;
+use print::number;
 use print::refused;
 use print::show_bytes;
 use print::text;
 use print::value;
+use record::Counted;
 use record::Verdict;
 use record::Vertex;
 use shapes::Shape;
@@ -45,6 +47,17 @@ fn build(
     heading(name, before, start, work.len(), index.len());
     verdict(forest::build(bytes, Vertex(start), work, index));
     show_bytes(index);
+}
+
+// The loop figure.
+fn loops(name: &[u8], bytes: &[u8]) {
+    text(name);
+    text(b" loops: ");
+    match forest::loop_figure(bytes) {
+        Counted::Count(k) => number(k),
+        Counted::Refused(r) => refused(record::number_of(r)),
+    }
+    text(b"\n");
 }
 
 // The bytes of a section of marks.
@@ -89,7 +102,7 @@ fn lent(
 }
 
 // A record of n terminals and m wires that is accepted with this start. What the work slice and the buffer hold before
-// does not matter, nor does more work.
+// does not matter, nor does more work. The loop figure takes no start.
 fn run_from(name: &[u8], bytes: &[u8], start: usize, n: usize, m: usize)
     requires { ⌜ (n ≤ 12) × (m ≤ 14) ⌝ }
 {
@@ -98,6 +111,7 @@ fn run_from(name: &[u8], bytes: &[u8], start: usize, n: usize, m: usize)
     lent(name, b"zeros", bytes, start, 0, 0, cells, length);
     lent(name, b"ones", bytes, start, 0xFFFF, 0xFF, cells, length);
     lent(name, b"ones", bytes, start, 0xFFFF, 0xFF, cells + 3, length);
+    loops(name, bytes);
 }
 
 // The same from terminal 1.
@@ -398,37 +412,51 @@ fn one_sided(start: usize, work: usize, length: usize)
     );
 }
 
+// Build and the loop figure of a record that both refuse.
+fn neither(name: &[u8], bytes: &[u8], work: usize, length: usize)
+    requires { ⌜ (work ≤ 64) × (length ≤ 16) ⌝ }
+{
+    on_marks(name, bytes, 1, work, length);
+    loops(name, bytes);
+}
+
 // 1 to 6, and 8.
 fn unaccepted() {
-    on_marks(b"none", b"", 1, 0, 0);
-    on_marks(b"wide", b"\x80\x08\x00\x00", 1, 64, 16);
-    on_marks(
+    neither(b"none", b"", 0, 0);
+    neither(b"wide", b"\x80\x08\x00\x00", 64, 16);
+    neither(
         b"short",
         b"\x00\x30\x00\x59\x22\xA0\x02\x00\x10\x00\x00\x20\x01\x00\x30\x00\x00\x20\x05\x00",
-        1,
         48,
         15,
     );
-    on_marks(
+    neither(
         b"few_ones",
         b"\x00\x30\x00\x59\x22\x80\x02\x00\x10\x00\x00\x20\x01\x00\x30\x00\x00\x20\x05\x00\x40",
-        1,
         48,
         15,
     );
-    spare(1, 48, 15);
-    on_marks(
+    neither(
+        b"spare",
+        b"\x00\x30\x00\x59\x22\xA0\x02\x00\x10\x00\x00\x20\x01\x00\x30\x00\x00\x20\x05\x00\x41",
+        48,
+        15,
+    );
+    neither(
         b"own",
         b"\x00\x30\x00\x59\x22\xA0\x02\x00\x10\x00\x00\x20\x01\x00\x30\x00\x00\x20\x05\x00\x50",
-        1,
         48,
         15,
     );
-    one_sided(1, 24, 8);
-    on_marks(
+    neither(
+        b"one_sided",
+        b"\x00\x18\x00\x29\x40\x02\x00\x40\x00\x00\x20",
+        24,
+        8,
+    );
+    neither(
         b"more",
         b"\x00\x10\x00\x28\x80\x04\x00\x40\x04\x00\x00",
-        1,
         16,
         6,
     );
@@ -511,6 +539,7 @@ fn measure(
     verdict(forest::build(bytes, Vertex(start), work, index));
     ones(index, shapes::wires(s));
     digest(index);
+    loops(name, bytes);
 }
 
 // The bytes of a record of 4,096 terminals.

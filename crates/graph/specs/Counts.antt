@@ -38,5 +38,6 @@ first test (suc k) = elim (test 0) [ true ↦ 0 | false ↦ suc (first (λ x. te
 unfoldable pub lowest : Blocks → ℕ → ℕ  -- the lowest vertex that is joined to v
 lowest g v = first (λ u. joined g all u v) v
 
-unfoldable pub looms : Blocks → ℕ  -- how many looms there are: a loom is the vertices joined to one, counted at its lowest
+-- how many looms there are: a loom is the vertices joined to one another, counted at its lowest
+unfoldable pub looms : Blocks → ℕ
 looms g = sum (length g) (λ v. when (eqb (lowest g v) v) 1)

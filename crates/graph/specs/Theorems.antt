@@ -318,7 +318,7 @@ module _ {g : Blocks} (wf : WellFormed g) {starts : List ℕ} (cov : Covers g st
   as-many-looms = roots-looms wf (spans (wf .in-range) cov)
 
   -- where there is a wire, some vertex is no root
-  pub some-no-root : {u j v : ℕ} → Place g u j v → roots (search g all starts) < length g
+  pub some-no-root : 0 < length (flatten g) → roots (search g all starts) < length g
   some-no-root = roots-fewer wf (spans (wf .in-range) cov)
 
   pub edges-outside : (m : ℕ) → length (flatten g) ≡ 2 * m

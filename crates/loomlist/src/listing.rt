@@ -113,17 +113,13 @@ fn lines(
     at
 }
 
-// The loop figure's line, of at most 28 bytes.
-fn loops(out: &mut [u8], at: usize, z: i32) -> usize
-    requires { ⌜ (at + 28 ≤ length (now out)) × (at < 800000) ⌝ }
-    ensures { λ r. ⌜ r ≤ at + 28 ⌝ }
+// The loop figure's line, of at most 27 bytes.
+fn loops(out: &mut [u8], at: usize, figure: usize) -> usize
+    requires { ⌜ (at + 27 ≤ length (now out)) × (at < 800000) ⌝ }
+    ensures { λ r. ⌜ r ≤ at + 27 ⌝ }
 {
     let from = put(out, at, b"loops ");
-    if z < 0 {
-        let sign = put(out, from, b"-");
-        return number(out, sign, print::magnitude(z) as u64, b'\n');
-    }
-    number(out, from, print::magnitude(z) as u64, b'\n')
+    number(out, from, figure as u64, b'\n')
 }
 
 // ---- the two answers
@@ -147,21 +143,28 @@ fn all_lines(
     parents: &[u16],
     counts: &[u16],
     heads: &[u16],
-    z: i32,
+    figure: usize,
     out: &mut [u8],
 )
     requires { ⌜ (Sized n (now visits) (now parents) (now counts) (now heads)) × (length (now out) ≡ 122944) ⌝ }
 {
     let first = put(out, 0, b"terminal visit parent children head\n");
     let last = lines(n, visits, parents, counts, heads, out, first);
-    let end = loops(out, last, z);
+    let end = loops(out, last, figure);
     send(&out[..end]);
 }
 
 // The heading, a line for each terminal, and the loop figure.
-pub fn accepted(n: usize, visits: &[u16], parents: &[u16], counts: &[u16], heads: &[u16], z: i32)
+pub fn accepted(
+    n: usize,
+    visits: &[u16],
+    parents: &[u16],
+    counts: &[u16],
+    heads: &[u16],
+    figure: usize,
+)
     requires { ⌜ Sized n (now visits) (now parents) (now counts) (now heads) ⌝ }
 {
     let mut room = [0u8; 122944];
-    all_lines(n, visits, parents, counts, heads, z, &mut room);
+    all_lines(n, visits, parents, counts, heads, figure, &mut room);
 }

@@ -1,7 +1,5 @@
 // What programs print: words, numbers, lists, bytes and digests. It rests on none of the crates that they ask.
-ghost use mathlib.Core.Path.{_≡_};
 ghost use Prim.Native.Nat.{_<_};
-ghost use lib.IntN.{natAbs};
 use libc::STDOUT_FILENO;
 
 pub fn text(s: &[u8]) {
@@ -10,24 +8,6 @@ pub fn text(s: &[u8]) {
 
 pub fn number(n: usize) {
     io::print_decimal(STDOUT_FILENO, n as u64);
-}
-
-// A number without its sign. The negation may be too large for 32 bits.
-pub fn magnitude(z: i32) -> usize
-    ensures { λ r. ⌜ r ≡ natAbs z ⌝ }
-{
-    if z < 0 {
-        return (0 - z as i64) as usize;
-    }
-    z as usize
-}
-
-// A number with its sign.
-pub fn signed(z: i32) {
-    if z < 0 {
-        text(b"-");
-    }
-    number(magnitude(z));
 }
 
 // A space and a number.

@@ -1,27 +1,33 @@
--- Demands 2 and 3 as theorems, and what document 02 says of the start, of doubled wires and of a list of terminals:
--- open this file first. The index is any that Build writes for the record, with any start (`Written`), or, where it is
--- said, any at all; the marks are the bits of that index; the answers are those of the operations, as `Operations` and
--- `Lookup` define them and as the contracts of the code say. Terminal v is vertex v - 1 of the graph; positions of a
--- block and cells of a list count from 0.
+-- Demands 2 and 3 as theorems, and what document 02 says of the start, of doubled wires, of a list of terminals and of
+-- the loop figure: open this file first. The index is any that Build writes for the record, with any start (`Written`),
+-- or, where it is said, any at all; the marks are the bits of that index; the answers are those of the operations, as
+-- `Operations` and `Lookup` define them and as the contracts of the code say. Terminal v is vertex v - 1 of the graph;
+-- positions of a block and cells of a list count from 0.
 use mathlib.Core.Path.{_≡_, sym, ap, subst, _∙_}
 use mathlib.Core.Logic.{_⊎_, _↔_}
 use mathlib.Core.Bool.{Bool, true, false}
 use mathlib.Core.List.{List, []}
 use mathlib.Core.Option.{none}
 use Prim.Native.Nat.{ℕ, suc, _+_, _-_, _*_, _≤_, _<_}
+use native.Mathlib.Omega.{arith}
 use lib.ListN.{length, getD, take}
 use Rattle.graph.specs.Graph.{Blocks, block, Place, mentions, twin}
-use Rattle.graph.specs.Search.{Forest, all, search, countUp}
+use Rattle.graph.specs.Search.{Forest, all, search, countUp, forest}
 use Rattle.graph.specs.Joined.{Chain, without}
 use Rattle.graph.specs.Laws.Places.Mentions.{Mention}
 use Rattle.graph.specs.Laws.Tree.Ancestors.{ancestor as ancestorIn}
-use Rattle.graph.specs.Forest.{number, vertexAt, parent as parentIn, head as headIn, Ancestor, children as childrenIn}
-use Rattle.graph.specs.Theorems.{wire-places, ancestor-told}
+use Rattle.graph.specs.Forest.{number, vertexAt, parent as parentIn, roots, head as headIn, Ancestor}
+use Rattle.graph.specs.Forest.{children as childrenIn}
+use Rattle.graph.specs.Counts.{countPlaces, countEdges, atNeither, lowest, looms}
+use Rattle.graph.specs.Theorems.{wire-places, ancestor-told, looms-told, as-many-looms, counted-twice}
 use Rattle.record.specs.Record.{terminals, wires, unary, blocks}
 use Rattle.record.specs.Rules.{firstBroken}
 use Rattle.record.specs.Answers.{refused, answered}
 use Rattle.forest.specs.Index.{indexBy, indexOf, markBytes, indexLength}
-use Rattle.forest.specs.Operations.{build, built, firstStart}
+use Rattle.record.specs.Operations.{Accepted}
+use Rattle.record.specs.Laws.Sounded.{accepted-sound}
+use Rattle.forest.specs.Operations.{build, built, firstStart, loops, loopFigure, rootsIn}
+use Rattle.forest.specs.Laws.Figures.{loops-whole, loops-few, figure-told}
 use Rattle.forest.specs.Laws.Taken.{first-index}
 use Rattle.queries.specs.View.{sectionBit, numberBit, placeOf, Alike}
 use Rattle.queries.specs.Answers.{unlessZero}
@@ -32,6 +38,7 @@ use Rattle.queries.specs.Laws.Built.{built-own, built-fill, built-rest}
 use Rattle.queries.specs.Laws.Edges.{E-told, P-told, P-as-E, E-as-P, P-none, P-once, B-told, B-both, B-doubled}
 use Rattle.queries.specs.Laws.Alike.{alike-answers}
 use Rattle.queries.specs.Laws.Columns.{table-cells}
+use Rattle.queries.specs.Laws.Figured.{loops-marked, table-loops}
 use Rattle.queries.specs.Laws.Given.{never-seven}
 use Rattle.queries.specs.Laws.Looked as Looked
 use Rattle.queries.specs.Laws.Looked.{lookup-cells, lookup-refuses-head, lookup-refuses-visit, lookup-none}
@@ -90,6 +97,23 @@ head-refusals = head-gives
 pub visit-refusals : (bytes index : List ℕ) (v : ℕ) {h k : ℕ} → head bytes index v ≡ answered h
     → visit bytes index v ≡ refused k → k ≡ 12
 visit-refusals = visit-gives
+
+-- ---- The loop figure, of an accepted record
+
+module _ {bytes : List ℕ} (a : Accepted bytes) where
+  pub loop-figure-told : loopFigure bytes ≡ answered (loops bytes)
+  loop-figure-told = figure-told a
+
+  -- it is m − n plus the number of roots, as whole numbers: m and the roots together are no fewer than n
+  pub loops-never-below : terminals bytes ≤ wires bytes + roots (forest (blocks bytes) 0)
+  loops-never-below = omega (arith, loops-whole a)
+
+  pub loops-counted : terminals bytes + loops bytes ≡ wires bytes + roots (forest (blocks bytes) 0)
+  loops-counted = loops-whole a
+
+  -- the record of no terminals has none, and two terminals with 16,384 wires between them have 16,383
+  pub loops-most : loops bytes ≤ 16383
+  loops-most = omega (arith, loops-few a, accepted-sound a .m-fits)
 
 -- ---- for any index that Build writes
 
@@ -221,6 +245,28 @@ module _ {bytes index : List ℕ} (w : Written bytes index) where
   -- Table: each cell is what its query answers, so none is a refusal
   pub table-told : Tabled bytes index (tableOf bytes (w .start))
   table-told = subst (λ (x : List ℕ). Tabled bytes index (tableOn bytes x)) (w .is) (table-cells w)
+
+  -- ---- The loop figure, beside the index
+
+  -- every start gives as many roots: as many as there are looms, the groups of terminals that wires join
+  pub roots-are-looms : roots F ≡ looms g
+  roots-are-looms = as-many-looms (Answered.formed w) (Answered.covered w)
+
+  pub looms-are-joined : (u v : ℕ) → u < length g → v < length g → (lowest g u ≡ lowest g v) ↔ Chain g all u v
+  looms-are-joined = looms-told (Answered.formed w)
+
+  -- the figure counts the wires that have no mark in E at either end, by the wire, and by its two places
+  pub loops-unmarked : loops bytes ≡ countEdges g (atNeither g E)
+  loops-unmarked = loops-marked w
+
+  pub loops-unmarked-twice : 2 * loops bytes ≡ countPlaces g (atNeither g E)
+  loops-unmarked-twice = ap (λ (k : ℕ). 2 * k) loops-unmarked ∙ sym (counted-twice (Answered.formed w) E)
+
+  -- and it follows from Table's parents, of which those that are 0 are the roots'
+  pub loops-by-table : terminals bytes + loops bytes ≡ wires bytes + rootsIn (tableOf bytes (w .start) .parents)
+  loops-by-table =
+      subst (λ (x : List ℕ). terminals bytes + loops bytes ≡ wires bytes + rootsIn (tableOn bytes x .parents)) (w .is)
+      (table-loops w)
 
   -- ---- Demand 3
 

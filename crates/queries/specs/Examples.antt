@@ -1,5 +1,6 @@
 -- Document 01's lines that are marked P, all of them, as document 02 changes them, the columns of its listing, the
--- sample from another start, and lists of terminals, as one list of cases under one theorem, computed by the checker.
+-- sample from another start, lists of terminals, and loop figures, as one list of cases under one theorem, computed by
+-- the checker.
 use mathlib.Core.Path.{_≡_, refl}
 use mathlib.Core.List.{List, [], _∷_, _++_, map, flatten}
 use Prim.Native.Nat.{ℕ, _-_}
@@ -8,7 +9,7 @@ use Rattle.bits.specs.Bits.{toBits, bits, string, count, onesAt, select, value,
 use Rattle.graph.specs.Graph.{Blocks, mentions, position, pair}
 use Rattle.graph.specs.Search.{entered, arcs, run, search, countUp, startsFrom}
 use Rattle.graph.specs.Joined.{without, joined, bridge}
-use Rattle.graph.specs.Forest.{number, childMark, parentMark}
+use Rattle.graph.specs.Forest.{number, roots, childMark, parentMark}
 use Rattle.graph.specs.Walk.{walk}
 use Rattle.record.specs.Record.{terminals, wires, usedBits, recordLength, unary, fieldsFrom, fields, zeros, parts}
 use Rattle.record.specs.Record.{blocks, layOut, unaryOf, fieldBits, recordBits, recordOf}
@@ -18,6 +19,7 @@ use Rattle.record.specs.Answers.{Answer, refused, answered, outcome, otherwise,
 use Rattle.record.specs.Operations.{check, otherLength, outOfRange}
 use Rattle.forest.specs.Index.{marksFrom, section, sectionE, sectionP, sectionB, numbers, indexBy, indexOf}
 use Rattle.forest.specs.Index.{markBytes, numberBytes, indexLength}
+use Rattle.forest.specs.Operations.{loops, loopFigure}
 use Rattle.queries.specs.View.{blockMarks, sectionOf, numberOf}
 use Rattle.queries.specs.Queries.{stepBy, stepUp, headOf, parentOf, childCount, visitOf}
 use Rattle.queries.specs.Operations.{besideRules, orderQ, head, parent, children, visit}
@@ -26,8 +28,9 @@ use Rattle.queries.specs.Lookup.{Lists, lists, both, headAndVisit, refus
 use Rattle.queries.specs.Lookup.{lookupLists, lookedUp}
 
 -- a line: blocks and their record, a record and its blocks, a record and what Check says, a record, a start and its
--- index, a record with its index and the heads of its terminals, a record, a start and its table, or a record, an
--- index, a list of terminals and two lists that are lent, with what Lookup answers and the two lists afterwards
+-- index, a record with its index and the heads of its terminals, a record, a start and its table, a record, an index, a
+-- list of terminals and two lists that are lent, with what Lookup answers and the two lists afterwards, or a record and
+-- its loop figure
 pub data Line : Type 0 where
   files : Blocks → List ℕ → Line
   reads : List ℕ → Blocks → Line
@@ -36,6 +39,7 @@ pub data Line : Type 0 where
   headed : List ℕ → List ℕ → List (Answer ℕ) → Line
   listed : List ℕ → ℕ → Columns → Line
   looks : List ℕ → List ℕ → List ℕ → Lists → Answer (Unit {0}) → Lists → Line
+  figured : List ℕ → Answer ℕ → Line
 
 abbrev pub computed : Line → Line
 computed (files g bytes) = files g (recordOf g)
@@ -46,6 +50,7 @@ computed (headed bytes index heads) = headed bytes index (map (head bytes index)
 computed (listed bytes start t) = listed bytes start (tableOf bytes start)
 computed (looks bytes index list lent a l) =
     looks bytes index list lent (lookup bytes index list lent) (lookedUp bytes index list lent)
+computed (figured bytes a) = figured bytes (loopFigure bytes)
 
 -- the sample loom, terminals less 1
 abbrev pub loom : Blocks
@@ -84,6 +89,10 @@ doubled = 0x00 ∷ 0x10 ∷ 0x00 ∷ 0x29 ∷ 0x00 ∷ 0x04 ∷ 0x00 ∷ 0x40 �
 abbrev pub doubledIndex : List ℕ
 doubledIndex = 0x40 ∷ 0x08 ∷ 0x00 ∷ 0x00 ∷ 0x00 ∷ 0x01 ∷ []
 
+-- a terminal, three in a ring, and a doubled wire
+abbrev pub severalLooms : Blocks
+severalLooms = [] ∷ (2 ∷ 3 ∷ []) ∷ (1 ∷ 3 ∷ []) ∷ (1 ∷ 2 ∷ []) ∷ (5 ∷ 5 ∷ []) ∷ (4 ∷ 4 ∷ []) ∷ []
+
 -- the columns of the sample's listing
 abbrev pub sampleTable : Columns
 sampleTable =
@@ -121,6 +130,13 @@ lines a b c =
     ∷ looks sample sampleIndex (4 ∷ []) lent (refused 15) lent
     ∷ looks sample [] (7 ∷ []) lent (refused 10) lent
     ∷ looks empty [] [] (lists [] []) (answered tt) (lists [] [])
+    ∷ figured sample (answered 1)
+    ∷ figured empty (answered 0)
+    ∷ figured wire (answered 0)
+    ∷ figured doubled (answered 1)
+    ∷ figured (recordOf severalLooms) (answered 2)
+    ∷ figured (take 20 sample ++ (0x41 ∷ [])) (refused 5)
+    ∷ figured (recordOf ((1 ∷ 1 ∷ 1 ∷ []) ∷ (0 ∷ []) ∷ [])) (refused 8)
     ∷ files [] empty
     ∷ reads empty []
     ∷ checks empty (answered tt)
@@ -153,5 +169,5 @@ unfolding toBits bits string count onesAt select value field packed pack mention
     checkRules outcome otherwise check otherLength outOfRange marksFrom section sectionE sectionP sectionB
     numbers indexBy markBytes numberBytes indexLength blockMarks sectionOf numberOf stepBy stepUp headOf besideRules
     orderQ head flatten visit visitOf parent parentOf children childCount said answersOf tableOn bufferAfter both
-    headAndVisit refusedBy badList lookupRules lookup lookupLists lookedUp
+    headAndVisit refusedBy badList lookupRules lookup lookupLists lookedUp loopFigure loops roots
 as-stated a b c = refl

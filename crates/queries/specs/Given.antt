@@ -3,8 +3,8 @@ use mathlib.Core.Path.{_≡_}
 use mathlib.Core.List.{List}
 use Prim.Native.Nat.{ℕ}
 use Rattle.record.specs.Answers.{refused}
-use Rattle.record.specs.Operations.{check, degree, unpack, loopFigure}
-use Rattle.forest.specs.Operations.{build}
+use Rattle.record.specs.Operations.{check, degree, unpack}
+use Rattle.forest.specs.Operations.{build, loopFigure}
 use Rattle.queries.specs.Operations.{parent, head, ancestor, children, child, visit, visited}
 use Rattle.queries.specs.Lookup.{Lists, lookup}
 use Rattle.queries.specs.Table.{Columns, table}
@@ -15,8 +15,8 @@ pub record NeverGiven (k : ℕ) (bytes : List ℕ) : Type 0 where
   pub by-check : check bytes ≡ refused k → ⊥
   pub by-degree : (v : ℕ) → degree bytes v ≡ refused k → ⊥
   pub by-unpack : (list : List ℕ) → unpack bytes list ≡ refused k → ⊥
-  pub by-loop-figure : loopFigure bytes ≡ refused k → ⊥
   pub by-build : (start : ℕ) (work index : List ℕ) → build bytes start work index ≡ refused k → ⊥
+  pub by-loop-figure : loopFigure bytes ≡ refused k → ⊥
   pub by-parent : (index : List ℕ) (v : ℕ) → parent bytes index v ≡ refused k → ⊥
   pub by-head : (index : List ℕ) (v : ℕ) → head bytes index v ≡ refused k → ⊥
   pub by-ancestor : (index : List ℕ) (u v : ℕ) → ancestor bytes index u v ≡ refused k → ⊥

@@ -14,6 +14,7 @@ pub mod Ready
 pub mod Answered
 pub mod Edges
 pub mod Columns
+pub mod Figured
 pub mod Twelve
 pub mod Asks
 pub mod Looked

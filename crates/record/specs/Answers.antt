@@ -1,6 +1,5 @@
 -- Answers: what an operation says, and the documents' number for each named case of the code's answers.
 use Prim.Native.Nat.{ℕ, zero, suc}
-use lib.IntN.{ℤ}
 use lib.Dec.{eqb}
 use mathlib.Core.Bool.{true, false}
 use mathlib.Core.List.{List}
@@ -18,8 +17,6 @@ use Rattle.record.specs.declared.Verdict.{Verdict}
 use Rattle.record.specs.declared.Verdict.the-variants as Verdict
 use Rattle.record.specs.declared.Counted.{Counted}
 use Rattle.record.specs.declared.Counted.the-variants as Counted
-use Rattle.record.specs.declared.Figure.{Figure}
-use Rattle.record.specs.declared.Figure.the-variants as Figure
 
 -- a refusal with its number and no value, or a value
 pub data Answer (A : Type 0) : Type 0 where
@@ -78,11 +75,6 @@ verdict (Verdict.Refused r) = refused (number r)
 abbrev pub counted : Counted → Answer ℕ
 counted (Counted.Count k) = answered k
 counted (Counted.Refused r) = refused (number r)
-
--- the loop figure
-abbrev pub figure : Figure → Answer ℤ
-figure (Figure.Loops z) = answered z
-figure (Figure.Refused r) = refused (number r)
 
 -- the sizes of a record that passed the rules that were tried
 abbrev pub shape : Shape → Answer Sizes

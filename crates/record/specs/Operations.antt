@@ -3,7 +3,6 @@ use mathlib.Core.Bool.{Bool, true, false, not, _||_, _&&_}
 use mathlib.Core.List.{List, [], _∷_, _++_, map}
 use Prim.Native.Nat.{ℕ, suc, _+_, _-_, _*_}
 use lib.Dec.{eqb, ltb}
-use lib.IntN.{ℤ, subℕ}
 use lib.ListN.{length, getD}
 use mathlib.Core.Path.{_≡_}
 use Rattle.graph.specs.Graph.{Blocks, block}
@@ -71,7 +70,3 @@ pub record PartOf (bytes : List ℕ) (len v from size : ℕ) : Type 0 where
 -- the address of a list of 16-bit numbers (a block of memory, and a byte in it), k numbers further on
 abbrev pub further : ℕ × ℕ → ℕ → ℕ × ℕ
 further a k = (a .0, k * 2 + a .1)
-
--- Loop figure: m − n + 1, a signed number
-unfoldable pub loopFigure : List ℕ → Answer ℤ
-loopFigure bytes = tried (checkRules bytes) (subℕ (wires bytes + 1) (terminals bytes))

@@ -2,10 +2,9 @@
 // a precondition; most functions of the public modules, which are for the crates above, have one.
 ghost use mathlib.Core.Path.{_≡_};
 ghost use Rattle.record.specs.Rules.{checkRules};
-ghost use Rattle.record.specs.Answers.{number, verdict, counted, figure, shape, tried, sizesOf};
+ghost use Rattle.record.specs.Answers.{number, verdict, counted, shape, tried, sizesOf};
 ghost use Rattle.record.specs.Operations.{check as checkOf, degree as degreeOf, unpack as unpackOf, unpacked};
 ghost use Rattle.record.specs.Operations.{neighbours as neighboursOf, neighboursBefore, PartOf, further};
-ghost use Rattle.record.specs.Operations.{loopFigure};
 
 pub mod header; // header.rt: the header, and order R
 pub mod range; // range.rt: the range of rules 11 and 14
@@ -47,11 +46,6 @@ pub enum Verdict {
 
 pub enum Counted {
     Count(usize),
-    Refused(Refusal),
-}
-
-pub enum Figure {
-    Loops(i32),
     Refused(Refusal),
 }
 
@@ -124,21 +118,6 @@ pub fn check(bytes: &[u8]) -> Verdict
     match accept(bytes, &mut none) {
         Shape::Refused(r) => Verdict::Refused(r),
         Shape::Passed(_) => Verdict::Accepted,
-    }
-}
-
-// Loop figure: m − n + 1, which can fall below zero.
-pub fn loop_figure(bytes: &[u8]) -> Figure
-    ensures { λ r. ⌜ figure r ≡ loopFigure (now (bytes .entry)) ⌝ }
-{
-    let mut none = [0u16; 0];
-    match accept(bytes, &mut none) {
-        Shape::Refused(r) => Figure::Refused(r),
-        Shape::Passed(s) => {
-            let n = s.n;
-            let more = s.m + 1;
-            Figure::Loops(more as i32 - n as i32)
-        }
     }
 }
 

@@ -5,11 +5,9 @@ use print::label;
 use print::number;
 use print::refused;
 use print::show_numbers;
-use print::signed;
 use print::text;
 use print::value;
 use record::Counted;
-use record::Figure;
 use record::Verdict;
 use record::Vertex;
 
@@ -24,13 +22,6 @@ fn counted(answer: Counted) {
     match answer {
         Counted::Count(k) => number(k),
         Counted::Refused(r) => refused(record::number_of(r)),
-    }
-}
-
-fn figure(answer: Figure) {
-    match answer {
-        Figure::Loops(z) => signed(z),
-        Figure::Refused(r) => refused(record::number_of(r)),
     }
 }
 
@@ -99,13 +90,6 @@ fn lists(name: &[u8], bytes: &[u8], length: usize, first: usize, last: usize)
     blocks(name, bytes, list, first, last);
 }
 
-fn loops(name: &[u8], bytes: &[u8]) {
-    text(name);
-    text(b" loops: ");
-    figure(record::loop_figure(bytes));
-    text(b"\n");
-}
-
 // All calls on one record, for terminals 0 to n + 1, and lists of 2·m numbers, one less and one more.
 fn run(name: &[u8], bytes: &[u8], n: usize, m: usize)
     requires { ⌜ (n ≤ 6) × (m ≤ 5) ⌝ }
@@ -117,7 +101,6 @@ fn run(name: &[u8], bytes: &[u8], n: usize, m: usize)
         lists(name, bytes, 2 * m - 1, 1, 1);
     }
     lists(name, bytes, 2 * m + 1, 1, 1);
-    loops(name, bytes);
 }
 
 // Accepted records.

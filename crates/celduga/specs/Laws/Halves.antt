@@ -5,8 +5,6 @@ use mathlib.Core.List.{List}
 use mathlib.Core.Option.{Option}
 use Prim.Native.Nat.{ℕ, _/_, _%_, _<_}
 use native.Mathlib.Omega.{arith}
-use lib.IntN.{ℤ, pos, negsuc}
-use lib.Signed.{mag}
 use Rattle.bits.specs.Bits.{bit}
 use Rattle.record.specs.Answers.{Answer, refused, answered, said}
 use Rattle.record.specs.Operations.{PartOf}
@@ -14,11 +12,7 @@ use Rattle.record.specs.Laws.OneBlock.{part-near}
 use Rattle.record.specs.Laws.Valued.{Valued, none, value, Small}
 use Rattle.queries.specs.Answers.{orZero}
 use Rattle.queries.specs.Laws.Small.{SmallParent}
-use Rattle.celduga.specs.Code.{code, nothing, itself, complement, inHalves}
-
--- a signed number of 16 bits: 0 to 32,767, or -1 down to -32,768
-abbrev pub Short : Answer ℤ → Type 0
-Short a = Valued (λ (z : ℤ). mag z < 32768) a
+use Rattle.celduga.specs.Code.{code, nothing, itself, inHalves}
 
 -- the refusal's number, 0 where there is none
 unfoldable pub refusal : {A : Type 0} → Answer A → ℕ
@@ -52,7 +46,7 @@ halves-yes = halves-always bit fits
     fits true = omega arith
     fits false = omega arith
 
--- for numbers, for parents, and for the loop figure
+-- for numbers, and for parents
 pub halves-number : {a : Answer ℕ} → Small a
     → (code itself a / 65536 ≡ refusal a) × (code itself a % 65536 ≡ said itself a)
 unfolding itself
@@ -61,15 +55,6 @@ halves-number s = halves itself (λ k h. h) s
 pub halves-parent : {a : Answer (Option ℕ)} → SmallParent a
     → (code orZero a / 65536 ≡ refusal a) × (code orZero a % 65536 ≡ said orZero a)
 halves-parent s = halves orZero (λ p h. h) s
-
-pub halves-figure : {a : Answer ℤ} → Short a
-    → (code complement a / 65536 ≡ refusal a) × (code complement a % 65536 ≡ said complement a)
-unfolding complement
-halves-figure s = halves complement fits s
-  where
-    fits : (z : ℤ) → mag z < 32768 → complement z < 65536
-    fits (pos k) h = omega arith
-    fits (negsuc k) h = omega arith
 
 -- where Neighbours' part stands, and how many numbers it has
 pub halves-part : {bytes : List ℕ} {len v from size : ℕ} → PartOf bytes len v from size

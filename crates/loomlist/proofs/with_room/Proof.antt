@@ -16,20 +16,20 @@ array-borrow-prefix-work c = search needs
 slice-aggregate-list : tie.Need-slice-aggregate-list
 slice-aggregate-list c =
     let s = c .before .before in
-    let f = s .pre in
+    let f = s .pre .n-fits in
     sym (part-zeros 32768 (8 * s .args .n) (omega arith))
 
 array-borrow-prefix-visits : tie.Need-array-borrow-prefix-visits
 array-borrow-prefix-visits c = search needs
 
 slice-aggregate-list-2 : tie.Need-slice-aggregate-list-2
-slice-aggregate-list-2 c = let s = c .before .before .before in sym (part-zeros 4096 (s .args .n) (s .pre))
+slice-aggregate-list-2 c = let s = c .before .before .before in sym (part-zeros 4096 (s .args .n) (s .pre .n-fits))
 
 array-borrow-prefix-parents : tie.Need-array-borrow-prefix-parents
 array-borrow-prefix-parents c = search needs
 
 slice-aggregate-list-3 : tie.Need-slice-aggregate-list-3
-slice-aggregate-list-3 c = let s = c .before .before .before .before in sym (part-zeros 4096 (s .args .n) (s .pre))
+slice-aggregate-list-3 c = let s = c .before .before .before .before in sym (part-zeros 4096 (s .args .n) (s .pre .n-fits))
 
 array-borrow-prefix-counts : tie.Need-array-borrow-prefix-counts
 array-borrow-prefix-counts c = search needs
@@ -37,7 +37,7 @@ array-borrow-prefix-counts c = search needs
 slice-aggregate-list-4 : tie.Need-slice-aggregate-list-4
 slice-aggregate-list-4 c =
     let s = c .before .before .before .before .before in
-    sym (part-zeros 4096 (s .args .n) (s .pre))
+    sym (part-zeros 4096 (s .args .n) (s .pre .n-fits))
 
 array-borrow-prefix-heads : tie.Need-array-borrow-prefix-heads
 array-borrow-prefix-heads c = search needs
@@ -45,13 +45,13 @@ array-borrow-prefix-heads c = search needs
 slice-aggregate-list-5 : tie.Need-slice-aggregate-list-5
 slice-aggregate-list-5 c =
     let s = c .before .before .before .before .before .before in
-    sym (part-zeros 4096 (s .args .n) (s .pre))
+    sym (part-zeros 4096 (s .args .n) (s .pre .n-fits))
 
 list-requires : tie.Need-list-requires
 list-requires c κs =
     let s = c .before .before .before .before .before .before in
-    let e = part-zeros 4096 (s .args .n) (s .pre) in
-    record { few = s .pre; visits-fit = e; parents-fit = e; counts-fit = e; heads-fit = e }
+    let e = part-zeros 4096 (s .args .n) (s .pre .n-fits) in
+    (s .pre, record { few = s .pre .n-fits; visits-fit = e; parents-fit = e; counts-fit = e; heads-fit = e })
 
 returns : tie.Need-returns
 returns c = search needs

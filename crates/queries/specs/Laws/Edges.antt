@@ -42,7 +42,7 @@ module _ {bytes index : List ℕ} (w : Written bytes index) where
       → at k u j ≡ b
   written-bit k u j e = ap (λ (x : List ℕ). sectionBit bytes x k (placeOf bytes u j)) (w .is) ∙ e
 
-  E-at : {u j v : ℕ} → Place g u j v → at 0 u j ≡ childMark F u j
+  pub E-at : {u j v : ℕ} → Place g u j v → at 0 u j ≡ childMark F u j
   E-at {u} {j} p = written-bit 0 u j (built-E (w .accepted) (w .start - 1) p)
 
   P-at : {u j v : ℕ} → Place g u j v → at 1 u j ≡ parentMark g g F u j

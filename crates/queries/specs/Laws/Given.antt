@@ -9,9 +9,9 @@ use borrow.Author.Tests.{ne-eqb}
 use lib.Dec.{eqb}
 use Rattle.record.specs.Rules.{Rule, orderR, placeRules, layoutRules, checkRules}
 use Rattle.record.specs.Answers.{Answer, refused, answered, triedThen}
-use Rattle.record.specs.Operations.{check, degreeRules, degree, unpackRules, unpack, loopFigure}
+use Rattle.record.specs.Operations.{check, degreeRules, degree, unpackRules, unpack}
 use Rattle.record.specs.Laws.Given.{has, never-tried, never-then}
-use Rattle.forest.specs.Operations.{buildRules, build}
+use Rattle.forest.specs.Operations.{buildRules, build, loopFigure}
 use Rattle.queries.specs.View.{viewOf}
 use Rattle.queries.specs.Queries.{childCount, childOf}
 use Rattle.queries.specs.Operations.{besideRules, orderQ, parent, head, ancestorRules, ancestor, children}
@@ -63,8 +63,8 @@ never-seven bytes = record {
   by-check = never-tried (checkRules bytes) refl tt;
   by-degree = λ v. never-tried (degreeRules bytes v) refl _;
   by-unpack = λ list. never-tried (unpackRules bytes list) refl tt;
-  by-loop-figure = never-tried (checkRules bytes) refl _;
   by-build = λ start work index. never-tried (buildRules bytes start work index) refl tt;
+  by-loop-figure = never-tried (checkRules bytes) refl _;
   by-parent = λ index v. not-7 (orderQ bytes index v) refl (parent-twelve (viewOf bytes index) (v - 1));
   by-head = not-7-head bytes;
   by-ancestor = λ index u v.

@@ -1,4 +1,3 @@
--- What rules 6 and 8 tell, what Unpack answers and leaves, and the loop figure's difference.
+-- What rules 6 and 8 tell, and what Unpack answers and leaves.
 pub mod InTurn
 pub mod Unpacking
-pub mod Figures

@@ -4,14 +4,13 @@
 --   named            the refusal of a number
 --   number-bounds    the numbers that refusals have
 --   settled          what has a way back is settled
---   verdict-settles, counted-settles, figure-settles, shape-settles    the enums of this crate
+--   verdict-settles, counted-settles, shape-settles    the enums of this crate
 use mathlib.Core.Path.{_≡_, refl, sym, ap, _∙_}
 use mathlib.Core.List.{List, [], _∷_}
 use Prim.Native.Nat.{ℕ, _-_, _≤_}
 use native.Mathlib.Omega.{arith}
-use lib.IntN.{ℤ}
 use lib.ListN.{getD}
-use Rattle.record.specs.Answers.{Answer, refused, answered, number, verdict, counted, figure, shape}
+use Rattle.record.specs.Answers.{Answer, refused, answered, number, verdict, counted, shape}
 use Rattle.record.specs.declared.Sizes.{Sizes}
 use Rattle.record.specs.declared.Refusal.{Refusal}
 use Rattle.record.specs.declared.Refusal.the-variants as Refusal
@@ -19,8 +18,6 @@ use Rattle.record.specs.declared.Verdict.{Verdict}
 use Rattle.record.specs.declared.Verdict.the-variants as Verdict
 use Rattle.record.specs.declared.Counted.{Counted}
 use Rattle.record.specs.declared.Counted.the-variants as Counted
-use Rattle.record.specs.declared.Figure.{Figure}
-use Rattle.record.specs.declared.Figure.the-variants as Figure
 use Rattle.record.specs.declared.Shape.{Shape}
 use Rattle.record.specs.declared.Shape.the-variants as Shape
 
@@ -114,18 +111,6 @@ counted-settles = settled counted countedOf back
     back : (r : Counted) → countedOf (counted r) ≡ r
     back (Counted.Count k) = refl
     back (Counted.Refused r) = ap Counted.Refused (named-number r)
-
-pub figureOf : Answer ℤ → Figure
-figureOf (answered z) = Figure.Loops z
-figureOf (refused k) = Figure.Refused (named k)
-
-pub figure-settles : (r : Figure) {a : Answer ℤ} → figure r ≡ a → r ≡ figureOf a
-unfolding figureOf
-figure-settles = settled figure figureOf back
-  where
-    back : (r : Figure) → figureOf (figure r) ≡ r
-    back (Figure.Loops z) = refl
-    back (Figure.Refused r) = ap Figure.Refused (named-number r)
 
 pub shapeOf : Answer Sizes → Shape
 shapeOf (answered s) = Shape.Passed s

@@ -2,19 +2,20 @@
 --   roots-parentless         as many as vertices without a parent
 --   roots-by                 as many as names, where joined vertices are named by one of them
 --   roots-most, roots-fewer  at most as many as vertices, and fewer where there is a wire
-use Prim.Native.Nat.{ℕ, _≤_, _<_}
+use Prim.Native.Nat.{ℕ, suc, _≤_, _<_}
 use mathlib.Core.Path.{_≡_, refl, _∙_}
 use mathlib.Core.Logic.{_↔_}
-use mathlib.Core.List.{[], _∷_, List·Memᴰ, List·Memᴰ·head, List·Memᴰ·tail}
+use mathlib.Core.List.{[], _∷_, flatten, List·Memᴰ, List·Memᴰ·head, List·Memᴰ·tail}
 use native.Mathlib.Omega.{arith}
 use lib.Dec.{eqb}
 use lib.ListN.{length}
 use borrow.Author.Tests.{eq-eqb, ne-eqb}
-use Rattle.graph.specs.Graph.{Blocks, Place, WellFormed}
+use Rattle.graph.specs.Graph.{Blocks, target, Place, WellFormed}
 use Rattle.graph.specs.Search.{root, via, Forest, all}
 use Rattle.graph.specs.Joined.{Chain}
 use Rattle.graph.specs.Forest.{parent, roots, rootOf}
 use Rattle.graph.specs.Counts.{when, sum}
+use Rattle.graph.specs.Laws.Places.Pairing.{place-at}
 use Rattle.graph.specs.Laws.Tree.Entries.{entry-entered, Entry, as-root, as-child, entry, via-root}
 use Rattle.graph.specs.Laws.Tree.Entries.{root-no-child}
 use Rattle.graph.specs.Laws.Tree.Climbs.{parent-root, parent-child, root-itself, root-is-root}
@@ -36,6 +37,15 @@ tally-some {F = []} m = elim m [ ]
 tally-some {F = root v ∷ F} (List·Memᴰ·head e) = absurd (via-root e)
 tally-some {F = root v ∷ F} (List·Memᴰ·tail m) = tally-some m
 tally-some {F = via u j v ∷ F} m = omega arith
+
+-- where there are places there is a first one
+some-place : (g : Blocks) → 0 < length (flatten g) → (u : ℕ) × (j : ℕ) × Place g u j (target g u j)
+unfolding flatten
+some-place [] h = absurd (omega arith)
+some-place ([] ∷ g) h =
+    let (u, j, p) = some-place g h in
+    (suc u, j, place-at (p .fits))
+some-place ((v ∷ l) ∷ g) h = (0, 0, place-at (omega arith))
 
 module _ {g : Blocks} {F : Forest} (span : Spanning g F) where
   -- the vertices that are joined are named by their root
@@ -86,16 +96,18 @@ module _ {g : Blocks} (wf : WellFormed g) {F : Forest} (span : Spanning g F) whe
           (λ e. t .1 (s .0 e), λ e. s .1 (t .0 e))
 
   -- the ends of a wire are not both roots
-  pub roots-fewer : {u j v : ℕ} → Place g u j v → roots F < length g
-  roots-fewer {u} {j} {v} p = go (entry (source-entered span p)) (entry (target-entered span p))
+  pub roots-fewer : 0 < length (flatten g) → roots F < length g
+  roots-fewer h =
+      let (u, j, p) = some-place g h in
+      go p (entry (source-entered span p)) (entry (target-entered span p))
     where
       fewer : {a b c : ℕ} → List·Memᴰ (via a b c) F → roots F < length g
       fewer m = omega (arith, tally-some m, entries-parted F, forest-length span)
 
-      go : Entry F u → Entry F v → roots F < length g
-      go (as-child a b m) e = fewer m
-      go (as-root r) (as-child a b m) = fewer m
-      go (as-root r) (as-root s) =
+      go : {u j v : ℕ} → Place g u j v → Entry F u → Entry F v → roots F < length g
+      go p (as-child a b m) e = fewer m
+      go p (as-root r) (as-child a b m) = fewer m
+      go {u} {j} {v} p (as-root r) (as-root s) =
           let x = root-itself (span .built) r in
           let y = root-itself (span .built) s in
           let z = place-root span wf p in
