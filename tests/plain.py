@@ -1,5 +1,6 @@
 """A plain program for document 01, in its order and from its sentences: bits, record, forest, operations, listing. From
-document 02 are the start of the search, what a wire is where several run between the same two terminals, and Lookup.
+document 02 are the start of the search, what a wire is where several run between the same two terminals, Lookup, and
+what the loop figure counts.
 
 It shares no idea with the product: a bit string is a string of characters, the search is a recursion, a wire is its two
 places, and it has its marks in B where taking it out leaves its ends unjoined. An operation returns its answer, or
@@ -160,6 +161,16 @@ def joined(blocks, u, w):
         met[side].add(x)
 
 
+def looms(blocks):
+    """How many looms there are: terminals that are joined are in one loom. No search forest is looked at."""
+    seen, count = set(), 0
+    for v in range(1, len(blocks) + 1):
+        if v not in seen:
+            seen.update(reached(blocks, v))
+            count += 1
+    return count
+
+
 def is_bridge(blocks, ends):
     """Whether the removal of the wire that has these ends leaves them unjoined. Of several wires between the same
     terminals this one alone is taken out."""
@@ -214,6 +225,19 @@ def sections_of(data, index):
     size = whole(n + 2 * m)
     e, p, b = (bits_of(index[i * size : i * size + size]) for i in range(3))
     return e, p, b, fields_of(bits_of(index[3 * size :])[: 12 * n])
+
+
+@kept
+def wires_of(data):
+    """The two ends of each wire as places of D, counted from 0."""
+    places = places_of(data)
+    return [[places[v - 1][j] for v, j in ends] for ends in wires(blocks_of(data))]
+
+
+def unmarked(data, index):
+    """How many wires have no mark in E at either end."""
+    e, _, _, _ = sections_of(data, index)
+    return sum(all(e[place] == "0" for place in ends) for ends in wires_of(data))
 
 
 # Refusals
@@ -325,9 +349,10 @@ def neighbours(data, unpacked, v):
 
 
 def loop_figure(data):
+    """m − n plus the number of roots, which is that of the looms: each has one root, wherever the search begins."""
     check(data)
     n, m = sizes(data)
-    return m - n + 1
+    return m - n + looms(blocks_of(data))
 
 
 # Queries, on any index
