@@ -89,13 +89,6 @@ static inline unsigned celduga_value(uint32_t result)
     return (unsigned)(result & 0xFFFFu);
 }
 
-/* The value of celduga_loop_figure, which has a sign. */
-static inline int16_t celduga_figure(uint32_t result)
-{
-    int32_t value = (int32_t)(result & 0xFFFFu);
-    return (int16_t)(value < 0x8000 ? value : value - 0x10000);
-}
-
 /* A refusal in words, for a message; 0 gives "nothing is refused". */
 static inline const char *celduga_refusal_text(unsigned refusal)
 {
@@ -183,7 +176,11 @@ static inline const uint16_t *celduga_neighbours_of(const uint8_t *record, size_
     return list + (size_t)(part >> 32);
 }
 
-/* m - n + 1, to be read with celduga_figure. Refuses 1 to 6, 8. */
+/*
+ * How many wires the search forest leaves out, from any start: m - n plus the number of looms, which are the classes of
+ * joined terminals; a terminal without wires is a loom too. It is 0 where no wires close a loop, and at most 16383.
+ * Refuses 1 to 6, 8.
+ */
 uint32_t celduga_loop_figure(const uint8_t *record, size_t record_len);
 
 /*

@@ -144,7 +144,7 @@ class Lent:
 
 def returned(refusal, value):
     """The number that a call returns: the refusal in the high half, the value in the low one."""
-    return refusal << 16 | (value or 0) & 0xFFFF
+    return refusal << 16 | (value or 0)
 
 
 def told(argument, value):

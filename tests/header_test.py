@@ -11,10 +11,11 @@ from random import Random
 import shapes
 from families import fail, summed, tally
 from header import ANSWERS, FUNCTIONS, LISTS, Compared, exported, header_version, lent, load, with_library
+from loops_test import WORKED as WORKED_FIGURES, starts_of
 from packing import WIRE, bits_of, index_layout, index_length, layout, packed, record
 from plain import MOST_ASKED, MOST_TERMINALS, MOST_WIRES, answer, blocks_of, bridges_of, build, built, check, children
-from plain import columns, head, index_by, joined, lookup, order_r, places_of, sections_of, sizes, table, unpack, visit
-from plain import wires, without
+from plain import columns, head, index_by, joined, lookup, order_r, places_of, sections_of, sizes, table, unmarked
+from plain import unpack, visit, wires, without
 from programs import ARCHIVE
 
 LARGE = [65536, 65537, 2**32 + 1, 2**63, 2**64 - 1]
@@ -354,13 +355,35 @@ def started(data):
     return compared.result()
 
 
-def from_start(data, start, together):
-    """On the index that Build writes, heads are equal exactly for these pairs."""
-    compared, (n, m) = Compared(data), sizes(data)
+def indexed(compared, start):
+    """The index by the library, for a start that is taken."""
+    n, m = sizes(compared.data)
     work, index = lent["work"].hold(bytes(16 * n)), lent["index"].hold(bytes(index_length(n, m)))
     found = compared.call("build", *compared.record, start, *work, *index)
     compared.settle(found == 0, "build from", start, "gives", hex(found))
-    compared.index = bytes(lent["index"].held())
+    return bytes(lent["index"].held())
+
+
+def loops(data):
+    """From every start, or from some, the loop figure is the number of wires without a mark in the E that Build writes,
+    and m − n plus the number of zeros among the table's parents."""
+    compared, (n, m) = Compared(data), sizes(data)
+    compared.ask("loop_figure")
+    figure = compared.call("loop_figure", *compared.record)
+    for start in starts_of(data):
+        left = unmarked(data, indexed(compared, start))
+        compared.settle(figure == left, f"the figure is {figure}, and from {start} Build leaves {left} wires unmarked")
+        _, parents, _, _ = tabled(compared, start, n)
+        roots = parents.count(0)
+        compared.settle(figure == m - n + roots, f"the figure is {figure}, and from {start} there are {roots} roots")
+    return compared.result()
+
+
+def from_start(data, start, together):
+    """On the index that Build writes, heads are equal exactly for these pairs."""
+    compared, (n, _) = Compared(data), sizes(data)
+    compared.index = indexed(compared, start)
+    index = lent["index"].hold(compared.index)
     heads = {v: compared.call("head", *compared.record, *index, v) for v in range(1, n + 1)}
     for (u, v), same in together.items():
         told = f"the heads of {u} and {v} are {heads[u]} and {heads[v]}"
@@ -386,7 +409,7 @@ def largest(data):
     results = [alone(data), building(data), tabling(data)]
     if not answer(check, data)[0]:
         indexes = [built(data, start) for start in (1, sizes(data)[0])]
-        results += [asking((data, index), most=8) for index in indexes] + [started(data)]
+        results += [asking((data, index), most=8) for index in indexes] + [started(data), loops(data)]
         results += [beside(data, index) for index in indexes]
     return summed(results)
 
@@ -469,6 +492,14 @@ def stated(case):
     compared.write("build", (0, [index]), start, bytes(16 * len(heads)), bytes(len(index)))
     found = [compared.call("head", *compared.both, v) for v in terminals]
     compared.settle(found == heads, "heads", found)
+    return compared.result()
+
+
+def stated_figure(case):
+    blocks, figure = case
+    compared = Compared(record(blocks))
+    found = compared.call("loop_figure", *compared.record)
+    compared.settle(found == figure, "loop_figure gives", hex(found), "for", hex(figure))
     return compared.result()
 
 
@@ -573,6 +604,7 @@ def families():
     marked = [[[1, 1]], WIRE, [[3], [1]], [[2], [1], []], [[2, 2], [1, 1]]]
     return {
         "document 01's records, and others by hand": (stated, STATED + WORKED),
+        "loop figures worked by hand, the documents' too": (stated_figure, WORKED_FIGURES),
         "the documents' refusals": (stated_refusal, STATED_REFUSALS),
         "the header's version": (version, [header_version()]),
         "largest": (largest, large),
@@ -590,6 +622,7 @@ def families():
         "indexes of other lengths": (on_other_lengths, some(rng, small, 40, 60) + rng.sample(damaged, 300)),
         "sections": (sections, some(rng, small, 12, 400) + some(rng, doubled, 12, 100)),
         "starts": (started, every + small + medium),
+        "loops": (loops, every + small + medium[::4]),
         "lengths of Lookup's lists": (on_lengths, small[: len(shapes.FIXED)] + medium[::60]),
         "two refusals in Lookup's list": (in_order, [one_loom(rng) for _ in range(60)] + medium[7::60]),
         "Lookup beside the single calls": (beside_singles, some(rng, small, 40, 40) + medium[::30]),

@@ -115,8 +115,6 @@ int main(void)
     header(sample);
     header(mixed);
     header(highest);
-    printf("figures: %d %d %d %d %d\n", celduga_figure(0), celduga_figure(0x4001), celduga_figure(0x7FFF), celduga_figure(0x8000),
-           celduga_figure(0xF001));
     for (unsigned refusal = 0; refusal <= 17; refusal++)
         printf("refusal %u: %s\n", refusal, celduga_refusal_text(refusal));
     printf("refusal %u: %s\n", 0xFFFFFFFFu, celduga_refusal_text(0xFFFFFFFFu));
@@ -124,6 +122,8 @@ int main(void)
     told("check", celduga_check(r, rl));
     told("check short", celduga_check(r, 3));
     told("figure", celduga_loop_figure(r, rl));
+    told("figure short", celduga_loop_figure(r, 3));
+    told("figure of the empty record", celduga_loop_figure(empty, sizeof empty));
     told("unpack", celduga_unpack(r, rl, list, 2 * M));
     numbers("list", list, 2 * M);
     for (size_t v = 0; v <= N + 1; v++)
