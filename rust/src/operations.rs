@@ -73,14 +73,28 @@ pub fn neighbours<'a>(record: &[u8], list: &'a [u16], v: Vertex) -> &'a [u16] {
     &list[part(record, list.len(), v)]
 }
 
-/// m − n + 1, for n terminals and m wires.
+/// How many wires the search forest leaves out, from any start: m − n plus the number of looms, for n terminals and m
+/// wires. A loom is a class of joined terminals; a terminal without wires is one too.
+///
+/// It is 0 where no wires close a loop, and at most 16,383.
 ///
 /// # Errors
 ///
 /// Refusals 1 to 6, 8, tried in this order.
-pub fn loop_figure(record: &[u8]) -> Result<i32, Refusal> {
-    // the value is a number of 16 bits with a sign
-    ffi::loop_figure(record).map(|value| i32::from(value as i16))
+///
+/// # Examples
+///
+/// ```
+/// use celduga::{loop_figure, Refusal};
+///
+/// // 1: 2 2; 2: 1 1
+/// let doubled = [0x00, 0x10, 0x00, 0x29, 0x00, 0x04, 0x00, 0x40, 0x00, 0x00, 0x00];
+/// assert_eq!(loop_figure(&doubled), Ok(1));
+/// assert_eq!(loop_figure(&[0, 0, 0, 0]), Ok(0));
+/// assert_eq!(loop_figure(&[0, 0, 0]), Err(Refusal::TooShort));
+/// ```
+pub fn loop_figure(record: &[u8]) -> Result<usize, Refusal> {
+    ffi::loop_figure(record).map(usize::from)
 }
 
 /// Writes the record's index, of [`Sizes::index_len`](crate::Sizes::index_len) bytes. The work slice has

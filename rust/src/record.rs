@@ -97,9 +97,28 @@ impl<'a> Record<'a> {
         list
     }
 
-    /// m − n + 1, for n terminals and m wires.
+    /// How many wires the search forest leaves out, from any start: m − n plus the number of looms, for n terminals and
+    /// m wires. A loom is a class of joined terminals; a terminal without wires is one too.
+    ///
+    /// It is 0 where no wires close a loop, and at most 16,383.
+    ///
+    /// # Examples
+    ///
+    /// ```
+    /// use celduga::{Record, Refusal};
+    ///
+    /// // 1: 2 3; 2: 1 3; 3: 1 2 4; 4: 3
+    /// let bytes = [
+    ///     0x00, 0x20, 0x00, 0x49, 0x22, 0x00, 0x10, 0x02, 0x00, 0x00, 0x02, 0x00, 0x00, 0x01, 0x00, 0x30, 0x02,
+    /// ];
+    /// let record = Record::new(&bytes)?;
+    /// let roots = record.table().rows().filter(|row| row.parent.is_none()).count();
+    /// assert_eq!(record.loop_figure(), 1);
+    /// assert_eq!(record.loop_figure() + record.sizes().terminals(), record.sizes().wires() + roots);
+    /// # Ok::<(), Refusal>(())
+    /// ```
     #[must_use]
-    pub fn loop_figure(self) -> i32 {
+    pub fn loop_figure(self) -> usize {
         operations::loop_figure(self.bytes).expect("the record is accepted")
     }
 

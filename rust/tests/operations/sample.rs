@@ -70,7 +70,7 @@ fn the_listing() {
         assert_eq!(head(&SAMPLE, &SAMPLE_INDEX, v), Ok(Vertex(top)));
         assert_eq!(degree(&SAMPLE, v), Ok(SAMPLE_BLOCKS[v.0 - 1].len()));
     }
-    assert_eq!(loop_figure(&SAMPLE), Ok(0));
+    assert_eq!(loop_figure(&SAMPLE), Ok(1));
 }
 
 /// What Table answers and writes: visit numbers, parents, children and heads.
@@ -194,10 +194,18 @@ fn the_parts_of_the_unpacked_list() {
 }
 
 #[test]
-fn loop_figures_have_a_sign() {
-    assert_eq!(loop_figure(&EMPTY), Ok(1));
-    assert_eq!(loop_figure(&record(&[[], [], []])), Ok(-2));
-    assert_eq!(loop_figure(&record(&[[]; 4096])), Ok(-4095));
+fn loop_figures_count_the_looms() {
+    assert_eq!(loop_figure(&EMPTY), Ok(0));
+    assert_eq!(loop_figure(&TERMINAL), Ok(0));
+    assert_eq!(loop_figure(&record(&[[], [], []])), Ok(0));
+    assert_eq!(loop_figure(&record(&[[]; 4096])), Ok(0));
+    assert_eq!(loop_figure(&WIRE), Ok(0));
+    assert_eq!(loop_figure(&DOUBLED), Ok(1));
+    // two triangles, with a terminal by itself between them
+    let apart: [&[u16]; 7] = [&[2, 3], &[1, 3], &[1, 2], &[], &[6, 7], &[5, 7], &[5, 6]];
+    assert_eq!(loop_figure(&record(&apart)), Ok(2));
+    // the largest: all wires between the same two terminals
+    assert_eq!(loop_figure(&record(&[[2; 16384], [1; 16384]])), Ok(16383));
 }
 
 #[test]

@@ -9,7 +9,7 @@ fn the_sample() {
     assert_eq!(record.as_bytes(), SAMPLE);
     assert_eq!((record.sizes().terminals(), record.sizes().wires()), (6, 5));
     assert_eq!(record.unpack(), SAMPLE_BLOCKS.concat());
-    assert_eq!(record.loop_figure(), 0);
+    assert_eq!(record.loop_figure(), 1);
     assert_eq!(record.degree(Vertex(3)), Ok(3));
     let index = record.index();
     assert_eq!(index.record(), record);
@@ -47,7 +47,7 @@ fn the_empty_record() {
     let record = Record::new(&EMPTY).unwrap();
     assert_eq!(record.vertices().len(), 0);
     assert_eq!(record.unpack(), []);
-    assert_eq!(record.loop_figure(), 1);
+    assert_eq!(record.loop_figure(), 0);
     assert_eq!(record.degree(Vertex(1)), Err(Refusal::NoTerminal));
     let index = record.index();
     assert_eq!(index.as_bytes(), []);
@@ -111,6 +111,23 @@ fn the_sections_have_the_same_terminals_from_every_start() {
     }
     // the heads themselves often differ
     assert!(moved > 100, "{moved}");
+}
+
+#[test]
+fn the_loop_figure_is_what_the_forest_leaves_out() {
+    for blocks in shapes() {
+        let bytes = record(&blocks);
+        let record = Record::new(&bytes).unwrap();
+        let (n, m) = (record.sizes().terminals(), record.sizes().wires());
+        for start in starts(record) {
+            let table = record.table_from(start).unwrap();
+            let roots = table.rows().filter(|row| row.parent.is_none()).count();
+            assert_eq!(record.loop_figure() + n, m + roots);
+            // each wire of the forest leads to a child
+            let children: usize = table.rows().map(|row| row.children).sum();
+            assert_eq!(record.loop_figure() + children, m);
+        }
+    }
 }
 
 #[test]
