@@ -5,7 +5,7 @@ The stored output is what `rt ci` holds the proved program to. Here each record 
 asked by plain.py. With an argument it prints the lines instead.
 """
 from packing import SAMPLE, WIRE, flipped, layout, record
-from plain import answer, check, degree, loop_figure, neighbours, unpack
+from plain import answer, check, degree, neighbours, unpack
 from shapes import FIXED
 from stored import main, told
 
@@ -36,7 +36,6 @@ def ask(name, data, n, m):
     if m > 0:
         yield from ask_list(name, data, 2 * m - 1, [1])
     yield from ask_list(name, data, 2 * m + 1, [1])
-    yield f"{name} loops: {told(*answer(loop_figure, data))}"
 
 
 def records():
