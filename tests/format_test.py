@@ -181,8 +181,8 @@ def sample_from_4(page):
 
 
 def starts(page):
-    """What the page says of every start holds of its records: the start is visited first, and B and the groups of
-    terminals with one head are the same."""
+    """What the page says of every start holds of its records: the start is visited first, B and the groups of terminals
+    with one head are the same, and the loop figure counts the wires with no mark in E."""
     for name, data in small_records(page).items():
         if answer(check, data)[0]:
             continue
@@ -193,6 +193,7 @@ def starts(page):
             same(f"the first visit in {name} from {start}", start, plain.visited(data, index, 1))
             same(f"B of {name} from {start}", plain.sections_of(data, first)[2], plain.sections_of(data, index)[2])
             same(f"the groups in {name} from {start}", groups(first), groups(index))
+            same(f"the figure of {name} from {start}", plain.unmarked(data, index), plain.loop_figure(data))
 
 
 # Offsets and lengths
@@ -271,7 +272,7 @@ def limits(page):
     same("rule 15", ["15", "`BadList`", asked, "Lookup"], rules[-1])
     same("the longest list", [str(plain.MOST_ASKED)], sought(r"takes a list of at most ([\d,]+) terminals", page))
     same("what the program reads", [f"{longest + 1:,}"], sought(r"reads at most ([\d,]+) bytes", page))
-    same("the least loop figure", [f"−{n - 1:,}"], sought(r"from (−[\d,]+) up", page))
+    same("the largest loop figure", [f"{m - 1:,}"], sought(r"number of looms, 0 to ([\d,]+) \|", page))
 
 
 # The other records and indexes
@@ -429,8 +430,7 @@ def examples(page):
     shown = tabled(titled(page, "Examples"), "call", "answer", "why")
     for call, words, _ in shown:
         operation, refusal, found = called(page, call)
-        plainly = lambda number: str(number).replace("-", "−")
-        same(call, f"refused {refusal}" if refusal else WORDS.get(operation, plainly)(found), words)
+        same(call, f"refused {refusal}" if refusal else WORDS.get(operation, str)(found), words)
     missing = {f"refused {number}" for number in range(9, 16)} - {row[1] for row in shown}
     demand(not missing, f"there is no example of {missing}")
 
@@ -442,14 +442,19 @@ def results(page):
         if operation == "Neighbours":
             same(call, f"0x{found[0] << 32 | found[1]:016X}", result)
         else:
-            same(call, f"0x{refusal << 16 | int(found or 0) & 0xFFFF:08X}", result)
+            same(call, f"0x{refusal << 16 | int(found or 0):08X}", result)
 
 
 def figures(page):
     """The loop figures that are told in words."""
     text = titled(page, "Operations")
-    same("the sample's figure", [str(plain.loop_figure(SAMPLE_RECORD))], sought(r"has two, and the figure (\d+)", text))
+    [(formula, figure)] = sought(r"The sample\shas the figure ([^=]*) = (\d+)", text)
+    same("the sample's figure", [plain.loop_figure(SAMPLE_RECORD)] * 2, [value(formula), int(figure)])
     same("the empty record's", [str(plain.loop_figure(record([])))], sought(r"empty record has the figure (\d+)", text))
+    m = plain.MOST_WIRES
+    most = plain.loop_figure(record([[2] * m, [1] * m]))
+    told = sought(r"The largest is ([\d,]+), as of\stwo terminals with ([\d,]+) wires", text)
+    same("the largest", [(f"{most:,}", f"{m:,}")], told)
 
 
 def program(page):
