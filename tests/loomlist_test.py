@@ -27,7 +27,7 @@ terminal visit parent children head
 4 4 3 0 4
 5 5 0 1 5
 6 6 5 0 6
-loops 0
+loops 1
 """
 
 
