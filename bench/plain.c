@@ -305,13 +305,40 @@ uint32_t plain_check(const uint8_t *record, size_t len)
     return refused(take_apart(record, len, &g));
 }
 
+/* How many looms there are. The queue has the vertices met so far. Every neighbour is written behind them, and stays
+   where it is fresh: the processor could not foresee a branch on that. Once all are met, no block is read any more. */
+static size_t count_looms(const struct graph *g)
+{
+    uint8_t fresh[MOST_TERMINALS];
+    uint16_t queue[MOST_TERMINALS + 1];
+    size_t count = 0, met = 0, read = 0, first, p;
+    memset(fresh, 1, g->n);
+    for (first = 0; met < g->n; first++) {
+        if (!fresh[first])
+            continue;
+        count++;
+        fresh[first] = 0;
+        queue[met++] = (uint16_t)first;
+        for (; read < met && met < g->n; read++) {
+            size_t u = queue[read], end = g->starts[u + 1];
+            for (p = g->starts[u]; p < end; p++) {
+                size_t v = g->nbrs[p];
+                queue[met] = (uint16_t)v;
+                met += fresh[v];
+                fresh[v] = 0;
+            }
+        }
+    }
+    return count;
+}
+
 uint32_t plain_loop_figure(const uint8_t *record, size_t len)
 {
     struct graph g;
     uint32_t why = take_apart(record, len, &g);
     if (why != 0)
         return refused(why);
-    return (uint16_t)(g.m - g.n + 1);
+    return (uint32_t)(g.m - g.n + count_looms(&g));
 }
 
 uint32_t plain_unpack(const uint8_t *record, size_t len, uint16_t *list, size_t list_len)
