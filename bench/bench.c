@@ -176,15 +176,20 @@ static size_t same(enum op op, size_t a, size_t b)
     return left;
 }
 
-/* Build, from the start that is asked or from the last terminal. */
-static void compare_build(enum op op, const struct room *before)
+/* Build, from the start that is asked or from the last terminal. As many wires as the loop figure says have no mark in
+   E, and no wire has two. */
+static void compare_build(enum op op, size_t loops, const struct room *before)
 {
+    size_t m = celduga_wires(asked->bytes), places = celduga_terminals(asked->bytes) + 2 * m, unmarked;
     int s;
     for (s = 0; s < 2; s++)
         memcpy(rooms[s].index, before[s].index, sizeof rooms[s].index);
     if (same(op, 0, 0) == 0) {
         if (memcmp(rooms[0].index, rooms[1].index, index_len) != 0)
             differ("the index written by Build", 0, 0, 0, 0);
+        unmarked = m - plain_rank(rooms[0].index, index_len, 0, places, places);
+        if (loops != unmarked)
+            differ("Loop figure, beside the marks in E,", 0, 0, loops, unmarked);
     } else if (memcmp(rooms[0].index, before[0].index, sizeof rooms[0].index) != 0) {
         differ("the index left by Build", 0, 0, 0, 0);
     }
@@ -195,6 +200,7 @@ static void compare_build(enum op op, const struct room *before)
 static void compare_whole(void)
 {
     static struct room before[2];
+    size_t loops;
     int s, i;
     for (s = 0; s < 2; s++) {
         memset(rooms[s].index, s == 0 ? 0xAA : 0x55, sizeof rooms[s].index);
@@ -203,9 +209,9 @@ static void compare_whole(void)
         before[s] = rooms[s];
     }
     same(CHECK, 0, 0);
-    same(LOOPS, 0, 0);
-    compare_build(BUILD_LAST, before);
-    compare_build(BUILD, before);
+    loops = same(LOOPS, 0, 0);
+    compare_build(BUILD_LAST, loops, before);
+    compare_build(BUILD, loops, before);
     if (same(UNPACK, 0, 0) == 0) {
         if (memcmp(rooms[0].list, rooms[1].list, list_len * sizeof rooms[0].list[0]) != 0)
             differ("the list written by Unpack", 0, 0, 0, 0);
