@@ -338,21 +338,6 @@ static void compare_list(uint64_t *state)
     compare_lookup(count);
 }
 
-/* The record without terminals: a list of none is answered, and any number is refused. */
-static void compare_empty(void)
-{
-    static const struct record empty = { 0, 0, 4, 0, { 0 } };
-    size_t v;
-    ask(&empty);
-    found_lens[0] = found_lens[1] = 0;
-    compare_lookup(0);
-    found_lens[0] = found_lens[1] = 1;
-    for (v = 0; v < 2; v++) {
-        terminals[0] = (uint16_t)v;
-        compare_lookup(1);
-    }
-}
-
 static void turn_bit(uint8_t *bytes, size_t at)
 {
     bytes[at / 8] ^= (uint8_t)(0x80 >> at % 8);
@@ -588,12 +573,17 @@ static void compare_timed(int shape, int size, struct record *r)
     }
 }
 
-/* Small records with single and doubled wires, from every start. */
+/* Records with single and doubled wires: the small ones from every start, the others whole. */
 static void compare_mixed(struct record *r, uint64_t *state)
 {
     size_t v;
-    int copy;
+    int size, copy;
     for (copy = 0; copy < MIXED_COPIES; copy++) {
+        for (size = 1; size < SIZES; size++) {
+            make_record(MIXED, size, copy, r);
+            ask(r);
+            compare_accepted();
+        }
         make_record(MIXED, 0, copy, r);
         ask(r);
         for (start = 1; start <= r->n; start++) {
@@ -603,6 +593,26 @@ static void compare_mixed(struct record *r, uint64_t *state)
             compare_list(state);
         }
         compare_unbuilt(r, UNBUILT, state);
+    }
+}
+
+/* Records without wires. Without terminals too, a list of none is answered, and any number is refused. */
+static void compare_unwired(struct record *r)
+{
+    size_t v;
+    int size;
+    for (size = SIZES - 1; size >= 0; size--) {
+        make_record(UNWIRED, size, 0, r);
+        ask(r);
+        start = r->n;
+        compare_accepted();
+    }
+    found_lens[0] = found_lens[1] = 0;
+    compare_lookup(0);
+    found_lens[0] = found_lens[1] = 1;
+    for (v = 0; v < 2; v++) {
+        terminals[0] = (uint16_t)v;
+        compare_lookup(1);
     }
 }
 
@@ -625,7 +635,7 @@ static void compare_all(void)
         }
     }
     compare_mixed(&r, &state);
-    compare_empty();
+    compare_unwired(&r);
     compare_fields();
 }
 

@@ -110,13 +110,16 @@ static void draw_wires(int shape, int size)
         lay(0, 1, (size_t)256 << 2 * size);
         break;
     case MIXED:
-        made.n = 2 + draw(&made.state, 15);
+        made.n = 2 + draw(&made.state, ((size_t)16 << 2 * size) - 1);
         for (a = 1; a < made.n; a++) {
             b = draw(&made.state, a);
             lay(a, b, draw(&made.state, 4));
         }
         for (a = 1; a < made.n; a += 3)
             lay(a, draw(&made.state, a), 1);
+        break;
+    case UNWIRED:
+        made.n = size == 0 ? 0 : (size_t)1 << 6 * (size - 1);
         break;
     }
 }

@@ -5,7 +5,7 @@
 #include <stddef.h>
 #include <stdint.h>
 
-enum { SHAPES = 10, MIXED = SHAPES, SIZES = 4, MOST_RECORD_BYTES = 53764 };
+enum { SHAPES = 10, MIXED = SHAPES, UNWIRED, SIZES = 4, MOST_RECORD_BYTES = 53764 };
 
 extern const char *const shape_names[SHAPES];
 
@@ -18,8 +18,9 @@ struct record {
 };
 
 /* Makes a record of a shape at a size, 0 to SIZES - 1, each some four times as long as the one before, the last the
-   largest that the format has room for; each `copy`, 0 to 99, is another draw. MIXED has no name and no sizes: up to
-   16 terminals, between which one wire runs, or several, or none. */
+   largest that the format has room for; each `copy`, 0 to 99, is another draw. Two shapes have no name, and sizes of
+   their own: MIXED has up to 16, 64, 256 or 1,024 terminals, between which one wire runs, or several, or none; UNWIRED
+   has 0, 1, 64 or 4,096, and no wires. */
 void make_record(int shape, int size, int copy, struct record *r);
 
 #endif
