@@ -26,7 +26,7 @@
 enum { MOST_N = 4096, MOST_M = 16384, MOST_INDEX = 3 * 4608 + 6144, ARGUMENTS = 1024, ROUNDS = 40, QUERY_ROUNDS = 50,
        STRING_ROUNDS = 200, LENGTHS = 7, COLUMNS = 4, SHOWN = 3, FIELD_BYTES = 4096, FIELDS = 1 << 18, ORDERS = 2,
        MIXED_COPIES = 100, UNBUILT = 16, MOST_LOOKUP = 512, MOST_ASKED = 2 * MOST_LOOKUP, LISTED = 7,
-       LOOKUP_ROUNDS = 10, SINGLES = 4, BESIDE = 3 };
+       LOOKUP_ROUNDS = 10, SINGLES = 4, BESIDE = 4 };
 
 /* The bits at which a field can start in so many bytes. */
 enum { FIELD_STARTS = 8 * FIELD_BYTES - 11 };
@@ -675,11 +675,11 @@ struct range {
 };
 
 /* The least and the greatest ratio of each operation, by size; at 0, of Rank and Select over all lengths, and of Field
-   over both orders. Then those of Lookup to single calls. */
+   over both orders. Then those of two times of the product: of Lookup to single calls, and of Loop figure to Check. */
 static struct range ratios[OPS][SIZES], beside[BESIDE][SIZES];
 
 static const char *const beside_names[BESIDE] = { "Lookup of 512 / single calls",
-    "Lookup of 512 / climbs, where these are not short", "Lookup of one / single calls" };
+    "Lookup of 512 / climbs, where these are not short", "Lookup of one / single calls", "Loop figure / Check" };
 
 /* A ratio, which is kept where none was less or greater. */
 static double kept(struct range *r, double ratio)
@@ -778,12 +778,13 @@ static void print_shape(int shape)
     const struct record *r = &records[0];
     int size, op;
     for (size = 0; size < SIZES; size++) {
+        const struct times *whole = least.whole[shape][size];
         make_record(shape, size, 0, &records[0]);
         printf("| %s | %zu | %zu | %zu |", shape_names[shape], r->n, r->m, 8 * r->len);
-        for (op = 0; op < WHOLE; op++) {
-            struct times t = least.whole[shape][size][op];
-            printf(" %.2f | %.2f |", t.product / (8 * (double)r->len * copies(size)), noted((enum op)op, size, t));
-        }
+        for (op = 0; op < WHOLE; op++)
+            printf(" %.2f | %.2f |", whole[op].product / (8 * (double)r->len * copies(size)),
+                noted((enum op)op, size, whole[op]));
+        kept(&beside[3][size], whole[LOOPS].product / whole[CHECK].product);
         printf("\n");
     }
 }
@@ -1178,7 +1179,7 @@ static int print(const char *path)
     print_fields();
     printf("\n### Ratios: product / plain, the least and the greatest over the shapes\n\n");
     print_ratios("operation", op_names, (const struct range(*)[SIZES])ratios, RANK, 2);
-    printf("\n### Ratios of Lookup and the product's single calls: the least and the greatest over the shapes\n\n");
+    printf("\n### Ratios of the product's own times: the least and the greatest over the shapes\n\n");
     print_ratios("ratio", beside_names, (const struct range(*)[SIZES])beside, BESIDE, 3);
     printf("\n### Ratios of Rank, Select and Field: the least and the greatest over the rows of their tables\n\n");
     print_other_ratios();
