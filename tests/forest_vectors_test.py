@@ -5,7 +5,7 @@ The stored output is what `rt ci` holds the proved program to. Here the index is
 leaves its ends unjoined; for the large trees and the ring that is told from the shape. With an argument it prints the lines instead.
 """
 from packing import SAMPLE, bits_of, flipped, index_length, layout, record, whole
-from plain import answer, bridges, build, check, index_of, is_bridge, sizes, wires
+from plain import answer, bridges, build, check, index_of, is_bridge, loop_figure, sizes, wires
 from shapes import DOUBLED, FIXED
 from stored import main, told
 
@@ -22,9 +22,13 @@ def line(name, before, data, start, work, given):
     return f"{name} {before} {start} {work} {len(given)}: {told(refusal, 'accepted')},{shown}"
 
 
+def figure(name, data):
+    return f"{name} loops: {told(*answer(loop_figure, data))}"
+
+
 def accepted():
     """Each record from its first terminal, and some from others, with zeros in the work slice and in the buffer, with
-    ones, and with ones and more work than is asked."""
+    ones, and with ones and more work than is asked; and its loop figure."""
     starts = [(name, min(1, len(blocks))) for name, blocks in FIXED.items()]
     starts += [("sample", start) for start in range(2, 7)]
     starts += [("wire", 2), ("path", 5), ("hub", 6), ("chord", 7), ("apart", 9), ("apart", 10)]
@@ -35,24 +39,30 @@ def accepted():
         yield line(name, "zeros", data, start, cells, bytes(length))
         yield line(name, "ones", data, start, cells, b"\xff" * length)
         yield line(name, "ones", data, start, cells + 3, b"\xff" * length)
+        yield figure(name, data)
 
 
 def refused():
     """Calls that are refused, and two that are not, by the start and the lengths of the work slice and of the buffer,
-    which holds marks."""
+    which holds marks. Where Check refuses, the loop figure too."""
     sample, single, empty = record(SAMPLE), record([[]]), record([])
     spare = flipped(sample, -1)
     one_sided = record([[2, 3], [1], [2]])
+    marks = bytes(range(0xA1, 0xB1))
+    # 1 to 6, and 8
+    for name, data, work, length in (
+        ("none", b"", 0, 0),
+        ("wide", layout(4097, 0, "", []), 64, 16),
+        ("short", sample[:-1], 48, 15),
+        ("few_ones", flipped(sample, 43), 48, 15),
+        ("spare", spare, 48, 15),
+        ("own", record(SAMPLE[:5] + [[6]]), 48, 15),
+        ("one_sided", one_sided, 24, 8),
+        ("more", record([[2, 2, 2], [1]]), 16, 6),
+    ):
+        yield line(name, "marks", data, 1, work, marks[:length])
+        yield figure(name, data)
     for name, data, start, work, length in (
-        # 1 to 6, and 8
-        ("none", b"", 1, 0, 0),
-        ("wide", layout(4097, 0, "", []), 1, 64, 16),
-        ("short", sample[:-1], 1, 48, 15),
-        ("few_ones", flipped(sample, 43), 1, 48, 15),
-        ("spare", spare, 1, 48, 15),
-        ("own", record(SAMPLE[:5] + [[6]]), 1, 48, 15),
-        ("one_sided", one_sided, 1, 24, 8),
-        ("more", record([[2, 2, 2], [1]]), 1, 16, 6),
         # 9
         ("sample", sample, 1, 47, 15),
         ("sample", sample, 1, 0, 15),
@@ -88,7 +98,7 @@ def refused():
         # accepted
         ("sample", sample, 6, 48, 15),
     ):
-        yield line(name, "marks", data, start, work, bytes(range(0xA1, 0xA1 + length)))
+        yield line(name, "marks", data, start, work, marks[:length])
 
 
 # The largest sizes
@@ -125,7 +135,7 @@ def digest(data):
 
 
 def large(name, blocks, single, start):
-    """A line for the record, and one for its index with the ones of E, P and B."""
+    """A line for the record, one for its index with the ones of E, P and B, and its loop figure."""
     # what is said of the shape holds of a few wires that are tried
     assert all((wire in single) == is_bridge(blocks, wire) for wire in wires(blocks)[::1000])
     data = record(blocks)
@@ -136,6 +146,7 @@ def large(name, blocks, single, start):
     ones = [bits_of(index[i * size : i * size + size]).count("1") for i in range(3)]
     lengths = f"{start} {8 * N} {len(index)}"
     yield f"{name} ones {lengths}: {told(refusal, 'accepted')}, {ones[0]} {ones[1]} {ones[2]}, {digest(index)}"
+    yield figure(name, data)
 
 
 def lines():
