@@ -48,8 +48,8 @@ unfoldable pub firstStart : ℕ → ℕ
 firstStart zero = 0
 firstStart (suc n) = 1
 
--- Loop figure: m − n plus the number of roots. Another start gives as many roots (`roots-from`), and the difference is
--- that of whole numbers: m and the roots together are no fewer than n (`loops-whole`)
+-- Loop figure: m − n plus the number of roots. Another start gives as many roots (`roots-from`), and nothing is cut
+-- off: m and the roots together are no fewer than n (`loops-whole`)
 unfoldable pub loops : List ℕ → ℕ
 loops bytes = wires bytes + roots (forest (blocks bytes) 0) - terminals bytes
 

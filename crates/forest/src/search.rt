@@ -119,13 +119,6 @@ fn try_next(
     }
 }
 
-// A vertex is at hand, or a start is left to try.
-fn busy(n: usize, i: usize, cur: usize) -> bool
-    ensures { λ r. ⌜ r ≡ (ltb 0 cur || ltb i n) ⌝ }
-{
-    if 0 < cur { true } else { i < n }
-}
-
 // One step of the search of all vertices: the vertex at hand goes on, or else vertex i is tried.
 fn step(
     starts: &[u16],
@@ -177,8 +170,8 @@ fn begin(starts: &[u16], n: usize, s: usize, work: &mut [u16])
     }
 }
 
-// The search that begins at the vertex `first` and then takes all vertices in order. What the work slice held before
-// does not matter.
+// The search that begins at the vertex `first` and then takes all vertices in order. It ends once all are entered: what
+// is left to try then leads to none. What the work slice held before does not matter.
 pub fn search(starts: &[u16], nbrs: &[u16], n: usize, s: usize, first: usize, work: &mut [u16])
     ghost { Blocks }
     requires { λ g. ⌜ cut (now starts) (now nbrs) ≡ g ⌝ }
@@ -194,7 +187,7 @@ pub fn search(starts: &[u16], nbrs: &[u16], n: usize, s: usize, first: usize, wo
     let mut i: usize = 0;
     let mut cur = h.cur;
     let mut k = h.k;
-    while busy(n, i, cur) {
+    while k < n {
         let at = step(starts, nbrs, n, s, work, left, i, cur, k);
         left -= 1;
         i = at.i;

@@ -38,7 +38,7 @@ use Rattle.graph.specs.Laws.Bridges.Sweep.{Least, sweep-begin, sweep-roo
 use Rattle.graph.specs.Laws.Heads.Sections.{same-head}
 use Rattle.graph.specs.Laws.Loop.Arrays.{Cells, Kept, Enters}
 use Rattle.graph.specs.Laws.Loop.Invariant.{Loop, loop-begin, loop-pass-start, loop-enter-start, Visited}
-use Rattle.graph.specs.Laws.Loop.Invariant.{loop-enter-at, loop-leave, loop-end}
+use Rattle.graph.specs.Laws.Loop.Invariant.{loop-enter-at, loop-leave, loop-full, loop-end}
 use Rattle.graph.specs.Laws.Heads.Walks.{HeadSteps, walk-head, rise-head, AncestorSteps, walk-ancestor}
 use Rattle.graph.specs.Laws.Counts.Edges.{two-places, neither-twin}
 use Rattle.graph.specs.Laws.Counts.Roots.{roots-parentless, roots-fewer}
@@ -292,7 +292,12 @@ module _ {g : Blocks} {H : Forest} {left : ℕ} {todo : List ℕ} {k : ℕ} {c :
       → Visited g c u (c .nexts u) (length (block g u)) → Loop g H (left - 1) todo (c .parents u) k c
   block-done = loop-leave
 
-pub search-ends : {g : Blocks} {H : Forest} {left k : ℕ} {c : Cells} → Loop g H left [] 0 k c → Kept g H c
+-- once every vertex is entered the arrays are the forest's, whatever is left to try; with nothing left, that is so
+pub search-full : {g : Blocks} {H : Forest} {left : ℕ} {todo : List ℕ} {cur k : ℕ} {c : Cells}
+    → Loop g H left todo cur k c → length H ≤ k → Kept g H c
+search-full = loop-full
+
+pub search-ends : {g : Blocks} {H : Forest} {left k : ℕ} {c : Cells} → Loop g H left [] 0 k c → k ≡ length H
 search-ends = loop-end
 
 -- ---- 9. There are as many roots as looms. With m wires, m and the roots are as many as n and the wires that have a

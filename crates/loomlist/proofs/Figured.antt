@@ -1,6 +1,5 @@
 -- The loop figure from the parents of a record's table.
-use mathlib.Core.Path.{_≡_, refl, sym, ap, subst, _∙_}
-use mathlib.Core.Bool.{false}
+use mathlib.Core.Path.{_≡_, refl, sym, ap, _∙_}
 use mathlib.Core.List.{List}
 use Prim.Native.Nat.{ℕ, _+_, _-_, _≤_}
 use native.Mathlib.Omega.{arith}
@@ -10,7 +9,7 @@ use Rattle.record.specs.Answers.{answered}
 use Rattle.record.specs.Operations.{Accepted}
 use Rattle.record.specs.Steps.{Sound}
 use Rattle.forest.specs.Index.{indexOf}
-use Rattle.forest.specs.Operations.{noStart, firstStart, loops, loopFigure, rootsIn}
+use Rattle.forest.specs.Operations.{firstStart, loops, loopFigure, rootsIn}
 use Rattle.forest.specs.Laws.Taken.{first-taken}
 use Rattle.forest.specs.Laws.Figures.{figure-told}
 use Rattle.queries.specs.Written.{Written}

@@ -2,7 +2,7 @@
 --   busy-start, underway-start, next-start       no vertex is at hand: the next vertex is a start
 --   From                                         the vertices from i on are still to try
 --   search-begun, search-first                   before the start is tried, and behind it
---   searching-busy, search-ended                 before a step, and after the last
+--   searching-busy, still-busy, search-ended     before a step, and after the last
 use mathlib.Core.Path.{_≡_, refl, sym, ap, ap₂, subst, _∙_}
 use mathlib.Core.Bool.{true, false, _||_}
 use mathlib.Core.List.{List, _∷_}
@@ -15,11 +15,13 @@ use lib.ListN.{length, getD}
 use Rattle.graph.specs.Graph.{Blocks}
 use Rattle.graph.specs.Search.{Forest, all, search, countUp, startsFrom}
 use Rattle.graph.specs.Forest.{number}
+use Rattle.graph.specs.Laws.Places.Basics.{Told, pass, fail, told}
 use Rattle.graph.specs.Laws.Tree.Entries.{Entered}
 use Rattle.graph.specs.Laws.Joined.Spanning.{count-more, count-none, Covers, Spanning, search-spans, forest-length}
 use Rattle.graph.specs.Laws.Joined.Starts.{starts-more, starts-many, starts-cover}
 use Rattle.graph.specs.Laws.Loop.Arrays.{Kept, visit-entered}
-use Rattle.graph.specs.Laws.Loop.Invariant.{Loop, loop-begin, loop-end, loop-busy-start, loop-busy}
+use Rattle.graph.specs.Laws.Loop.Invariant.{Loop, loop-begin, loop-full, loop-end}
+use Rattle.graph.specs.Laws.Loop.Invariant.{loop-busy-start, loop-busy}
 use Rattle.adjacency.specs.Arrays.{cut, Arrays}
 use Rattle.adjacency.specs.Laws.Anywhere.{neither}
 use Rattle.forest.specs.Laws.Starts.{places-cut}
@@ -98,22 +100,34 @@ module _ {starts nbrs : List ℕ} (a : Arrays starts nbrs) {n first : ℕ} (fit 
         → From (cut starts nbrs) starts n s first work left 0 cur k
     search-first t = let e : n - 0 ≡ n = omega arith in rw e t
 
+    abbrev F : Forest
+    F = search (cut starts nbrs) all (startsFrom n first)
+
+    spans : Spanning (cut starts nbrs) F
+    spans = search-spans (in-range a) all-starts
+
+    size : length F ≡ n
+    size = forest-length spans ∙ as-many starts nbrs fit
+
+    -- not every vertex is entered, so something is left to try
+    pub still-busy : {s : ℕ} {work : List ℕ} {left k : ℕ} (i cur : ℕ)
+        → From (cut starts nbrs) starts n s first work left i cur k → k < n → (ltb 0 cur || ltb i n) ≡ true
+    still-busy i cur t l = go (told (ltb 0 cur || ltb i n))
+      where
+        go : Told (ltb 0 cur || ltb i n) → (ltb 0 cur || ltb i n) ≡ true
+        go (pass e) = e
+        go (fail e) =
+            let (none, done) = idle {n = n} {i = i} {cur = cur} e in
+            let q = loop-end (rw (none, count-none n i done) at (t .loop)) in
+            absurd (omega (arith, size))
+
     module _ {s : ℕ} {work : List ℕ} {left cur k : ℕ} (i : ℕ)
-        (t : From (cut starts nbrs) starts n s first work left i cur k)
-        (e : (ltb 0 cur || ltb i n) ≡ false) where
-      abbrev F : Forest
-      F = search (cut starts nbrs) all (startsFrom n first)
-
-      spans : Spanning (cut starts nbrs) F
-      spans = search-spans (in-range a) all-starts
-
+        (t : From (cut starts nbrs) starts n s first work left i cur k) (full : n ≤ k) where
       kept : Kept (cut starts nbrs) F (cellsOf s (t .next-of) (t .slot-of) work)
-      kept =
-          let (none, done) = idle {n = n} {i = i} {cur = cur} e in
-          loop-end (rw (none, count-none n i done) at (t .loop))
+      kept = loop-full (t .loop) (omega (arith, size))
 
       entered : (v : ℕ) → v < n → Entered v F
-      entered v h = let size = as-many starts nbrs fit in spans .whole v (omega arith)
+      entered v h = spans .whole v (omega (arith, as-many starts nbrs fit))
 
       visits : (v : ℕ) → v < n → getD work (2 * s + v) 0 ≡ suc (number F v)
       visits v h = kept .visit-cells v (omega (arith, as-many starts nbrs fit)) ∙ visit-entered (entered v h)
@@ -124,7 +138,7 @@ module _ {starts nbrs : List ℕ} (a : Arrays starts nbrs) {n first : ℕ} (fit 
         room = t .tied .room;
         visits = visits;
         parents = λ v h. kept .parent-cells v (entered v h);
-        order = λ j h. kept .order-cells j (omega (arith, as-many starts nbrs fit, forest-length spans));
+        order = λ j h. kept .order-cells j (omega (arith, size));
         downs = λ v h. t .tied .downs v h (λ z. (let y = visits v h in omega arith))
             ∙ ap₂ (downBit (cut starts nbrs)) (kept .parent-cells v (entered v h)) (kept .slot-cells v (entered v h));
       }

@@ -8,6 +8,9 @@ use Rattle.queries.specs.Laws.Figured.{table-left}
 use Rattle.loomlist.proofs.list.Statement.{statement}
 use Rattle.loomlist.proofs.list.Tie as tie
 
+abbrev tabled : tie.After-enum-told → tie.After-table
+tabled c = c .before .before .before .before .before .before .before .before .before .before .before .before
+
 abbrev started : tie.After-table → tie.After-first-start
 started c = c .before .before .before .before .before .before
 
@@ -16,11 +19,12 @@ begin c = c .before .before .before .before .before .before .before
 
 figure-requires : tie.Need-figure-requires
 figure-requires c κs =
-    let at-table = c .before .before .before .before .before .before .before .before .before .before .before .before .before in
+    let told = c .before in
+    let at-table = tabled told in
     let at-start = started at-table in
     let start = begin at-start in
     let bytes = start .args .bytes .now in
-    let (accepted, left) = table-left (at-table .table .ensures) (ap verdict (c .before .enum-told .given .1)) in (
+    let (accepted, left) = table-left (at-table .table .ensures) (ap verdict (told .enum-told .given .1)) in (
       start .pre .0,
       accepted,
       ap (λ (t : Columns). t .parents) left

@@ -29,7 +29,9 @@ array-borrow-prefix-parents : tie.Need-array-borrow-prefix-parents
 array-borrow-prefix-parents c = search needs
 
 slice-aggregate-list-3 : tie.Need-slice-aggregate-list-3
-slice-aggregate-list-3 c = let s = c .before .before .before .before in sym (part-zeros 4096 (s .args .n) (s .pre .n-fits))
+slice-aggregate-list-3 c =
+    let s = c .before .before .before .before in
+    sym (part-zeros 4096 (s .args .n) (s .pre .n-fits))
 
 array-borrow-prefix-counts : tie.Need-array-borrow-prefix-counts
 array-borrow-prefix-counts c = search needs

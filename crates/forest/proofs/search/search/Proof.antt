@@ -1,13 +1,16 @@
 -- `search::search` meets its contract.
-use mathlib.Core.Path.{_≡_, refl, sym, _∙_}
+use mathlib.Core.Path.{_≡_, refl}
+use mathlib.Core.Bool.{true, _||_}
 use mathlib.Core.List.{_∷_}
 use Prim.Native.Nat.{_-_, _<_}
 use native.Mathlib.Omega.{arith}
 use borrow.Author.Needs.{needs}
+use lib.Dec.{ltb}
 use lib.ListN.{length}
 use Rattle.graph.specs.Search.{countUp, startsFrom}
 use Rattle.adjacency.specs.Arrays.{cut}
-use Rattle.forest.proofs.Laws.Begins.{From, searching-busy, search-begun, search-first, search-ended}
+use Rattle.forest.proofs.Laws.Begins.{From, searching-busy, search-begun, search-first, still-busy}
+use Rattle.forest.proofs.Laws.Begins.{search-ended}
 use Rattle.forest.proofs.search.search.Statement.{statement}
 use Rattle.forest.proofs.search.search.Tie as tie
 
@@ -39,10 +42,17 @@ try-start-requires c κs =
     ((a, fit, omega (arith, h)), record { roots = roots; todo = todo; searching = here })
 
 -- a step is to be done, so `left` is not used up
-left-more : (c : tie.Then1 Inv-loop μ-loop) → 0 < c .before .before .loop .left
+busy : (c : tie.In-loop Inv-loop μ-loop)
+    → (ltb 0 (c .before .loop .cur) || ltb (c .before .loop .i) (begin (c .before .before) .args .n)) ≡ true
+busy c =
+    let l = c .before .loop in
+    let (a, fit, room, h) = begin (c .before .before) .pre in
+    still-busy a fit h (l .i) (l .cur) (l .inv .0) (c .loop-test .taken)
+
+left-more : (c : tie.In-loop Inv-loop μ-loop) → 0 < c .before .loop .left
 left-more c =
-    let l = c .before .before .loop in
-    searching-busy (l .i) (l .cur) (l .inv .0) (sym (c .before .busy .ensures) ∙ c .if1 .taken)
+    let l = c .before .loop in
+    searching-busy (l .i) (l .cur) (l .inv .0) (busy c)
 
 loop-holds : tie.Need-loop-holds Inv-loop μ-loop
 loop-holds c =
@@ -55,12 +65,11 @@ loop-holds c =
 
 step-requires : tie.Need-step-requires Inv-loop μ-loop
 step-requires c κs =
-    let l = c .before .before .before in
+    let l = c .before .before in
     let b = begin (l .before) in
-    let busy = sym (c .before .before .busy .ensures) ∙ c .before .if1 .taken in
     let roots = startsFrom (b .args .n) (b .args .first) in
     let from = countUp (l .loop .i) (b .args .n - l .loop .i) in
-    ((b .pre .0, b .pre .1, busy), record { roots = roots; todo = from; searching = l .loop .inv .0 })
+    ((b .pre .0, b .pre .1, busy (c .before)), record { roots = roots; todo = from; searching = l .loop .inv .0 })
 
 sub-left : tie.Need-sub-left-2 Inv-loop μ-loop
 sub-left c = left-more (c .before .before .before .before)
@@ -70,20 +79,20 @@ loop-less c = let h = left-more (c .before .before .before .before) in omega ari
 
 loop-again : tie.Need-loop-again Inv-loop μ-loop
 loop-again c =
-    let l = c .before .before .before .before .before .before in
+    let l = c .before .before .before .before .before in
     let b = begin (l .before) in
     let roots = startsFrom (b .args .n) (b .args .first) in
     (c .before .before .step .ensures roots (l .loop .inv .0), search needs)
 
 returns : tie.Need-returns Inv-loop μ-loop
 returns c =
-    let l = c .before .before in
+    let l = c .before in
     let (a, fit, room, h) = begin (l .before) .pre in
-    search-ended a fit h (l .loop .i) (l .loop .inv .0) (sym (c .before .busy .ensures) ∙ c .if1 .left)
+    search-ended a fit h (l .loop .i) (l .loop .inv .0) (c .loop-test .left)
 
 pub search-spec : {M : Type 1} → statement M
 search-spec =
     tie.close
     (tie.spec Inv-loop μ-loop (λ c κs. search needs) (λ c. search needs) (λ c. search needs) (λ c. search needs)
-    (λ c. search needs) try-start-requires (λ c. search needs) loop-holds (λ c κs. search needs) step-requires sub-left
-    loop-less loop-again (λ c. search needs) returns)
+    (λ c. search needs) try-start-requires (λ c. search needs) loop-holds step-requires sub-left loop-less loop-again
+    (λ c. search needs) returns)

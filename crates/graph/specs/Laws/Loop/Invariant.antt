@@ -1,7 +1,8 @@
 -- Theorem 8, the invariant of an imperative loop over arrays, with its steps. Beside the arrays the program holds the
 -- starts still to try, `cur` (0, or 1 + the vertex at hand), `k` (how many are entered) and `left`, which counts down.
 --   Loop                               the invariant
---   loop-begin, loop-end               before the first step, and after the last
+--   loop-begin, loop-full              before the first step, and once every vertex is entered
+--   loop-end                           which is so where nothing is left to try
 --   loop-pass-start, loop-enter-start  no vertex is at hand: the next start is visited, or it is not
 --   Visited                            the places of a block from one position up to another lead to visited vertices
 --   loop-leave, loop-enter-at          a vertex is at hand: its neighbours ahead are visited, or one is not
@@ -19,8 +20,9 @@ use Rattle.graph.specs.Search.{Goal, root, via, aim, Forest, all, search
 use Rattle.graph.specs.Forest.{parent}
 use Rattle.graph.specs.Laws.Places.Pairing.{InRange}
 use Rattle.graph.specs.Laws.Tree.Entries.{Entered, now, old, dec-entered, none-entered}
-use Rattle.graph.specs.Laws.Tree.Entries.{Built, built-nil, built-root, built-via}
+use Rattle.graph.specs.Laws.Tree.Entries.{grows-full, Built, built-nil, built-root, built-via}
 use Rattle.graph.specs.Laws.Tree.Climbs.{parent-root, parent-child, slot, slot-root, slot-child}
+use Rattle.graph.specs.Laws.Run.Segments.{segment-grows}
 use Rattle.graph.specs.Laws.Bridges.Stores.{Stored}
 use Rattle.graph.specs.Laws.Loop.Machine.{Frames, bottom, frame, Going, going-begin, going-pass-start}
 use Rattle.graph.specs.Laws.Loop.Machine.{going-enter-start, going-passes, going-enter, going-return, going-end}
@@ -157,11 +159,18 @@ module _ {g : Blocks} {H : Forest} {left v : ℕ} {todo : List ℕ} {k : ℕ} {c
             omega arith;
       }
 
--- no start is left: the arrays are the forest's
-pub loop-end : {g : Blocks} {H : Forest} {left k : ℕ} {c : Cells} → Loop g H left [] 0 k c → Kept g H c
-loop-end {g} {H} {c = c} i =
+-- as many vertices are entered as H has: the arrays are H's, whatever is left to try
+pub loop-full : {g : Blocks} {H : Forest} {left : ℕ} {todo : List ℕ} {cur k : ℕ} {c : Cells}
+    → Loop g H left todo cur k c → length H ≤ k → Kept g H c
+loop-full {g} {c = c} i h =
+    let n = i .count in
+    subst (λ x. Kept g x c) (grows-full (segment-grows (i .going .segment)) (omega arith)) (i .kept)
+
+-- nothing is left to try
+pub loop-end : {g : Blocks} {H : Forest} {left k : ℕ} {c : Cells} → Loop g H left [] 0 k c → k ≡ length H
+loop-end {g} {H} i =
     let e = stack-none refl (i .stack) in
-    subst (λ x. Kept g x c) (going-end (subst (λ x. Going g (i .soFar) x [] H) e (i .going))) (i .kept)
+    i .count ∙ ap length (going-end (subst (λ x. Going g (i .soFar) x [] H) e (i .going)))
 
 -- ---- vertex u is at hand
 

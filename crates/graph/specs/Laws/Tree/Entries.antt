@@ -1,11 +1,12 @@
 -- The entries of a forest: who is entered, forests that grow, forests that are built goal by goal, and induction from
 -- the roots down.
-use Prim.Native.Nat.{ℕ}
+use Prim.Native.Nat.{ℕ, _≤_}
 use mathlib.Core.Path.{_≡_, refl, sym, _∙_, ap}
 use mathlib.Core.Logic.{_⊎_, inl, inr}
 use mathlib.Core.Bool.{true, false}
 use mathlib.Core.List.{[], _∷_, List·Memᴰ, List·Memᴰ·head, List·Memᴰ·tail}
 use native.Mathlib.Omega.{arith}
+use lib.ListN.{length}
 use lib.Dec.{eqb}
 use borrow.Author.Tests.{eqb-true, eq-eqb}
 use Rattle.graph.specs.Search.{Goal, root, via, aim, Forest, entered}
@@ -88,6 +89,15 @@ pub data Grows (F : Forest) : Forest → Type 0 where
 pub grows-trans : {F G H : Forest} → Grows F G → Grows G H → Grows F H
 grows-trans p same = p
 grows-trans p (more q) = more (grows-trans p q)
+
+grows-length : {F H : Forest} → Grows F H → length F ≤ length H
+grows-length same = omega arith
+grows-length (more e) = let l = grows-length e in omega arith
+
+-- no longer, so not grown
+pub grows-full : {F H : Forest} → Grows F H → length H ≤ length F → F ≡ H
+grows-full same h = refl
+grows-full (more e) h = absurd (let l = grows-length e in omega arith)
 
 pub entered-grows : {F H : Forest} {v : ℕ} → Grows F H → Entered v F → Entered v H
 entered-grows same m = m
