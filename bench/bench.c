@@ -176,8 +176,8 @@ static size_t same(enum op op, size_t a, size_t b)
     return left;
 }
 
-/* Build, from the start that is asked or from the last terminal. As many wires as the loop figure says have no mark in
-   E, and no wire has two. */
+/* Build, from the start that is asked or from the last terminal. No wire has two marks in E, so m less their number
+   have none: as many as the loop figure says. */
 static void compare_build(enum op op, size_t loops, const struct room *before)
 {
     size_t m = celduga_wires(asked->bytes), places = celduga_terminals(asked->bytes) + 2 * m, unmarked;

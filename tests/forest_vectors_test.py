@@ -44,25 +44,20 @@ def accepted():
 
 def refused():
     """Calls that are refused, and two that are not, by the start and the lengths of the work slice and of the buffer,
-    which holds marks. Where Check refuses, the loop figure too."""
+    which holds marks; and the loop figure of each record."""
     sample, single, empty = record(SAMPLE), record([[]]), record([])
     spare = flipped(sample, -1)
     one_sided = record([[2, 3], [1], [2]])
-    marks = bytes(range(0xA1, 0xB1))
-    # 1 to 6, and 8
-    for name, data, work, length in (
-        ("none", b"", 0, 0),
-        ("wide", layout(4097, 0, "", []), 64, 16),
-        ("short", sample[:-1], 48, 15),
-        ("few_ones", flipped(sample, 43), 48, 15),
-        ("spare", spare, 48, 15),
-        ("own", record(SAMPLE[:5] + [[6]]), 48, 15),
-        ("one_sided", one_sided, 24, 8),
-        ("more", record([[2, 2, 2], [1]]), 16, 6),
-    ):
-        yield line(name, "marks", data, 1, work, marks[:length])
-        yield figure(name, data)
     for name, data, start, work, length in (
+        # 1 to 6, and 8
+        ("none", b"", 1, 0, 0),
+        ("wide", layout(4097, 0, "", []), 1, 64, 16),
+        ("short", sample[:-1], 1, 48, 15),
+        ("few_ones", flipped(sample, 43), 1, 48, 15),
+        ("spare", spare, 1, 48, 15),
+        ("own", record(SAMPLE[:5] + [[6]]), 1, 48, 15),
+        ("one_sided", one_sided, 1, 24, 8),
+        ("more", record([[2, 2, 2], [1]]), 1, 16, 6),
         # 9
         ("sample", sample, 1, 47, 15),
         ("sample", sample, 1, 0, 15),
@@ -98,7 +93,8 @@ def refused():
         # accepted
         ("sample", sample, 6, 48, 15),
     ):
-        yield line(name, "marks", data, start, work, marks[:length])
+        yield line(name, "marks", data, start, work, bytes(range(0xA1, 0xA1 + length)))
+        yield figure(name, data)
 
 
 # The largest sizes

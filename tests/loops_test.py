@@ -1,5 +1,5 @@
-"""Compares the loop figure of plain.py, for which it counts looms, with what its forests tell: the wires without a mark
-in E, and the roots. Nothing that is built is needed.
+"""Compares the loop figure of plain.py, which is by the number of looms, with what its forests tell: the wires without
+a mark in E, and the roots. Nothing that is built is needed.
 
 The records are accepted ones of every shape, searched from several starts.
 """

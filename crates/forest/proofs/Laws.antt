@@ -1,4 +1,4 @@
--- Laws about what the code computes: the search over the work slice, the lowpoints, the sections.
+-- Laws about what the code computes: the search over the work slice, the roots, the lowpoints, the sections.
 pub mod Graphs
 pub mod Stores
 pub mod Entering

@@ -1,4 +1,4 @@
--- Laws about the index.
+-- Laws about the index, and about the loop figure.
 pub mod Sections
 pub mod Starts
 pub mod Marking

@@ -8,14 +8,14 @@ ghost use Rattle.record.specs.Operations.{Accepted};
 ghost use Rattle.record.specs.Steps.{Laid, Roomy, ArraysOf};
 ghost use Rattle.forest.specs.Operations.{loops, loopFigure};
 ghost use Rattle.forest.specs.Steps.{stride as strideOf};
-use super::index::stride;
 use super::roots::loops_by;
 use super::search::search;
+use super::search::stride;
 use record::Counted;
 use record::Verdict;
 use record::arrays::check_arrays;
 
-// The figure of an accepted record, by its two arrays.
+// The figure of an accepted record, by its two arrays. The record itself stands here for the contract only.
 fn figure_from(
     bytes: &[u8],
     n: usize,

@@ -6,7 +6,6 @@ ghost use lib.ListN.{length};
 ghost use Rattle.graph.specs.Graph.{Blocks, WellFormed};
 ghost use Rattle.adjacency.specs.Arrays.{cut, Arrays, Divided};
 ghost use Rattle.forest.specs.Index.{indexOf, indexLength};
-ghost use Rattle.forest.specs.Steps.{stride as strideOf};
 ghost use Rattle.forest.specs.Lows.{Lifts};
 ghost use Rattle.forest.specs.Fronts.{Ready, Begins, Reaches, Holds, upToE, upToP, upToB};
 use super::marks::mark_bridges;
@@ -118,14 +117,6 @@ fn write_sections(
     write_rest(starts, nbrs, n, m, s, work, index, k);
 }
 
-// How far one part of the work slice stands behind the other.
-pub fn stride(n: usize) -> usize
-    requires { ⌜ n ≤ 4096 ⌝ }
-    ensures { λ r. ⌜ r ≡ strideOf n ⌝ }
-{
-    n + n / 16
-}
-
 // Searches the graph from the vertex `first` on and writes its index. What the work slice and the buffer hold before
 // does not matter.
 pub fn write_index(
@@ -145,7 +136,7 @@ pub fn write_index(
         ⌝ }
     ensures { λ g _. ⌜ now (index .exit) ≡ indexOf g first ⌝ }
 {
-    let s = stride(n);
+    let s = super::search::stride(n);
     super::search::search(starts, nbrs, n, s, first, work);
     super::lows::lowpoints(starts, nbrs, n, s, work);
     write_sections(starts, nbrs, n, m, s, work, index);

@@ -8,7 +8,7 @@ ghost use lib.ListN.{length};
 ghost use Rattle.graph.specs.Graph.{Blocks};
 ghost use Rattle.graph.specs.Search.{all, search as searchOf, startsFrom};
 ghost use Rattle.adjacency.specs.Arrays.{cut, Arrays};
-ghost use Rattle.forest.specs.Steps.{Room, Known, Underway, Searched};
+ghost use Rattle.forest.specs.Steps.{stride as strideOf, Room, Known, Underway, Searched};
 ghost use Rattle.forest.specs.Steps.{Begun, Entering, PassedTo, StartTried, NextTried, StepTaken};
 use adjacency::cells::get;
 use adjacency::cells::put;
@@ -24,6 +24,14 @@ pub struct At {
     pub i: usize,
     pub cur: usize,
     pub k: usize,
+}
+
+// How far one part of the work slice stands behind the other.
+pub fn stride(n: usize) -> usize
+    requires { ⌜ n ≤ 4096 ⌝ }
+    ensures { λ r. ⌜ r ≡ strideOf n ⌝ }
+{
+    n + n / 16
 }
 
 // Vertex v is entered as number k, below `up` (0, or 1 + its parent), by the place of this bit.

@@ -358,7 +358,7 @@ fn feeds_starts() {
     feeds(6);
 }
 
-// Build with a buffer of marks, which a refused call leaves.
+// Build with a buffer of marks, which a refused call leaves; and the loop figure, for which Check's refusals count alone.
 fn on_marks(name: &[u8], bytes: &[u8], start: usize, work: usize, length: usize)
     requires { ⌜ (work ≤ 64) × (length ≤ 16) ⌝ }
 {
@@ -372,6 +372,7 @@ fn on_marks(name: &[u8], bytes: &[u8], start: usize, work: usize, length: usize)
         &mut cells[..work],
         &mut buffer[..length],
     );
+    loops(name, bytes);
 }
 
 fn sample(start: usize, work: usize, length: usize)
@@ -412,51 +413,37 @@ fn one_sided(start: usize, work: usize, length: usize)
     );
 }
 
-// Build and the loop figure of a record that both refuse.
-fn neither(name: &[u8], bytes: &[u8], work: usize, length: usize)
-    requires { ⌜ (work ≤ 64) × (length ≤ 16) ⌝ }
-{
-    on_marks(name, bytes, 1, work, length);
-    loops(name, bytes);
-}
-
 // 1 to 6, and 8.
 fn unaccepted() {
-    neither(b"none", b"", 0, 0);
-    neither(b"wide", b"\x80\x08\x00\x00", 64, 16);
-    neither(
+    on_marks(b"none", b"", 1, 0, 0);
+    on_marks(b"wide", b"\x80\x08\x00\x00", 1, 64, 16);
+    on_marks(
         b"short",
         b"\x00\x30\x00\x59\x22\xA0\x02\x00\x10\x00\x00\x20\x01\x00\x30\x00\x00\x20\x05\x00",
+        1,
         48,
         15,
     );
-    neither(
+    on_marks(
         b"few_ones",
         b"\x00\x30\x00\x59\x22\x80\x02\x00\x10\x00\x00\x20\x01\x00\x30\x00\x00\x20\x05\x00\x40",
+        1,
         48,
         15,
     );
-    neither(
-        b"spare",
-        b"\x00\x30\x00\x59\x22\xA0\x02\x00\x10\x00\x00\x20\x01\x00\x30\x00\x00\x20\x05\x00\x41",
-        48,
-        15,
-    );
-    neither(
+    spare(1, 48, 15);
+    on_marks(
         b"own",
         b"\x00\x30\x00\x59\x22\xA0\x02\x00\x10\x00\x00\x20\x01\x00\x30\x00\x00\x20\x05\x00\x50",
+        1,
         48,
         15,
     );
-    neither(
-        b"one_sided",
-        b"\x00\x18\x00\x29\x40\x02\x00\x40\x00\x00\x20",
-        24,
-        8,
-    );
-    neither(
+    one_sided(1, 24, 8);
+    on_marks(
         b"more",
         b"\x00\x10\x00\x28\x80\x04\x00\x40\x04\x00\x00",
+        1,
         16,
         6,
     );

@@ -40,9 +40,9 @@ use Rattle.graph.specs.Laws.Loop.Arrays.{Cells, Kept, Enters}
 use Rattle.graph.specs.Laws.Loop.Invariant.{Loop, loop-begin, loop-pass-start, loop-enter-start, Visited}
 use Rattle.graph.specs.Laws.Loop.Invariant.{loop-enter-at, loop-leave, loop-full, loop-end}
 use Rattle.graph.specs.Laws.Heads.Walks.{HeadSteps, walk-head, rise-head, AncestorSteps, walk-ancestor}
-use Rattle.graph.specs.Laws.Counts.Edges.{two-places, neither-twin}
+use Rattle.graph.specs.Laws.Counts.Edges.{two-places, neither-twin, all-edges}
 use Rattle.graph.specs.Laws.Counts.Roots.{roots-parentless, roots-fewer}
-use Rattle.graph.specs.Laws.Counts.Looms.{lowest-told, roots-looms}
+use Rattle.graph.specs.Laws.Counts.Looms.{lowest-joined, lowest-least, lowest-told, roots-looms}
 use Rattle.graph.specs.Laws.Counts.Loops.{roots-and-edges}
 
 -- `forest g s` takes s and then the vertices in order: they cover
@@ -308,12 +308,22 @@ pub roots-counted : {g : Blocks} → InRange g → {starts : List ℕ} → Cover
     → sum (length g) (λ v. when (eqb (parent (search g all starts) v) 0) 1) ≡ roots (search g all starts)
 roots-counted r cov = roots-parentless (spans r cov)
 
--- two vertices have the same lowest vertex exactly when they are joined
+-- the lowest vertex of a loom is joined to each of it, and no lower one is; two vertices have the same exactly when
+-- they are joined
+pub lowest-in-loom : {g : Blocks} → WellFormed g → (v : ℕ) → v < length g → Chain g all (lowest g v) v
+lowest-in-loom = lowest-joined
+
+pub none-lower : {g : Blocks} → WellFormed g → (u v : ℕ) → u < length g → Chain g all u v → lowest g v ≤ u
+none-lower = lowest-least
+
 pub looms-told : {g : Blocks} → WellFormed g → (u v : ℕ) → u < length g → v < length g
     → (lowest g u ≡ lowest g v) ↔ Chain g all u v
 looms-told = lowest-told
 
--- where a wire has a mark at neither end, two places say so
+-- there are m wires, and where one has a mark at neither end, two places say so
+pub edges-counted : {g : Blocks} → WellFormed g → (m : ℕ) → length (flatten g) ≡ 2 * m → countEdges g all ≡ m
+edges-counted = all-edges
+
 pub counted-twice : {g : Blocks} → WellFormed g → (mark : PlaceTest)
     → countPlaces g (atNeither g mark) ≡ 2 * countEdges g (atNeither g mark)
 counted-twice {g} wf mark = two-places wf (atNeither g mark) (neither-twin wf mark)

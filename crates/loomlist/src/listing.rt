@@ -91,7 +91,7 @@ fn lines(
 ) -> usize
     requires { ⌜
         (Sized n (now visits) (now parents) (now counts) (now heads))
-        × (length (now out) ≡ 122944)
+        × (length (now out) ≡ 122943)
         × (from ≤ 36)
         ⌝ }
     ensures { λ r. ⌜ r ≤ 122916 ⌝ }
@@ -146,7 +146,7 @@ fn all_lines(
     figure: usize,
     out: &mut [u8],
 )
-    requires { ⌜ (Sized n (now visits) (now parents) (now counts) (now heads)) × (length (now out) ≡ 122944) ⌝ }
+    requires { ⌜ (Sized n (now visits) (now parents) (now counts) (now heads)) × (length (now out) ≡ 122943) ⌝ }
 {
     let first = put(out, 0, b"terminal visit parent children head\n");
     let last = lines(n, visits, parents, counts, heads, out, first);
@@ -165,6 +165,6 @@ pub fn accepted(
 )
     requires { ⌜ Sized n (now visits) (now parents) (now counts) (now heads) ⌝ }
 {
-    let mut room = [0u8; 122944];
+    let mut room = [0u8; 122943];
     all_lines(n, visits, parents, counts, heads, figure, &mut room);
 }

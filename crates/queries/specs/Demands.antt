@@ -19,15 +19,17 @@ use Rattle.graph.specs.Laws.Tree.Ancestors.{ancestor as ancestorIn}
 use Rattle.graph.specs.Forest.{number, vertexAt, parent as parentIn, roots, head as headIn, Ancestor}
 use Rattle.graph.specs.Forest.{children as childrenIn}
 use Rattle.graph.specs.Counts.{countPlaces, countEdges, atNeither, lowest, looms}
-use Rattle.graph.specs.Theorems.{wire-places, ancestor-told, looms-told, as-many-looms, counted-twice}
+use Rattle.graph.specs.Theorems.{wire-places, ancestor-told, looms-told, as-many-looms, edges-counted}
+use Rattle.graph.specs.Theorems.{counted-twice}
 use Rattle.record.specs.Record.{terminals, wires, unary, blocks}
 use Rattle.record.specs.Rules.{firstBroken}
 use Rattle.record.specs.Answers.{refused, answered}
 use Rattle.forest.specs.Index.{indexBy, indexOf, markBytes, indexLength}
 use Rattle.record.specs.Operations.{Accepted}
-use Rattle.record.specs.Laws.Sounded.{accepted-sound}
+use Rattle.record.specs.Laws.Sound.{accepted-well-formed}
+use Rattle.record.specs.Laws.Sounded.{accepted-sound, sound-all}
 use Rattle.forest.specs.Operations.{build, built, firstStart, loops, loopFigure, rootsIn}
-use Rattle.forest.specs.Laws.Figures.{loops-whole, loops-few, figure-told}
+use Rattle.forest.specs.Laws.Figures.{roots-from, loops-whole, loops-few, figure-told}
 use Rattle.forest.specs.Laws.Taken.{first-index}
 use Rattle.queries.specs.View.{sectionBit, numberBit, placeOf, Alike}
 use Rattle.queries.specs.Answers.{unlessZero}
@@ -111,9 +113,13 @@ module _ {bytes : List ℕ} (a : Accepted bytes) where
   pub loops-counted : terminals bytes + loops bytes ≡ wires bytes + roots (forest (blocks bytes) 0)
   loops-counted = loops-whole a
 
-  -- the record of no terminals has none, and two terminals with 16,384 wires between them have 16,383
+  -- and at most 16,383
   pub loops-most : loops bytes ≤ 16383
   loops-most = omega (arith, loops-few a, accepted-sound a .m-fits)
+
+  -- the count of wires by which the figure is told below finds all m of them
+  pub wires-counted : countEdges (blocks bytes) all ≡ wires bytes
+  wires-counted = edges-counted (accepted-well-formed a) (wires bytes) (sound-all (accepted-sound a))
 
 -- ---- for any index that Build writes
 
@@ -254,6 +260,10 @@ module _ {bytes index : List ℕ} (w : Written bytes index) where
 
   pub looms-are-joined : (u v : ℕ) → u < length g → v < length g → (lowest g u ≡ lowest g v) ↔ Chain g all u v
   looms-are-joined = looms-told (Answered.formed w)
+
+  -- so the figure is m − n plus the roots of this forest too
+  pub loops-from-start : terminals bytes + loops bytes ≡ wires bytes + roots F
+  loops-from-start = omega (arith, loops-whole (w .accepted), roots-from (w .accepted) (w .start) (w .taken))
 
   -- the figure counts the wires that have no mark in E at either end, by the wire, and by its two places
   pub loops-unmarked : loops bytes ≡ countEdges g (atNeither g E)

@@ -1,4 +1,4 @@
-// Records (document 01, "Record"): checking, and the questions that need the record alone. No function of this file has
+// Records (document 01, "Record"): checking, and the questions that need no search. No function of this file has
 // a precondition; most functions of the public modules, which are for the crates above, have one.
 ghost use mathlib.Core.Path.{_≡_};
 ghost use Rattle.record.specs.Rules.{checkRules};

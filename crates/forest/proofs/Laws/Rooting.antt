@@ -1,4 +1,7 @@
 -- The roots in a list of parents, while they are counted.
+--   Rooting                        the first parents are looked at
+--   rooting-start, rooting-end     before the first, and after the last
+--   rooting-root, rooting-child    one more
 use mathlib.Core.Path.{_≡_, refl}
 use mathlib.Core.List.{List}
 use Prim.Native.Nat.{ℕ, _+_, _≤_, _<_}

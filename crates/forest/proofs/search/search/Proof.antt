@@ -41,7 +41,7 @@ try-start-requires c κs =
     let here = search-begun a fit h (b .begin .ensures) in
     ((a, fit, omega (arith, h)), record { roots = roots; todo = todo; searching = here })
 
--- a step is to be done, so `left` is not used up
+-- not every vertex is entered, so a step is to be done
 busy : (c : tie.In-loop Inv-loop μ-loop)
     → (ltb 0 (c .before .loop .cur) || ltb (c .before .loop .i) (begin (c .before .before) .args .n)) ≡ true
 busy c =
@@ -49,6 +49,7 @@ busy c =
     let (a, fit, room, h) = begin (c .before .before) .pre in
     still-busy a fit h (l .i) (l .cur) (l .inv .0) (c .loop-test .taken)
 
+-- and `left` is not used up
 left-more : (c : tie.In-loop Inv-loop μ-loop) → 0 < c .before .loop .left
 left-more c =
     let l = c .before .loop in

@@ -1,19 +1,22 @@
 -- Wires, counted at their lower end.
---   two-places                     a mark at both ends of a wire or at neither stands twice for each wire
---   neither-twin                   a mark is at neither end, as seen from the one end and from the other
---   places-neither, edges-neither  marks that agree at all places are as often at neither end
+--   two-places     a mark at both ends of a wire or at neither stands twice for each wire
+--   all-edges      there are half as many wires as places
+--   neither-twin   a mark is at neither end, as seen from the one end and from the other
+--   edges-neither  marks that agree at all places are as often at neither end
 use Prim.Native.Nat.{ℕ, _+_, _*_, _≤_, _<_}
-use mathlib.Core.Path.{_≡_, ap}
+use mathlib.Core.Path.{_≡_, refl, ap}
 use mathlib.Core.Bool.{not, or-comm}
+use mathlib.Core.List.{flatten}
 use native.Mathlib.Omega.{arith}
 use native.Mathlib.Decide.{decLt}
 use lib.Dec.{ltb}
+use lib.ListN.{length}
 use borrow.Author.Tests.{lt-ltb, le-ltb}
 use Rattle.graph.specs.Graph.{Blocks, target, Place, twin, WellFormed}
-use Rattle.graph.specs.Search.{PlaceTest}
+use Rattle.graph.specs.Search.{PlaceTest, all}
 use Rattle.graph.specs.Counts.{when, countPlaces, countEdges, atNeither}
 use Rattle.graph.specs.Laws.Places.Pairing.{place-at, twin-place, twin-twin}
-use Rattle.graph.specs.Laws.Counts.Places.{over-same, over-add, over-twin}
+use Rattle.graph.specs.Laws.Counts.Places.{over-same, over-add, over-twin, over-places}
 
 module _ {g : Blocks} (wf : WellFormed g) where
   pub two-places : (q : PlaceTest) → ((u j v : ℕ) → Place g u j v → q v (twin g u j) ≡ q u j)
@@ -45,6 +48,10 @@ module _ {g : Blocks} (wf : WellFormed g) where
           let e : target g u j ≡ u = omega arith in
           absurd (wf .no-loop u j (record { fits = p .fits; leads = e }))
 
+  pub all-edges : (m : ℕ) → length (flatten g) ≡ 2 * m → countEdges g all ≡ m
+  unfolding countPlaces
+  all-edges m e = omega (arith, two-places all (λ u j v p. refl), over-places g)
+
   pub neither-twin : (mark : PlaceTest) (u j v : ℕ) → Place g u j v
       → atNeither g mark v (twin g u j) ≡ atNeither g mark u j
   unfolding atNeither
@@ -54,14 +61,10 @@ module _ {g : Blocks} (wf : WellFormed g) where
   -- ---- marks that agree at all places
 
   module _ {mark mark′ : PlaceTest} (same : (u j v : ℕ) → Place g u j v → mark u j ≡ mark′ u j) where
-    pub neither-same : (u j v : ℕ) → Place g u j v → atNeither g mark u j ≡ atNeither g mark′ u j
+    neither-same : (u j v : ℕ) → Place g u j v → atNeither g mark u j ≡ atNeither g mark′ u j
     unfolding atNeither
     neither-same u j v p =
         rw (p .leads, same u j v p, same v (twin g u j) u (twin-place wf p))
-
-    pub places-neither : countPlaces g (atNeither g mark) ≡ countPlaces g (atNeither g mark′)
-    unfolding countPlaces
-    places-neither = over-same g (λ u j l k. ap (λ b. when b 1) (neither-same u j (target g u j) (place-at k)))
 
     pub edges-neither : countEdges g (atNeither g mark) ≡ countEdges g (atNeither g mark′)
     unfolding countEdges

@@ -1,8 +1,9 @@
 -- Sums over the entries of a forest: over the vertices entered, and over the tree places.
+--   tally                         the sum over the tree places; `aims`, over the vertices, is in Laws/Tree/Numbers
 --   entries-parted, aims-parted   an entry is a root or has a tree place
 --   sum-aims                      the sum over the vertices is a sum over the entries
 --   over-marked                   and so is the sum over the places that have a child mark
-use Prim.Native.Nat.{ℕ, zero, suc, _+_, _<_}
+use Prim.Native.Nat.{ℕ, zero, suc, _+_}
 use mathlib.Core.Path.{_≡_, refl}
 use mathlib.Core.Bool.{true, _||_}
 use mathlib.Core.List.{[], _∷_, List·Memᴰ, List·Memᴰ·head, List·Memᴰ·tail}
@@ -11,21 +12,16 @@ use lib.Dec.{eqb}
 use lib.ListN.{length}
 use borrow.Author.Tests.{eqb-true}
 use Rattle.graph.specs.Graph.{Blocks, Place}
-use Rattle.graph.specs.Search.{root, via, aim, Forest, entered}
+use Rattle.graph.specs.Search.{root, via, Forest, entered}
 use Rattle.graph.specs.Forest.{roots, childMark}
 use Rattle.graph.specs.Counts.{when, sum, over}
 use Rattle.graph.specs.Laws.Places.Basics.{Told, pass, fail, told, and-parts}
 use Rattle.graph.specs.Laws.Places.Pairing.{source}
-use Rattle.graph.specs.Laws.Tree.Entries.{Entered, now, old, entry-entered, Built}
-use Rattle.graph.specs.Laws.Tree.Entries.{built-nil, built-root, built-via, fresh, before}
-use Rattle.graph.specs.Laws.Tree.Numbers.{left, left-none, left-enter}
+use Rattle.graph.specs.Laws.Tree.Entries.{entry-entered, Built, built-nil, built-root, built-via}
+use Rattle.graph.specs.Laws.Tree.Numbers.{left, left-none, aims, left-entered}
 use Rattle.graph.specs.Laws.Joined.Spanning.{Spanning}
 use Rattle.graph.specs.Laws.Edges.Marks.{child-mark-entry}
 use Rattle.graph.specs.Laws.Counts.Places.{at, at-yes, at-no, over-same, over-zero, over-add, over-one}
-
-unfoldable pub aims : (ℕ → ℕ) → Forest → ℕ  -- the sum of w over the vertices entered
-aims w [] = 0
-aims w (a ∷ F) = w (aim a) + aims w F
 
 unfoldable pub tally : (ℕ → ℕ → ℕ) → Forest → ℕ  -- the sum of w over the tree places
 tally w [] = 0
@@ -60,20 +56,12 @@ unfolding left entered sum
 left-all w zero = refl
 left-all w (suc n) = let e = left-all w n in omega arith
 
-left-entered : {Ok : ℕ → ℕ → ℕ → Type 0} (w : ℕ → ℕ) {F : Forest} (n : ℕ) → Built Ok F
-    → ((v : ℕ) → Entered v F → v < n) → aims w F + left w F n ≡ sum n w
-unfolding aims
-left-entered w {F = []} n b h = let e = left-all w n in omega arith
-left-entered w {F = a ∷ F} n b h =
-    let e = left-enter w a F n (h (aim a) (now refl)) (fresh b) in
-    let c = left-entered w n (before b) (λ v i. h v (old i)) in
-    omega arith
-
 -- the sum over the vertices is the sum over the entries
 pub sum-aims : {g : Blocks} {F : Forest} → Spanning g F → (w : ℕ → ℕ) → sum (length g) w ≡ aims w F
 sum-aims {g} {F} span w =
     let a = left-entered w (length g) (span .built) (span .within) in
     let b = left-none w F (length g) (span .whole) in
+    let c = left-all w (length g) in
     omega arith
 
 -- ---- the tree places: each has its mark once

@@ -1,6 +1,7 @@
 -- The looms: each is named by its lowest vertex, so there are as many as roots.
---   lowest-told, lowest-names  the lowest vertex is the same exactly where two are joined, and is its own
---   roots-looms                as many roots as looms
+--   lowest-joined, lowest-least  the lowest vertex is joined to v, and no lower one is
+--   lowest-told                  two have the same exactly where they are joined
+--   roots-looms                  as many roots as looms
 use Prim.Native.Nat.{ℕ, zero, suc, _≤_, _<_}
 use mathlib.Core.Path.{_≡_, sym}
 use mathlib.Core.Logic.{_↔_}
@@ -58,7 +59,7 @@ module _ {g : Blocks} (wf : WellFormed g) where
   unfolding lowest
   lowest-most v = first-most (λ u. joined g all u v) v
 
-  lowest-joined : (v : ℕ) → v < length g → Chain g all (lowest g v) v
+  pub lowest-joined : (v : ℕ) → v < length g → Chain g all (lowest g v) v
   unfolding lowest
   lowest-joined v h = go (decLt (lowest g v) v)
     where
@@ -67,7 +68,7 @@ module _ {g : Blocks} (wf : WellFormed g) where
           joined-chain (wf .in-range) all (lowest g v) v (omega arith) .0 (first-passes (λ u. joined g all u v) v l)
       go (no n) = let e : lowest g v ≡ v = omega (arith, lowest-most v) in rw e here
 
-  lowest-least : (u v : ℕ) → u < length g → Chain g all u v → lowest g v ≤ u
+  pub lowest-least : (u v : ℕ) → u < length g → Chain g all u v → lowest g v ≤ u
   unfolding lowest
   lowest-least u v h c = first-least (λ x. joined g all x v) v u (joined-chain (wf .in-range) all u v h .1 c)
 
@@ -82,7 +83,7 @@ module _ {g : Blocks} (wf : WellFormed g) where
       below u v h c =
           lowest-least (lowest g u) v (omega (arith, lowest-most u)) (chain-trans (lowest-joined u h) c)
 
-  pub lowest-names : Names (length g) (lowest g)
+  lowest-names : Names (length g) (lowest g)
   lowest-names = record {
     inside = λ v l. omega (arith, lowest-most v);
     settled = λ v l. lowest-told (lowest g v) v (omega (arith, lowest-most v)) l .1 (lowest-joined v l);

@@ -21,7 +21,7 @@ use Rattle.graph.specs.Laws.Counts.Edges.{two-places, neither-twin}
 
 module _ {g : Blocks} (wf : WellFormed g) {F : Forest} (span : Spanning g F) where
   -- a child mark is not at both ends of a wire
-  pub one-end : {u j v : ℕ} → Place g u j v → childMark F u j ≡ true → childMark F v (twin g u j) ≡ true → ⊥
+  one-end : {u j v : ℕ} → Place g u j v → childMark F u j ≡ true → childMark F v (twin g u j) ≡ true → ⊥
   one-end p e f =
       let a = parent-first (span .built) (child-mark-entry (span .built) p .0 e) in
       let b = parent-first (span .built) (child-mark-entry (span .built) (twin-place wf p) .0 f) in

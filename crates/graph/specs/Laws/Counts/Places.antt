@@ -1,4 +1,5 @@
 -- Sums over the places of a graph.
+--   at, at-yes, at-no                          one place alone
 --   over-same, over-zero, over-add, over-one   as over the numbers below n
 --   over-pair, over-twin                       the sum over the places is the sum over their pairs
 --   over-cons, over-places                     one more vertex in front; as many terms as places
@@ -121,7 +122,7 @@ over-twin wf = over-pair (both-ends wf)
 -- ---- how many places there are
 
 -- of a graph with one more vertex in front
-pub over-cons : (l : List ℕ) (g : Blocks) (f : ℕ → ℕ → ℕ)
+over-cons : (l : List ℕ) (g : Blocks) (f : ℕ → ℕ → ℕ)
     → over (l ∷ g) f ≡ sum (length l) (f 0) + over g (λ u j. f (suc u) j)
 unfolding over
 over-cons l g f = sum-first (length g) (λ u. sum (length (block (l ∷ g) u)) (f u))

@@ -1,4 +1,8 @@
 -- Sums over the numbers below n.
+--   when-yes, when-no              a term under a test
+--   sum-same, sum-zero, sum-ones   equal terms, terms of 0, terms of 1
+--   sum-add, sum-one               a sum of two, one term only
+--   sum-first, sum-swap            the first term apart, two sums in either order
 use Prim.Native.Nat.{ℕ, zero, suc, _+_, _<_}
 use mathlib.Core.Path.{_≡_, refl, sym, ap}
 use mathlib.Core.Bool.{Bool, true, false}

@@ -161,20 +161,36 @@ module _ (w : ℕ → ℕ) where
           let z = ih (omega arith) in
           omega arith
 
+-- ---- the weights of those that are entered
+
+unfoldable pub aims : (ℕ → ℕ) → Forest → ℕ
+aims w [] = 0
+aims w (a ∷ F) = w (aim a) + aims w F
+
+pub left-entered : {Ok : ℕ → ℕ → ℕ → Type 0} (w : ℕ → ℕ) {F : Forest} (n : ℕ) → Built Ok F
+    → ((v : ℕ) → Entered v F → v < n) → aims w F + left w F n ≡ left w [] n
+unfolding aims
+left-entered w {F = []} n b h = omega arith
+left-entered w {F = a ∷ F} n b h =
+    let e = left-enter w a F n (h (aim a) (now refl)) (fresh b) in
+    let c = left-entered w n (before b) (λ v i. h v (old i)) in
+    omega arith
+
 -- ---- the count: with weight 1
 
-left-all : (n : ℕ) → left (λ x. 1) [] n ≡ n
+left-ones : (n : ℕ) → left (λ x. 1) [] n ≡ n
 unfolding left entered
-left-all zero = refl
-left-all (suc n) = let e = left-all n in omega arith
+left-ones zero = refl
+left-ones (suc n) = let e = left-ones n in omega arith
+
+aims-ones : (F : Forest) → aims (λ x. 1) F ≡ length F
+unfolding aims
+aims-ones [] = refl
+aims-ones (a ∷ F) = let e = aims-ones F in omega arith
 
 module _ {Ok : ℕ → ℕ → ℕ → Type 0} where
   count : {F : Forest} (n : ℕ) → Built Ok F → ((v : ℕ) → Entered v F → v < n) → length F + left (λ x. 1) F n ≡ n
-  count {F = []} n b h = let e = left-all n in omega arith
-  count {F = a ∷ F} n b h =
-      let e = left-enter (λ x. 1) a F n (h (aim a) (now refl)) (fresh b) in
-      let c = count n (before b) (λ v i. h v (old i)) in
-      omega arith
+  count {F = F} n b h = omega (arith, left-entered (λ x. 1) n b h, left-ones n, aims-ones F)
 
   pub count-most : {F : Forest} (n : ℕ) → Built Ok F → ((v : ℕ) → Entered v F → v < n) → length F ≤ n
   count-most n b h = let c = count n b h in omega arith

@@ -8,7 +8,7 @@ use Rattle.loomlist.proofs.listing.lines.Tie as tie
 
 abbrev Inv-loop : tie.InvT-loop
 Inv-loop n visits parents counts heads out₀ from at₀ v₀ out at v =
-    (v ≤ n) × (at ≤ 36 + 30 * v) × (length out ≡ 122944)
+    (v ≤ n) × (at ≤ 36 + 30 * v) × (length out ≡ 122943)
 
 abbrev μ-loop : tie.MeasureT-loop
 μ-loop n visits parents counts heads out₀ from at₀ v₀ out at v = n - v
