@@ -29,6 +29,9 @@ slice-aggregate-build-3 c =
 build-requires : tie.Need-build-requires
 build-requires c κs = search needs
 
+loops-requires : tie.Need-loops-requires
+loops-requires c κs = search needs
+
 returns : tie.Need-returns
 returns c = search needs
 
@@ -42,4 +45,5 @@ on-marks-spec =
     array-borrow-prefix-buffer
     slice-aggregate-build-3
     build-requires
+    loops-requires
     returns)
