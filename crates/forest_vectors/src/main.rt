@@ -358,7 +358,7 @@ fn feeds_starts() {
     feeds(6);
 }
 
-// Build with a buffer of marks, which a refused call leaves; and the loop figure, for which Check's refusals count alone.
+// Build with a buffer of marks, which a refused call leaves; and the loop figure, which only Check can refuse.
 fn on_marks(name: &[u8], bytes: &[u8], start: usize, work: usize, length: usize)
     requires { ⌜ (work ≤ 64) × (length ≤ 16) ⌝ }
 {

@@ -17,7 +17,7 @@ use Rattle.record.specs.Steps.{ArraysOf}
 use Rattle.record.specs.Laws.Unpacked.{graph-of, starts-of, arrays-of}
 use Rattle.forest.specs.Operations.{loops, rootsIn}
 use Rattle.forest.specs.Steps.{stride, Room, Searched}
-use Rattle.forest.specs.Laws.Figures.{roots-in, loops-whole, no-loops}
+use Rattle.forest.specs.Laws.Figures.{roots-in, loops-whole, no-loops, loops-asked, loops-given}
 use Rattle.forest.proofs.Laws.Graphs.{as-many}
 use Rattle.forest.proofs.Laws.Owned.{part-size, part-cell}
 
@@ -44,11 +44,14 @@ module _ {bytes starts nbrs : List ℕ} {n m : ℕ} (a : Accepted bytes) (r : Ar
     fits : s + n ≤ length work
     fits = let q = t .room in omega arith
 
+    long : length parents ≡ n
+    long = part-size s (s + n) work refl fits
+
     shown : rootsIn parents ≡ roots (forest (blocks bytes) 0)
     shown =
         let g : Blocks = cut starts nbrs in
         let many : length g ≡ n = as-many starts nbrs (sym (starts-of r)) in
-        roots-in (t .spans) parents (part-size s (s + n) work refl fits ∙ sym many)
+        roots-in (t .spans) parents (long ∙ sym many)
         (λ v h. part-cell s (s + n) work refl fits v (omega arith) ∙ t .parents v (omega arith))
         ∙ ap (λ (k : ℕ). roots (search g all (startsFrom k 0))) (sym many)
         ∙ ap (λ (x : Blocks). roots (forest x 0)) (graph-of r)
@@ -62,14 +65,7 @@ module _ {bytes starts nbrs : List ℕ} {n m : ℕ} (a : Accepted bytes) (r : Ar
         omega arith
 
     pub parents-asked : (m ≤ 16384) × (length parents ≤ 4096) × (length parents ≤ m + rootsIn parents)
-    parents-asked =
-        let l = part-size s (s + n) work refl fits in
-        let f = r .sound .n-fits in
-        let w = whole in
-        (r .sound .m-fits, omega arith, omega arith)
+    parents-asked = loops-asked (r .sound) parents long whole
 
     pub figure-shown : m + rootsIn parents - length parents ≡ loops bytes
-    figure-shown =
-        let l = part-size s (s + n) work refl fits in
-        let w = whole in
-        omega arith
+    figure-shown = loops-given (r .sound) parents long whole

@@ -5,6 +5,7 @@
 --   loops-few      it is below the number of wires, or 0 where there are none; no-loops: in the empty record
 --   roots-in       a list of the parents shows the roots
 --   figure-told    the operation's answer
+--   loops-asked, loops-given   what `loops_by` asks for and gives, of parents that show the roots
 use mathlib.Core.Path.{_≡_, sym, ap, _∙_}
 use mathlib.Core.Bool.{false}
 use mathlib.Core.List.{List, flatten}
@@ -24,6 +25,7 @@ use Rattle.graph.specs.Theorems.{start-covers, as-many-looms, edges-outside, so
 use Rattle.record.specs.Record.{terminals, wires, blocks}
 use Rattle.record.specs.Answers.{answered}
 use Rattle.record.specs.Operations.{Accepted}
+use Rattle.record.specs.Steps.{Sound}
 use Rattle.record.specs.Laws.Sound.{accepted-well-formed}
 use Rattle.record.specs.Laws.Sounded.{accepted-sound, sound-vertices, sound-all}
 use Rattle.record.specs.Laws.Told.{untold}
@@ -103,3 +105,11 @@ module _ {bytes : List ℕ} (a : Accepted bytes) where
   pub figure-told : loopFigure bytes ≡ answered (loops bytes)
   unfolding loopFigure
   figure-told = sym (untold (loops bytes) (a .unbroken))
+
+module _ {bytes : List ℕ} {n m : ℕ} (s : Sound bytes n m) (parents : List ℕ) (long : length parents ≡ n)
+    (whole : n + loops bytes ≡ m + rootsIn parents) where
+  pub loops-asked : (m ≤ 16384) × (length parents ≤ 4096) × (length parents ≤ m + rootsIn parents)
+  loops-asked = (s .m-fits, omega (arith, s .n-fits), omega arith)
+
+  pub loops-given : m + rootsIn parents - length parents ≡ loops bytes
+  loops-given = omega arith
