@@ -2,20 +2,23 @@
 use mathlib.Core.Path.{_≡_, refl, sym, ap, ap₂, _∙_}
 use mathlib.Core.Bool.{Bool, true, false}
 use mathlib.Core.List.{List, [], _∷_, _++_, append-assoc}
-use Prim.Native.Nat.{ℕ, _+_, _-_, _*_, _/_, _%_, _^_, _≤_, _<_}
+use Prim.Native.Nat.{ℕ, zero, suc, _+_, _-_, _*_, _/_, _%_, _^_, _≤_, _<_}
 use native.Mathlib.Nat.{lt-of-lt-of-le, div-mul-le-self, mul-assoc, add-mul, add-comm}
-use native.Mathlib.Nat.{max-eq-right, mod-eq-of-lt, mod-lt}
-use native.Mathlib.Numerals.{add-one, add-two}
+use native.Mathlib.Nat.{max-eq-right, mod-eq-of-lt, mod-lt, add-zero, mul-mod-left}
+use native.Mathlib.Numerals.{add-one, add-two, towards-suc}
 use native.Mathlib.Omega.{arith}
+use lib.Arith.{digits-lt}
 use lib.Bits.{bitAnd, bitOr, or-step, or-zero-r, or-block, or-lt, or-shifted, and-mask}
-use lib.ListN.{length, take, drop, getD, set, length-drop}
+use lib.ListN.{length, take, drop, getD, set, replicate, length-drop}
 use lib.Pow.{shl-lt, shl-shr, shr-shr, split, high, low, pow-lt, pow-mono, pow-add, pow-pos}
 use lib.Seq.{sets, sets-eq, length-take-le}
-use Rattle.bits.specs.Bits.{toBits, bits, field, put}
+use Rattle.bits.specs.Bits.{toBits, bits, value, field, put}
 use Rattle.bits.specs.Laws.Digits.{toBits-agree, toBits-append, toBits-value}
 use Rattle.bits.specs.Laws.Bytes.{AreBytes, length-bits, bits-append, take-bits, drop-bits}
-use Rattle.bits.specs.Laws.Puts.{put-number, put-part, put-one, put-beside}
-use Rattle.bits.specs.Steps.{joined, two, three, byteOf, IsByte, replace}
+use Rattle.bits.specs.Laws.Fields.{field-lt, field-front, field-back}
+use Rattle.bits.specs.Laws.Packing.{take-replicate}
+use Rattle.bits.specs.Laws.Puts.{length-put, field-put, put-number, put-part, put-one, put-beside}
+use Rattle.bits.specs.Steps.{joined, two, three, byteOf, IsByte, fourOf, frontOf, Blank, replace}
 use Rattle.bits.specs.Laws.Joined.{field-joined, two-bytes, three-bytes}
 use Rattle.bits.proofs.Joined.{byte-field}
 
@@ -63,6 +66,12 @@ bits-two y = above 8 y (byteOf y 0 ∷ []) (bits-one y)
 
 bits-three : (y : ℕ) → bits (byteOf y 16 ∷ byteOf y 8 ∷ byteOf y 0 ∷ []) ≡ toBits 24 y
 bits-three y = above 16 y (byteOf y 8 ∷ byteOf y 0 ∷ []) (bits-two y)
+
+bits-eight : (y : ℕ)
+    → bits
+    (byteOf y 56 ∷ byteOf y 48 ∷ byteOf y 40 ∷ byteOf y 32 ∷ byteOf y 24 ∷ byteOf y 16 ∷ byteOf y 8 ∷ byteOf y 0 ∷ [])
+    ≡ toBits 64 y
+bits-eight y = above 56 y _ (above 48 y _ (above 40 y _ (above 32 y _ (above 24 y _ (bits-three y)))))
 
 -- ---- stores
 
@@ -185,3 +194,115 @@ pub beside-shifted : (a b : ℕ) → a < 4096 → b < 4096 → bitOr (a * 2 ^ 12
 beside-shifted a b ha hb =
     let e : a * 2 ^ 12 < 2 ^ 64 = omega arith in
     rw (mod-eq-of-lt e) (or-shifted a 12 b hb)
+
+-- what the eight bytes of a number leave
+pub write-word : (bytes : List ℕ) (at x : ℕ) {a b c d e f g h : ℕ} → at + 8 ≤ length bytes
+    → a ≡ byteOf x 56 → b ≡ byteOf x 48 → c ≡ byteOf x 40 → d ≡ byteOf x 32
+    → e ≡ byteOf x 24 → f ≡ byteOf x 16 → g ≡ byteOf x 8 → h ≡ byteOf x 0
+    → bits
+    (set (set (set (set (set (set (set (set bytes at a) (at + 1) b) (at + 2) c) (at + 3) d) (at + 4) e) (at + 5) f)
+    (at + 6) g) (at + 7) h)
+    ≡ put 64 x (bits bytes) (8 * at)
+unfolding put
+write-word bytes at x k ea eb ec ed ee ef eg eh =
+    rw (ea, eb, ec, ed, ee, ef, eg, eh)
+    (simp towards-suc
+    (stored bytes _ at k
+    ∙ ap (λ (t : List Bool). take (8 * at) (bits bytes) ++ (t ++ drop (8 * at + 64) (bits bytes))) (bits-eight x)))
+
+-- four numbers of 12 bits, joined by shifts
+pub four-shifted : (a b c d : ℕ) → a < 4096 → b < 4096 → c < 4096 → d < 4096
+    → (bitOr (bitOr (a * 2 ^ 12 % 2 ^ 64) b * 2 ^ 24 % 2 ^ 64) (bitOr (c * 2 ^ 12 % 2 ^ 64) d) ≡ fourOf a b c d)
+    × (fourOf a b c d < 2 ^ 48)
+four-shifted a b c d ha hb hc hd =
+    let p = beside-shifted a b ha hb in
+    let q = beside-shifted c d hc hd in
+    let e : (a * 2 ^ 12 + b) * 2 ^ 24 < 2 ^ 64 = omega arith in
+    (rw (p, q, mod-eq-of-lt e) (or-shifted (a * 2 ^ 12 + b) 24 (c * 2 ^ 12 + d) (omega arith)), omega arith)
+
+-- ---- a field put among zeros
+
+value-zeros : (k : ℕ) → value (replicate k false) ≡ 0
+unfolding value
+value-zeros zero = refl
+value-zeros (suc k) = omega (arith, value-zeros k)
+
+module _ {s : List Bool} {start : ℕ} (z : Blank s start) where
+  blank-field : (w : ℕ) → start + w ≤ length s → field w s start ≡ 0
+  unfolding field
+  blank-field w h =
+      ap (λ (t : List Bool). value (take w t)) (z .clear)
+      ∙ ap value (take-replicate w (length s - start) false (omega arith)) ∙ value-zeros w
+
+  -- a field that ends in zeros
+  blank-end : (g r k : ℕ) → g + r ≡ start → start + k ≤ length s → field (r + k) s g ≡ field r s g * 2 ^ k
+  blank-end g r k e h =
+      let n : ℕ = field (r + k) s g in
+      let top : n / 2 ^ k ≡ field r s g = sym (field-front s g r k (omega arith)) in
+      let none : n % 2 ^ k ≡ 0 = sym (field-back s g r k (omega arith)) ∙ ap (field k s) e ∙ blank-field k h in
+      sym (split n k) ∙ ap₂ (λ (x y : ℕ). x * 2 ^ k + y) top none ∙ add-zero _
+
+-- what stands before a bit in its byte
+pub byte-front : {bytes : List ℕ} {b : ℕ} (start : ℕ) → IsByte bytes (start / 8) b
+    → b / 2 ^ (8 - start % 8) ≡ frontOf (bits bytes) start
+byte-front {bytes} start byte =
+    let h = byte .inside in
+    let e : start % 8 + (8 - start % 8) ≡ 8 = omega arith in
+    let f = field-front (bits bytes) (8 * (start / 8)) (start % 8) (8 - start % 8)
+    (omega (arith, length-bits bytes)) in
+    sym (rw (e, byte-field byte) at f)
+
+-- nothing does before the first bit of one
+pub no-front : (s : List Bool) (start : ℕ) → start % 8 ≡ 0 → 0 ≡ frontOf s start
+unfolding field value
+no-front s start e = rw e
+
+-- after a field of w bits, a multiple of 8, it is the field's last bits
+pub next-front : (s : List Bool) (start w v : ℕ) → start + w ≤ length s → w % 8 ≡ 0 → 8 ≤ w → v < 2 ^ w
+    → v % 2 ^ (start % 8) ≡ frontOf (put w v s start) (start + w)
+next-front s start w v h e k hv =
+    let r : ℕ = start % 8 in
+    let t : List Bool = put w v s start in
+    let same : (start + w) % 8 ≡ r = omega arith in
+    let here : 8 * ((start + w) / 8) ≡ start + (w - r) = omega arith in
+    let split : w - r + r ≡ w = omega arith in
+    let end = field-back t start (w - r) r (rw (length-put w v s start h) (omega arith)) in
+    sym (rw (same, here) (end ∙ ap (λ (n : ℕ). field n t start % 2 ^ r) split
+    ∙ ap (λ (n : ℕ). n % 2 ^ r) (field-put w v s start h ∙ mod-eq-of-lt hv)))
+
+-- a number that ends in zeros, with a field put above them
+replace-zeros : (t w k v : ℕ) → replace (t * 2 ^ (w + k)) w k v ≡ (t * 2 ^ w + v) * 2 ^ k
+replace-zeros t w k v =
+    let two : t * 2 ^ (w + k) ≡ t * 2 ^ w * 2 ^ k =
+    ap (λ (n : ℕ). t * n) (pow-add 2 w k) ∙ sym (mul-assoc t (2 ^ w) (2 ^ k)) in
+    let none : t * 2 ^ (w + k) % 2 ^ k ≡ 0 = ap (λ (n : ℕ). n % 2 ^ k) two ∙ mul-mod-left (t * 2 ^ w) (2 ^ k) in
+    rw (shl-shr t (w + k), none) (add-zero _)
+
+-- w bits put among zeros, by a word that begins with what stands before them in their first byte
+pub write-blank : {s : List Bool} (start w k v : ℕ) → Blank s start → 8 * (start / 8) + 64 ≤ length s
+    → start % 8 + (w + k) ≡ 64 → v < 2 ^ w
+    → {t : ℕ} → t ≡ frontOf s start
+    → put 64 (bitOr (t * 2 ^ w % 2 ^ 64) v * 2 ^ k % 2 ^ 64) s (8 * (start / 8)) ≡ put w v s start
+unfolding field put
+write-blank {s} start w k v z h e hv {t} et =
+    let g : ℕ = 8 * (start / 8) in
+    let r : ℕ = start % 8 in
+    let y : ℕ = field 64 s g in
+    let at-start : g + r ≡ start = omega arith in
+    let ey : y ≡ t * 2 ^ (w + k) =
+    ap (λ (n : ℕ). field n s g) (sym e) ∙ blank-end z g r (w + k) at-start (omega arith)
+    ∙ ap (λ (n : ℕ). n * 2 ^ (w + k)) (sym et) in
+    let tl : t < 2 ^ r = rw et (field-lt r s g) in
+    let whole : t * 2 ^ w + v < 2 ^ (r + w) = rw (pow-add 2 r w) (digits-lt {q = t} {m = 2 ^ r} tl hv) in
+    let up : r + w + k ≡ 64 = omega arith in
+    let x64 : (t * 2 ^ w + v) * 2 ^ k < 2 ^ 64 = rw up at (shl-lt (r + w) k whole) in
+    let t64 : t * 2 ^ w < 2 ^ 64 = lt-of-lt-of-le (shl-lt r w tl) (pow-mono {i = r + w} {j = 64} (omega arith)) in
+    let x : bitOr (t * 2 ^ w % 2 ^ 64) v * 2 ^ k % 2 ^ 64 ≡ replace y w k v =
+    rw (mod-eq-of-lt t64, or-shifted t w v hv, mod-eq-of-lt x64, ey) (sym (replace-zeros t w k v)) in
+    let part : List Bool = take 64 (drop g s) in
+    let old : toBits 64 y ≡ part =
+    toBits-value 64 part (length-take-le 64 (drop g s) (simp length-drop (omega arith))) in
+    let new : toBits 64 (replace y w k v) ≡ put w v part r =
+    rw e at (put-number r w k y v hv) ∙ ap (λ (l : List Bool). put w v l r) old in
+    ap (λ (l : List Bool). take g s ++ (l ++ drop (g + 64) s)) (ap (toBits 64) x ∙ new)
+    ∙ put-part w v s g 64 r h (omega arith) ∙ ap (put w v s) at-start

@@ -9,3 +9,4 @@ pub mod Packing
 pub mod Rank
 pub mod Select
 pub mod Spans
+pub mod Begun

@@ -10,13 +10,17 @@
 --   IsRest    a number is what is left of a byte from a bit on
 --   within    a place, or 0 past a limit
 --   FourAt    four numbers are the fields of 12 bits from a bit on
+--   fourOf    four numbers of 12 bits, joined
+--   frontOf   what stands before a bit in its byte
+--   Blank     only zeros stand from a bit on
+--   Begun     the bits of some bytes begin with others, and are zeros after them
 --   replace   a number with a field replaced
 use mathlib.Core.Path.{_≡_}
 use mathlib.Core.Bool.{Bool, true, false}
-use mathlib.Core.List.{List, [], _∷_}
-use Prim.Native.Nat.{ℕ, zero, suc, _+_, _-_, _*_, _/_, _%_, _^_, _<_}
+use mathlib.Core.List.{List, [], _∷_, _++_}
+use Prim.Native.Nat.{ℕ, zero, suc, _+_, _-_, _*_, _/_, _%_, _^_, _≤_, _<_}
 use lib.Dec.{leb}
-use lib.ListN.{length, getD}
+use lib.ListN.{length, drop, getD, replicate}
 use Rattle.bits.specs.Bits.{bits, field}
 
 -- the bytes, one below the other, below the number a
@@ -70,6 +74,23 @@ pub record FourAt (s : List Bool) (start a b c d : ℕ) : Type 0 where
   pub third : c ≡ field 12 s (start + 24)
   pub fourth : d ≡ field 12 s (start + 36)
   pub small : (a < 4096) × (b < 4096) × (c < 4096) × (d < 4096)
+
+-- the numbers a, b, c and d, of 12 bits each, one below the other
+abbrev pub fourOf : ℕ → ℕ → ℕ → ℕ → ℕ
+fourOf a b c d = (a * 2 ^ 12 + b) * 2 ^ 24 + (c * 2 ^ 12 + d)
+
+-- the bits before bit `start` in its byte, as a number
+abbrev pub frontOf : List Bool → ℕ → ℕ
+frontOf s start = field (start % 8) s (8 * (start / 8))
+
+-- from bit `start` on there are only zeros
+pub record Blank (s : List Bool) (start : ℕ) : Type 0 where
+  pub clear : drop start s ≡ replicate (length s - start) false
+
+-- the bits of the bytes are s, and zeros after them: so far they are written
+pub record Begun (bytes : List ℕ) (s : List Bool) : Type 0 where
+  pub fits : length s ≤ 8 * length bytes
+  pub holds : bits bytes ≡ s ++ replicate (8 * length bytes - length s) false
 
 -- the number x with v in the w bits above its k lowest
 abbrev pub replace : ℕ → ℕ → ℕ → ℕ → ℕ

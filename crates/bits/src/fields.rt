@@ -5,11 +5,12 @@ ghost use mathlib.Core.Bool.{true, false};
 ghost use Prim.Native.Nat.{_+_, _*_, _/_, _%_, _^_, _<_, _≤_};
 ghost use lib.ListN.{length, getD, set};
 ghost use Rattle.bits.specs.Bits.{bits, field, put};
-ghost use Rattle.bits.specs.Steps.{joined, two, three, FourAt, replace};
+ghost use Rattle.bits.specs.Steps.{joined, two, three, FourAt, fourOf, frontOf, Blank, replace};
 ghost use Rattle.bits.specs.Formula.{fieldFormula};
 use super::words::byte_at;
 use super::words::byte_of;
 use super::words::join;
+use super::words::put_word;
 use super::words::short_word;
 use super::words::word;
 
@@ -147,28 +148,56 @@ pub fn clear_first(bytes: &mut [u8])
     bytes[0] = bytes[0] & 0x7F;
 }
 
+// The field of `width` bits from bit `start` on becomes v, and nothing else changes. The two bytes or the three that
+// hold it are joined.
+fn write_field(bytes: &mut [u8], start: usize, width: usize, v: usize)
+    requires { ⌜ (9 ≤ width) × (width ≤ 16) × (start + width ≤ 8 * length (now bytes)) × (v < 2 ^ width) ⌝ }
+    ensures { λ _. ⌜ (bits (now (bytes .exit)) ≡ put width v (bits (now (bytes .entry))) start)
+        × (length (now (bytes .exit)) ≡ length (now (bytes .entry))) ⌝ }
+{
+    let first = start / 8;
+    let end = start % 8 + width;
+    let next = first + 1;
+    if end <= 16 {
+        let x = join2(bytes, first, next);
+        let y = replaced(x, width, 16 - end, v as u64);
+        bytes[first] = byte_of(y, 8);
+        bytes[next] = byte_of(y, 0);
+    } else {
+        let last = first + 2;
+        let x = join3(bytes, first, last);
+        let y = replaced(x, width, 24 - end, v as u64);
+        bytes[first] = byte_of(y, 16);
+        bytes[next] = byte_of(y, 8);
+        bytes[last] = byte_of(y, 0);
+    }
+}
+
 // The field of 12 bits from bit `start` on becomes v, and nothing else changes.
 pub fn write12(bytes: &mut [u8], start: usize, v: usize)
     requires { ⌜ (start + 12 ≤ 8 * length (now bytes)) × (v < 4096) ⌝ }
     ensures { λ _. ⌜ (bits (now (bytes .exit)) ≡ put 12 v (bits (now (bytes .entry))) start)
         × (length (now (bytes .exit)) ≡ length (now (bytes .entry))) ⌝ }
 {
-    let first = start / 8;
-    let off = start % 8;
-    let next = first + 1;
-    if off <= 4 {
-        let x = join2(bytes, first, next);
-        let y = replaced(x, 12, 4 - off, v as u64);
-        bytes[first] = byte_of(y, 8);
-        bytes[next] = byte_of(y, 0);
-    } else {
-        let last = first + 2;
-        let x = join3(bytes, first, last);
-        let y = replaced(x, 12, 12 - off, v as u64);
-        bytes[first] = byte_of(y, 16);
-        bytes[next] = byte_of(y, 8);
-        bytes[last] = byte_of(y, 0);
-    }
+    write_field(bytes, start, 12, v);
+}
+
+// The field of 13 bits from bit `start` on becomes v, and nothing else changes.
+pub fn write13(bytes: &mut [u8], start: usize, v: usize)
+    requires { ⌜ (start + 13 ≤ 8 * length (now bytes)) × (v < 8192) ⌝ }
+    ensures { λ _. ⌜ (bits (now (bytes .exit)) ≡ put 13 v (bits (now (bytes .entry))) start)
+        × (length (now (bytes .exit)) ≡ length (now (bytes .entry))) ⌝ }
+{
+    write_field(bytes, start, 13, v);
+}
+
+// The field of 15 bits from bit `start` on becomes v, and nothing else changes.
+pub fn write15(bytes: &mut [u8], start: usize, v: usize)
+    requires { ⌜ (start + 15 ≤ 8 * length (now bytes)) × (v < 32768) ⌝ }
+    ensures { λ _. ⌜ (bits (now (bytes .exit)) ≡ put 15 v (bits (now (bytes .entry))) start)
+        × (length (now (bytes .exit)) ≡ length (now (bytes .entry))) ⌝ }
+{
+    write_field(bytes, start, 15, v);
 }
 
 // The two fields of 12 bits in the three bytes from byte `at` on become a and b, and nothing else changes.
@@ -181,4 +210,46 @@ pub fn write_two(bytes: &mut [u8], at: usize, a: usize, b: usize)
     bytes[at] = byte_of(x, 16);
     bytes[at + 1] = byte_of(x, 8);
     bytes[at + 2] = byte_of(x, 0);
+}
+
+// Four numbers of 12 bits, joined.
+fn join_four(x: Four) -> u64
+    requires { ⌜ (x .a < 4096) × (x .b < 4096) × (x .c < 4096) × (x .d < 4096) ⌝ }
+    ensures { λ r. ⌜ (r ≡ fourOf (x .a) (x .b) (x .c) (x .d)) × (r < 2 ^ 48) ⌝ }
+{
+    let high = (x.a as u64) << 12 | (x.b as u64);
+    let low = (x.c as u64) << 12 | (x.d as u64);
+    high << 24 | low
+}
+
+// What stands before bit `start` in its byte; nothing where no byte has that bit.
+pub fn front_of(bytes: &[u8], start: usize) -> u64
+    requires { ⌜ start ≤ 8 * length (now bytes) ⌝ }
+    ensures { λ r. ⌜ r ≡ frontOf (bits (now (bytes .entry))) start ⌝ }
+{
+    let at = start / 8;
+    if at < bytes.len() {
+        byte_at(bytes, at) >> (8 - start % 8)
+    } else {
+        0
+    }
+}
+
+// The four fields of 12 bits from bit `start` on become the numbers of x, and nothing else changes. The eight bytes
+// from their first byte on lie in the slice, and only zeros stand from bit `start` on. What stands before that bit in
+// its byte is handed over, and what then stands so before the next four is handed back: no byte is read.
+pub fn write_four(bytes: &mut [u8], start: usize, front: u64, x: Four) -> u64
+    requires { ⌜ (start / 8 + 8 ≤ length (now bytes)) × (Blank (bits (now bytes)) start) ⌝ }
+    requires { ⌜ (x .a < 4096) × (x .b < 4096) × (x .c < 4096) × (x .d < 4096) ⌝ }
+    requires { ⌜ front ≡ frontOf (bits (now bytes)) start ⌝ }
+    ensures { λ r. ⌜
+        (bits (now (bytes .exit)) ≡ put 48 (fourOf (x .a) (x .b) (x .c) (x .d)) (bits (now (bytes .entry))) start)
+        × (length (now (bytes .exit)) ≡ length (now (bytes .entry)))
+        × (r ≡ frontOf (bits (now (bytes .exit))) (start + 48))
+        ⌝ }
+{
+    let off = start % 8;
+    let four = join_four(x);
+    put_word(bytes, start / 8, (front << 48 | four) << (16 - off));
+    four & ((1 << off) - 1)
 }

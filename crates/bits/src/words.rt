@@ -1,10 +1,10 @@
-// Bytes joined to numbers, most significant byte first, and the count of ones of a number.
+// Bytes joined to numbers, most significant byte first, the bytes of a number stored, and the count of its ones.
 ghost use mathlib.Core.Path.{_≡_};
 ghost use mathlib.Core.List.{[], _∷_, reverse};
 ghost use Prim.Native.Nat.{_+_, _*_, _^_, _<_, _≤_};
 ghost use lib.Count.{ones};
 ghost use lib.ListN.{length, take, drop, getD};
-ghost use Rattle.bits.specs.Bits.{bits, count, field};
+ghost use Rattle.bits.specs.Bits.{bits, count, field, put};
 ghost use Rattle.bits.specs.Steps.{joined, eight, byteOf, lowBytes, IsByte, IsRest};
 
 pub fn wide(b: u8) -> u64
@@ -77,6 +77,22 @@ pub fn word(bytes: &[u8], at: usize) -> u64
     ensures { λ r. ⌜ r ≡ joined 0 (eight (now (bytes .entry)) at) ⌝ }
 {
     turned(low_word(bytes, at))
+}
+
+// The eight bytes from byte `at` on become those of x.
+pub fn put_word(bytes: &mut [u8], at: usize, x: u64)
+    requires { ⌜ at + 8 ≤ length (now bytes) ⌝ }
+    ensures { λ _. ⌜ (bits (now (bytes .exit)) ≡ put 64 x (bits (now (bytes .entry))) (8 * at))
+        × (length (now (bytes .exit)) ≡ length (now (bytes .entry))) ⌝ }
+{
+    bytes[at] = byte_of(x, 56);
+    bytes[at + 1] = byte_of(x, 48);
+    bytes[at + 2] = byte_of(x, 40);
+    bytes[at + 3] = byte_of(x, 32);
+    bytes[at + 4] = byte_of(x, 24);
+    bytes[at + 5] = byte_of(x, 16);
+    bytes[at + 6] = byte_of(x, 8);
+    bytes[at + 7] = byte_of(x, 0);
 }
 
 // Byte `at`, or 0 past the end.

@@ -26,7 +26,7 @@ pub length-pack : (s : List Bool) → length (pack s) ≡ (length s + 7) / 8
 unfolding pack
 length-pack s = length-packed ((length s + 7) / 8) s
 
-take-replicate : (k n : ℕ) (b : Bool) → k ≤ n → take k (replicate n b) ≡ replicate k b
+pub take-replicate : (k n : ℕ) (b : Bool) → k ≤ n → take k (replicate n b) ≡ replicate k b
 take-replicate zero n b h = refl
 take-replicate (suc k) zero b h = absurd (omega arith)
 take-replicate (suc k) (suc n) b h = ap (λ (s : List Bool). b ∷ s) (take-replicate k n b (omega arith))

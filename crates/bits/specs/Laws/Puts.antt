@@ -11,7 +11,7 @@ use lib.Pow.{pow-pos, high, low, shr-shr}
 use lib.Seq.{take-at, drop-at, take-add, take-take, length-take-le}
 use lib.Seq.{drop-drop, drop-append-le, drop-append-add, set-split}
 use Rattle.bits.specs.Bits.{toBits, bit, value, field, put}
-use Rattle.bits.specs.Steps.{replace}
+use Rattle.bits.specs.Steps.{fourOf, replace}
 use Rattle.bits.specs.Laws.Digits.{length-toBits, toBits-agree, toBits-append}
 use Rattle.bits.specs.Laws.Fields.{field-append, field-laid}
 
@@ -79,6 +79,19 @@ put-beside w a u b s p h =
       append-assoc (take p s) (toBits w a) (toBits u b ++ drop (p + (w + u)) s),
       append-assoc (toBits w a) (toBits u b) (drop (p + (w + u)) s),
     )
+
+-- four numbers of 12 bits, joined, have their bits one after the other
+pub four-bits : (a b c d : ℕ) → a < 4096 → b < 4096 → c < 4096 → d < 4096
+    → toBits 48 (fourOf a b c d) ≡ (toBits 12 a ++ toBits 12 b) ++ (toBits 12 c ++ toBits 12 d)
+four-bits a b c d ha hb hc hd =
+    two-bits 24 24 (a * 2 ^ 12 + b) (c * 2 ^ 12 + d) (omega arith)
+    ∙ ap₂ _++_ (two-bits 12 12 a b hb) (two-bits 12 12 c d hd)
+  where
+    two-bits : (w u x y : ℕ) → y < 2 ^ u → toBits (w + u) (x * 2 ^ u + y) ≡ toBits w x ++ toBits u y
+    two-bits w u x y h =
+        toBits-append w u (x * 2 ^ u + y)
+        ∙ ap₂ _++_ (ap (toBits w) (high x u h))
+        (toBits-agree u (x * 2 ^ u + y) y (low x u h ∙ sym (mod-eq-of-lt h)))
 
 -- a field of one bit
 pub put-one : (b : Bool) (s : List Bool) (i : ℕ) → i < length s → put 1 (bit b) s i ≡ set s i b

@@ -1,12 +1,12 @@
--- `fields::write12` meets its contract: a field put into the two bytes or the three that hold it.
-use Prim.Native.Nat.{_-_, _%_}
+-- `fields::write_field` meets its contract: a field put into the two bytes or the three that hold it.
+use Prim.Native.Nat.{_+_, _-_, _%_}
 use native.Mathlib.Omega.{arith}
 use borrow.Author.Needs.{needs}
 use lib.ListN.{length-set}
 use Rattle.bits.specs.Laws.Bytes.{AreBytes}
 use Rattle.bits.proofs.Stored.{write-two, write-three}
-use Rattle.bits.proofs.fields.write12.Statement.{statement}
-use Rattle.bits.proofs.fields.write12.Tie as tie
+use Rattle.bits.proofs.fields.write_field.Statement.{statement}
+use Rattle.bits.proofs.fields.write_field.Tie as tie
 
 slice-write-bytes-2 : tie.Need-slice-write-bytes-2
 slice-write-bytes-2 c = simp length-set (omega arith)
@@ -24,8 +24,9 @@ returns c =
     let read = x .before .before .before in
     let a = read .before .args in
     let known : AreBytes (a .bytes .now) = λ i. read .slice-known .given i .fits in
-    let stored = write-two (a .bytes .now) (a .start) 12 (4 - a .start % 8) (a .v) (x .join2 .result)
-    (y .replaced .result) known (omega arith) (y .replaced .ensures) (omega arith) (omega arith)
+    let stored = write-two (a .bytes .now) (a .start) (a .width) (16 - (a .start % 8 + a .width)) (a .v)
+    (x .join2 .result)
+    (y .replaced .result) known (read .before .pre .3) (y .replaced .ensures) (omega arith) (omega arith)
     (x .join2 .ensures .0) (c .before .byte-of .ensures) (c .byte-of2 .ensures) in
     (stored, simp length-set)
 
@@ -37,16 +38,17 @@ returns-2 c =
     let read = x .before .before .before in
     let a = read .before .args in
     let known : AreBytes (a .bytes .now) = λ i. read .slice-known .given i .fits in
-    let stored = write-three (a .bytes .now) (a .start) 12 (12 - a .start % 8) (a .v) (x .join3 .result)
-    (y .replaced2 .result) known (omega arith) (y .replaced2 .ensures) (omega arith) (omega arith)
+    let stored = write-three (a .bytes .now) (a .start) (a .width) (24 - (a .start % 8 + a .width)) (a .v)
+    (x .join3 .result)
+    (y .replaced2 .result) known (read .before .pre .3) (y .replaced2 .ensures) (omega arith) (omega arith)
     (x .join3 .ensures .0) (p .byte-of3 .ensures) (c .before .byte-of4 .ensures) (c .byte-of5 .ensures) in
     (stored, simp length-set)
 
-pub write12-spec : {M : Type 1} → statement M
-write12-spec =
+pub write-field-spec : {M : Type 1} → statement M
+write-field-spec =
     tie.close
-    (tie.spec (λ c. search needs) (λ c κs. search needs) (λ c κs. search needs) (λ c κs. search needs)
-    (λ c. search needs) (λ c κs. search needs) slice-write-bytes-2 (λ c. search needs) (λ c κs. search needs)
-    (λ c. search needs) (λ c κs. search needs) (λ c κs. search needs) (λ c. search needs) (λ c κs. search needs)
-    slice-write-bytes-4 (λ c κs. search needs) slice-write-bytes-5 (λ c. search needs) returns (λ c. search needs)
-    returns-2)
+    (tie.spec (λ c. search needs) (λ c. search needs) (λ c κs. search needs) (λ c κs. search needs)
+    (λ c κs. search needs) (λ c. search needs) (λ c κs. search needs) slice-write-bytes-2 (λ c. search needs)
+    (λ c κs. search needs) (λ c. search needs) (λ c κs. search needs) (λ c κs. search needs) (λ c. search needs)
+    (λ c κs. search needs) slice-write-bytes-4 (λ c κs. search needs) slice-write-bytes-5 (λ c. search needs) returns
+    (λ c. search needs) returns-2)
