@@ -7,3 +7,4 @@ pub mod Tells
 pub mod Stores
 pub mod InOrder
 pub mod Zeros
+pub mod Totals

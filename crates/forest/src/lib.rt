@@ -8,7 +8,6 @@ use record::Shape;
 use record::Verdict;
 use record::Vertex;
 
-mod clear; // clear.rt: a section of zeros
 mod search; // search.rt: the depth-first search
 mod lows; // lows.rt: lowpoints
 mod marks; // marks.rt: the sections of marks

@@ -11,10 +11,10 @@ ghost use Rattle.adjacency.specs.Arrays.{cut};
 ghost use Rattle.forest.specs.Steps.{Room};
 ghost use Rattle.forest.specs.Lows.{Lifts};
 ghost use Rattle.forest.specs.Marks.{Sized, markAll, Below, marked, BridgeStep};
-use super::clear::clear;
 use adjacency::cells::get;
 use bits::fields::clear_first;
 use bits::fields::set_bit;
+use record::clear::clear;
 
 // E or P: the bits that a list has, a number for each vertex. A root's number is 0: that bit belongs to the first
 // vertex itself and is cleared in the end.

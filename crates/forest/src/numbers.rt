@@ -8,8 +8,8 @@ ghost use Rattle.record.specs.Record.{fieldBits};
 ghost use Rattle.forest.specs.Index.{numberBytes};
 ghost use Rattle.forest.specs.Numbered.{Visits};
 use super::Dfi;
-use super::clear::clear;
 use adjacency::cells::get;
+use record::clear::clear;
 
 // The visit number of vertex v.
 fn visit(visits: &[u16], v: usize) -> Dfi

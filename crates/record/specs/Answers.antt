@@ -12,7 +12,7 @@ use Rattle.record.specs.declared.Refusal.{Refusal}
 use Rattle.record.specs.declared.Refusal.the-variants.{TooShort, OverLimit, WrongLength, BadUnary, SpareSet}
 use Rattle.record.specs.declared.Refusal.the-variants.{StrayNeighbour, DoubledNeighbour, OneSidedWire, ShortWork}
 use Rattle.record.specs.declared.Refusal.the-variants.{WrongBuffer, NoTerminal, BadIndex, NoChild, NoStart}
-use Rattle.record.specs.declared.Refusal.the-variants.{BadList}
+use Rattle.record.specs.declared.Refusal.the-variants.{BadList, BadLists, WrongRecordBuffer}
 use Rattle.record.specs.declared.Verdict.{Verdict}
 use Rattle.record.specs.declared.Verdict.the-variants as Verdict
 use Rattle.record.specs.declared.Counted.{Counted}
@@ -65,6 +65,8 @@ number BadIndex = 12
 number NoChild = 13
 number NoStart = 14
 number BadList = 15
+number BadLists = 16
+number WrongRecordBuffer = 17
 
 -- an answer that only reports that nothing is refused
 abbrev pub verdict : Verdict → Answer (Unit {0})

@@ -17,3 +17,8 @@ pub mod Unpacked
 pub mod OneBlock
 pub mod Mapped
 pub mod Lending
+pub mod Listed
+pub mod Result
+pub mod Filed
+pub mod Refiled
+pub mod Sums

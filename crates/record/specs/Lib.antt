@@ -4,5 +4,6 @@ pub mod Starts
 pub mod Rules
 pub mod Answers
 pub mod Operations
+pub mod Filing
 pub mod Laws
 pub mod Steps

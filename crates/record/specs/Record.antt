@@ -68,6 +68,10 @@ unfoldable pub fieldBits : List ℕ → List Bool
 fieldBits [] = []
 fieldBits (x ∷ xs) = toBits 12 x ++ fieldBits xs
 
+-- the bits of n and m
+unfoldable pub headerBits : ℕ → ℕ → List Bool
+headerBits n m = toBits 13 n ++ toBits 15 m
+
 -- the used bits of the record of some blocks: n, m, D and the fields
 unfoldable pub recordBits : Blocks → List Bool
 recordBits g = toBits 13 (length g) ++ (toBits 15 (length (flatten g) / 2) ++ (unaryOf g ++ fieldBits (flatten g)))

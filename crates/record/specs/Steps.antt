@@ -1,5 +1,5 @@
--- What contracts inside this crate, and in the crates above, say of a record that has passed some rules, and of the two
--- arrays.
+-- What contracts inside this crate, and in the crates above, say of a record that has passed some rules, of the two
+-- arrays, of two lists that become a record, and of its bytes while they are written.
 --   Headed, Sound, Laid          rules 1 to 3, order R, and rule 5 too let the record pass, and n and m are the
 --                                header's
 --   ArraysOf                     the graph of a record stands in two arrays
@@ -7,17 +7,26 @@
 --   Short, Handed                a list that each number of it can be raised by one; Check, with the neighbours for a
 --                                list
 --   Filling, Entering, Reading   the arrays while they are filled
+--   Listed                       rule 16 lets two lists pass
+--   vertexOf, graphFrom          a neighbour of such a list as the arrays keep it, and the graph that they hold
+--   Numbers                      neighbours from 1 that a field has room for
+--   unaryBits                    the bits of D by the degrees
+--   Laying                       the fields while they are written
 use mathlib.Core.Path.{_≡_}
-use mathlib.Core.Bool.{Bool, false}
-use mathlib.Core.List.{List, _++_}
-use Prim.Native.Nat.{ℕ, _+_, _-_, _*_, _≤_, _<_}
-use lib.ListN.{length, take, drop, getD}
+use mathlib.Core.Bool.{Bool, true, false}
+use mathlib.Core.List.{List, _++_, map}
+use Prim.Native.Nat.{ℕ, zero, suc, _+_, _-_, _*_, _%_, _≤_, _<_}
+use lib.ListN.{length, take, drop, getD, replicate}
 use Rattle.bits.specs.Bits.{count, field}
-use Rattle.record.specs.Record.{terminals, wires, recordLength, unary, fieldsFrom, fields}
+use Rattle.bits.specs.Steps.{Begun}
+use Rattle.graph.specs.Graph.{Blocks}
+use Rattle.adjacency.specs.Reverse.{total}
+use Rattle.record.specs.Record.{terminals, wires, recordLength, unary, fieldsFrom, fields, layOut, fieldBits}
 use Rattle.record.specs.Starts.{startsFrom, startsOf}
 use Rattle.record.specs.Rules.{firstBroken, orderR, spareSet}
 use Rattle.record.specs.Answers.{Answer}
 use Rattle.record.specs.Operations.{check, unpacked}
+use Rattle.record.specs.Filing.{byDegrees}
 
 -- rules 1 to 3 are kept, and n and m are the header's
 pub record Headed (bytes : List ℕ) (n m : ℕ) : Type 0 where
@@ -93,3 +102,32 @@ pub record Reading (s : List Bool) (start k : ℕ) (list : List ℕ) (i : ℕ) :
   pub upto : i ≤ k
   pub size : length list ≡ k
   pub same : take i list ≡ take i (fieldsFrom s start k)
+
+-- rule 16 lets the two lists pass
+pub record Listed (degrees neighbours : List ℕ) : Type 0 where
+  pub few : length degrees ≤ 4096
+  pub even : total degrees % 2 ≡ 0
+  pub fits : total degrees ≤ 32768
+  pub whole : length neighbours ≡ total degrees
+
+-- a neighbour's number, from 1, as the arrays keep it, from 0; where it is 0 itself, a number that is no vertex
+abbrev pub vertexOf : ℕ → ℕ
+vertexOf zero = 65535
+vertexOf (suc v) = v
+
+-- the graph that two lists give the arrays
+abbrev pub graphFrom : List ℕ → List ℕ → Blocks
+graphFrom degrees neighbours = byDegrees degrees (map vertexOf neighbours)
+
+-- each is a number from 1 to 4,096
+abbrev pub Numbers : List ℕ → Type 0
+Numbers neighbours = (i : ℕ) → i < length neighbours → (1 ≤ getD neighbours i 0) × (getD neighbours i 0 ≤ 4096)
+
+-- the bits of D by the degrees
+unfoldable pub unaryBits : List ℕ → List Bool
+unaryBits degrees = layOut true (map (λ d. replicate d false) degrees)
+
+-- behind the first bits of s, up to `start`, the first i numbers of a list are written
+pub record Laying (start : ℕ) (s : List Bool) (numbers bytes : List ℕ) (i : ℕ) : Type 0 where
+  pub upto : i ≤ length numbers
+  pub begun : Begun bytes (take start s ++ fieldBits (take i numbers))

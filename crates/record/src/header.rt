@@ -1,24 +1,16 @@
 // The header of a record, and order R.
 ghost use mathlib.Core.Path.{_≡_};
 ghost use mathlib.Core.Bool.{not, _||_};
-ghost use Prim.Native.Nat.{_≤_};
 ghost use lib.Dec.{eqb};
 ghost use Rattle.bits.specs.Bits.{count};
-ghost use Rattle.record.specs.Record.{terminals, recordLength, unary};
+ghost use Rattle.record.specs.Record.{terminals, unary};
 ghost use Rattle.record.specs.Rules.{orderR, beginsWithZero, spareSet, layoutRules};
 ghost use Rattle.record.specs.Answers.{tried, shape, sizesOf};
 ghost use Rattle.record.specs.Steps.{Headed, Sound};
 use super::Refusal;
 use super::Shape;
 use super::Sizes;
-
-// The bytes that n and m give.
-fn record_length(n: usize, m: usize) -> usize
-    requires { ⌜ (n ≤ 4096) × (m ≤ 16384) ⌝ }
-    ensures { λ r. ⌜ r ≡ recordLength n m ⌝ }
-{
-    (28 + (n + 2 * m) + 12 * (2 * m) + 7) / 8
-}
+use super::lengths::record_length;
 
 // Rule 4: D hasn't exactly n ones, or begins with a zero.
 fn bad_unary(bytes: &[u8], n: usize, m: usize) -> bool

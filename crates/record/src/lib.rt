@@ -1,11 +1,14 @@
-// Records (document 01, "Record"): checking, and the questions that need no search. No function of this file has
+// Records (document 01, "Record"): checking, the questions that need no search, and a record from lists (document 02).
+// No function of this file has
 // a precondition; most functions of the public modules, which are for the crates above, have one.
 ghost use mathlib.Core.Path.{_≡_};
 ghost use Rattle.record.specs.Rules.{checkRules};
 ghost use Rattle.record.specs.Answers.{number, verdict, counted, shape, tried, sizesOf};
 ghost use Rattle.record.specs.Operations.{check as checkOf, degree as degreeOf, unpack as unpackOf, unpacked};
 ghost use Rattle.record.specs.Operations.{neighbours as neighboursOf, neighboursBefore, PartOf, further};
+ghost use Rattle.record.specs.Filing.{file as fileOf, filed};
 
+mod lengths; // lengths.rt: the length of a record
 pub mod header; // header.rt: the header, and order R
 pub mod range; // range.rt: the range of rules 11 and 14
 pub mod starts; // starts.rt: where the blocks start
@@ -14,6 +17,10 @@ mod blocks; // blocks.rt: one block
 mod rules; // rules.rt: rules 6 and 8
 pub mod arrays; // arrays.rt: the graph of a record in two arrays
 mod rooms; // rooms.rt: Check in room for the record's size
+mod lists; // lists.rt: two lists, rule 16, and the arrays that they give
+mod list_rooms; // list_rooms.rt: rules 6 and 8 of two lists in room for their size
+pub mod clear; // clear.rt: bytes of zero
+mod writing; // writing.rt: a record written from two lists
 
 // A terminal number, from 1: document 01's vertex label.
 pub struct Vertex(pub usize);
@@ -36,6 +43,8 @@ pub enum Refusal {
     NoChild,
     NoStart,
     BadList,
+    BadLists,
+    WrongRecordBuffer,
 }
 
 // Nothing is refused, or why.
@@ -87,6 +96,8 @@ pub fn number_of(r: Refusal) -> usize
         Refusal::NoChild => 13,
         Refusal::NoStart => 14,
         Refusal::BadList => 15,
+        Refusal::BadLists => 16,
+        Refusal::WrongRecordBuffer => 17,
     }
 }
 
@@ -179,4 +190,27 @@ pub fn neighbours<'a, 'b>(bytes: &'a [u8], list: &'b [u16], v: Vertex) -> &'b [u
     let from = p.from;
     let to = from + p.size;
     &list[from..to]
+}
+
+// File: writes the record that a list of degrees and one list of neighbours, numbers from 1, give. A refused call
+// leaves the buffer as it was.
+pub fn file(degrees: &[u16], neighbours: &[u16], bytes: &mut [u8]) -> Verdict
+    ensures { λ r. ⌜
+        (verdict r ≡ fileOf (now (degrees .entry)) (now (neighbours .entry)) (now (bytes .entry)))
+        × (now (bytes .exit) ≡ filed (now (degrees .entry)) (now (neighbours .entry)) (now (bytes .entry)))
+        ⌝ }
+{
+    if lists::bad_lists(degrees, neighbours) {
+        return Verdict::Refused(Refusal::BadLists);
+    }
+    match list_rooms::in_room(degrees, neighbours, 0) {
+        Verdict::Refused(r) => Verdict::Refused(r),
+        Verdict::Accepted => {
+            if bytes.len() != lengths::record_length(degrees.len(), neighbours.len() / 2) {
+                return Verdict::Refused(Refusal::WrongRecordBuffer);
+            }
+            writing::write_record(degrees, neighbours, bytes);
+            Verdict::Accepted
+        }
+    }
 }

@@ -4,6 +4,7 @@ ghost use Prim.Native.Nat.{_≤_};
 use print::label;
 use print::number;
 use print::refused;
+use print::show_bytes;
 use print::show_numbers;
 use print::text;
 use print::value;
@@ -350,6 +351,73 @@ fn widest() {
     degree(b"widest", &bytes, 4097);
 }
 
+// File, with the buffer of this length after it. It holds marks at first: a refused call leaves them.
+fn file(name: &[u8], degrees: &[u16], neighbours: &[u16], length: usize)
+    requires { ⌜ length ≤ 22 ⌝ }
+{
+    let mut marks = [0xA5; 22];
+    let bytes: &mut [u8] = &mut marks[..length];
+    text(name);
+    label(b" file ", length);
+    text(b" ");
+    verdict(record::file(degrees, neighbours, bytes));
+    text(b",");
+    show_bytes(bytes);
+}
+
+// Records from lists; and 17: a byte short, a byte long.
+fn filed() {
+    let degrees = [2u16, 2, 3, 1, 1, 1];
+    let neighbours = [3u16, 2, 1, 3, 2, 4, 1, 3, 6, 5];
+    file(b"sample", &degrees, &neighbours, 21);
+    file(b"sample", &degrees, &neighbours, 20);
+    file(b"sample", &degrees, &neighbours, 22);
+    file(b"empty", &[], &[], 4);
+    file(b"empty", &[], &[], 3);
+    file(b"single", &[0], &[], 4);
+    file(b"isolated", &[0, 0, 0, 0], &[], 4);
+    file(b"wire", &[1, 1], &[2, 1], 7);
+    file(b"hub", &[1, 1, 1, 3], &[4, 4, 4, 3, 1, 2], 14);
+    file(b"triple", &[3, 3], &[2, 2, 2, 1, 1, 1], 14);
+    file(b"apart", &[0, 1, 0, 1, 0], &[4, 2], 8);
+}
+
+// 16: a sum that is odd, or another one than the number of neighbours, also where it is the same in 16 bits.
+fn bad_lists() {
+    file(b"odd", &[1, 1, 1], &[2, 1, 2], 9);
+    file(b"short_list", &[1, 1], &[2], 7);
+    file(b"long_list", &[1, 1], &[2, 1, 2], 7);
+    file(b"no_list", &[1, 1], &[], 7);
+    file(b"no_degrees", &[], &[1, 1], 7);
+    file(b"wrapped", &[65535, 3], &[2, 1], 7);
+}
+
+// 6: a neighbour that is 0, above n, or right only in 12 bits, or the terminal itself. 8: a wire at one end only.
+fn bad_neighbours() {
+    file(b"zero", &[1, 1], &[2, 0], 7);
+    file(b"over", &[1, 1], &[3, 1], 7);
+    file(b"cut", &[1, 1], &[2, 4097], 7);
+    file(b"last", &[1, 1], &[65535, 1], 7);
+    file(b"own", &[1, 1], &[1, 2], 7);
+    file(b"one_sided", &[2, 1, 1], &[2, 3, 1, 2], 11);
+    file(b"more", &[3, 1], &[2, 2, 2, 1], 11);
+}
+
+// Several of these at once: the one that is tried first is told.
+fn filed_several() {
+    file(b"16_6_and_17", &[1, 1, 1], &[0, 1, 2], 7);
+    file(b"16_8_and_17", &[2, 1], &[2, 2, 1, 1], 7);
+    file(b"6_and_17", &[1, 1], &[0, 1], 6);
+    file(b"6_after_8", &[2, 2], &[2, 2, 1, 3], 11);
+    file(b"8_and_17", &[2, 1, 1], &[2, 3, 1, 2], 10);
+}
+
+// 16: a degree too many; the greatest sum.
+fn many_degrees() {
+    file(b"many", &[0u16; 4097], &[], 4);
+    file(b"great", &[65535u16; 4096], &[], 4);
+}
+
 fn main() {
     accepted();
     doubled();
@@ -363,4 +431,9 @@ fn main() {
     unequal();
     several();
     widest();
+    filed();
+    bad_lists();
+    bad_neighbours();
+    filed_several();
+    many_degrees();
 }

@@ -8,6 +8,7 @@ use lib.ListN.{length, getD, set, take}
 use lib.Seq.{ext-getD, getD-take, length-take-le, take-length}
 use borrow.Author.Count.{below-more}
 use Rattle.adjacency.specs.Reverse.{total, TurnedBefore, AtStarts}
+use Rattle.adjacency.specs.Laws.Totals.{total-next}
 
 -- a cell goes up by one
 pub total-set : (l : List ℕ) (i : ℕ) → i < length l → total (set l i (getD l i 0 + 1)) ≡ total l + 1
@@ -15,13 +16,6 @@ unfolding sum
 total-set [] i h = absurd (omega arith)
 total-set (x ∷ l) zero h = omega arith
 total-set (x ∷ l) (suc i) h = let e = total-set l i (omega arith) in omega arith
-
--- one cell more is added up
-total-next : (l : List ℕ) (n : ℕ) → n < length l → total (take (suc n) l) ≡ total (take n l) + getD l n 0
-unfolding sum
-total-next [] n h = absurd (omega arith)
-total-next (x ∷ l) zero h = omega arith
-total-next (x ∷ l) (suc n) h = let e = total-next l n (omega arith) in omega arith
 
 -- no cell of a part is passed yet
 pub total-start : {starts next : List ℕ} → AtStarts starts next → total next ≡ total (take (length next) starts)

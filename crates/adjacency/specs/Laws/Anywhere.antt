@@ -1,9 +1,12 @@
--- What `anyPlace` says: a test fails at each place of the blocks, or holds at one.
+-- What `anyIn` and `anyPlace` say: a test fails for each number of a list, or at each place of the blocks, or holds at
+-- one.
 use mathlib.Core.Path.{_≡_, refl, sym, ap, _∙_}
 use mathlib.Core.Bool.{Bool, true, false, not, _||_, _&&_, Bool·not-not}
 use mathlib.Core.List.{List, [], _∷_}
 use mathlib.Core.Logic.{_↔_}
-use Prim.Native.Nat.{ℕ, suc}
+use Prim.Native.Nat.{ℕ, zero, suc, _<_}
+use native.Mathlib.Omega.{arith}
+use lib.ListN.{length, getD}
 use borrow.Author.Tests.{not-true, not-false}
 use Rattle.graph.specs.Graph.{Blocks, Place}
 use Rattle.graph.specs.Laws.Places.Basics.{Told, pass, fail, told, clash}
@@ -14,6 +17,22 @@ use Rattle.adjacency.specs.Places.{anyIn, anyFrom, anyPlace}
 pub neither : (a b : Bool) → (a || b) ≡ false → (a ≡ false) × (b ≡ false)
 neither true b e = absurd (clash refl e)
 neither false b e = (refl, e)
+
+-- a test holds for no number of a list exactly where it fails for each
+pub none-in : (test : ℕ → Bool) (l : List ℕ)
+    → (anyIn test l ≡ false) ↔ ((i : ℕ) → i < length l → test (getD l i 0) ≡ false)
+unfolding anyIn
+none-in test [] = (λ e i h. absurd (omega arith), λ h. refl)
+none-in test (v ∷ l) = (there (none-in test l .0), back (none-in test l .1))
+  where
+    there : (anyIn test l ≡ false → (i : ℕ) → i < length l → test (getD l i 0) ≡ false)
+        → anyIn test (v ∷ l) ≡ false → (i : ℕ) → i < length (v ∷ l) → test (getD (v ∷ l) i 0) ≡ false
+    there rec e zero h = neither (test v) (anyIn test l) e .0
+    there rec e (suc i) h = rec (neither (test v) (anyIn test l) e .1) i (omega arith)
+
+    back : (((i : ℕ) → i < length l → test (getD l i 0) ≡ false) → anyIn test l ≡ false)
+        → ((i : ℕ) → i < length (v ∷ l) → test (getD (v ∷ l) i 0) ≡ false) → anyIn test (v ∷ l) ≡ false
+    back rec h = rw (h 0 (omega arith)) (rec (λ i c. h (suc i) (omega arith)))
 
 -- ---- a test holds somewhere where it does not fail everywhere
 

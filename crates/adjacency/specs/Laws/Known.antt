@@ -2,12 +2,12 @@
 use mathlib.Core.Path.{_≡_, refl, ap, _∙_}
 use mathlib.Core.Bool.{false}
 use mathlib.Core.List.{List, [], _∷_, _++_, flatten}
-use Prim.Native.Nat.{ℕ, suc, _+_, _-_, _<_}
+use Prim.Native.Nat.{ℕ, zero, suc, _+_, _-_, _<_}
 use native.Mathlib.Omega.{arith}
 use native.Mathlib.Decide.{decLt}
 use borrow.Author.Tests.{leb-false}
 use lib.Dec.{leb, eqb}
-use lib.ListN.{length, getD, List·getD-append}
+use lib.ListN.{length, getD, length-append, List·getD-append}
 use lib.Seq.{getD-append-add}
 use Rattle.graph.specs.Graph.{Blocks, Place}
 use Rattle.adjacency.specs.Arrays.{cut, Divided, Arrays}
@@ -33,12 +33,28 @@ flatten-below {k} (b ∷ g) some h p =
         ap (λ (i : ℕ). getD (b ++ flatten g) i 0) e ∙ getD-append-add b (flatten g) (p - length b) 0 in
         rw f r
 
+-- and the other way round: what stands at a place of the blocks stands in the list
+pub places-below : {k : ℕ} (g : Blocks) → ((p : ℕ) → p < length (flatten g) → getD (flatten g) p 0 < k) → (u j v : ℕ)
+    → Place g u j v → v < k
+unfolding flatten
+places-below [] h u j v q = absurd (let f = q .fits in omega arith)
+places-below (b ∷ g) h zero j v q =
+    let a = length-append b (flatten g) in
+    let f = q .fits in
+    let e = List·getD-append b (flatten g) 0 j f in
+    let r = h j (omega arith) in
+    omega (arith, q .leads)
+places-below (b ∷ g) h (suc u) j v q =
+    let a = length-append b (flatten g) in
+    places-below g (λ p l. rw (← getD-append-add b (flatten g) p 0) (h (length b + p) (omega arith))) u j v
+    (record { fits = q .fits; leads = q .leads })
+
 not-stray : (g : Blocks) (u v : ℕ) → stray g u v ≡ false → v < length g
 unfolding stray
 not-stray g u v e = leb-false (length g) v (neither (leb (length g) v) (eqb v u) e .0)
 
 -- each neighbour is a vertex
-all-known : (g : Blocks) → anyPlace (stray g) g ≡ false → (p : ℕ) → p < length (flatten g)
+pub all-known : (g : Blocks) → anyPlace (stray g) g ≡ false → (p : ℕ) → p < length (flatten g)
     → getD (flatten g) p 0 < length g
 unfolding flatten
 all-known [] e p h = absurd (omega arith)

@@ -1,3 +1,4 @@
--- What rules 6 and 8 tell, and what Unpack answers and leaves.
+-- What rules 6, 8 and 16 tell, and what Unpack and File answer and leave.
 pub mod InTurn
 pub mod Unpacking
+pub mod Filing

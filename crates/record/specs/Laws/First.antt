@@ -1,7 +1,8 @@
 -- The first broken rule of a list, and what is known of a record that breaks none.
-use mathlib.Core.Path.{_≡_, refl, _∙_}
+use mathlib.Core.Path.{_≡_, refl, sym, _∙_}
 use mathlib.Core.Bool.{Bool, true, false, not}
 use mathlib.Core.List.{List, [], _∷_, _++_}
+use mathlib.Core.Logic.{_⊎_, inl, inr}
 use Prim.Native.Nat.{ℕ, suc, _≤_}
 use native.Mathlib.Omega.{arith}
 use borrow.Author.Tests.{ltb-false, eqb-true, not-false}
@@ -39,6 +40,18 @@ pub rule-kept : (k : ℕ) (b : Bool) (rules : List Rule) → firstBroken ((suc k
 unfolding firstBroken
 rule-kept k true rules e = absurd (omega arith)
 rule-kept k false rules e = (refl, e)
+
+-- the only rule
+pub only-one : (n : ℕ) (b : Bool) {k : ℕ} → firstBroken ((n, b) ∷ []) ≡ suc k → suc k ≡ n
+unfolding firstBroken
+only-one n true e = sym e
+only-one n false e = absurd (omega arith)
+
+-- the first or the second of two
+pub one-of-two : (n m : ℕ) (a b : Bool) {k : ℕ} → firstBroken ((n, a) ∷ (m, b) ∷ []) ≡ suc k → (suc k ≡ n) ⊎ (suc k ≡ m)
+unfolding firstBroken
+one-of-two n m true b e = inl (sym e)
+one-of-two n m false b e = inr (only-one m b e)
 
 -- ---- one list of rules and then another
 

@@ -18,7 +18,7 @@ use Rattle.bits.specs.Laws.Packing.{length-pack, bits-pack, pack-bytes, bits-in
 use Rattle.bits.specs.Laws.Rank.{held}
 use Rattle.graph.specs.Graph.{Blocks, Place}
 use Rattle.record.specs.Record.{terminals, wires, usedBits, recordLength, unary, fields, parts, blocks, unaryOf}
-use Rattle.record.specs.Record.{fieldBits, recordBits, recordOf}
+use Rattle.record.specs.Record.{headerBits, fieldBits, recordBits, recordOf}
 use Rattle.record.specs.Rules.{beginsWithZero, spareSet}
 use Rattle.record.specs.Operations.{Accepted}
 use Rattle.record.specs.Laws.First.{Shaped, checked}
@@ -131,9 +131,9 @@ pub recordOf-bytes : (g : Blocks) → AreBytes (recordOf g)
 unfolding recordOf
 recordOf-bytes g = pack-bytes _
 
--- the bits before D
-front : ℕ → ℕ → List Bool
-front n m = toBits 13 n ++ toBits 15 m
+pub length-headerBits : (n m : ℕ) → length (headerBits n m) ≡ 28
+unfolding headerBits
+length-headerBits n m = simp (length-append, length-toBits)
 
 -- the bits after the fields
 fill : Blocks → List Bool
@@ -143,7 +143,7 @@ module _ {g : Blocks} {m : ℕ} (f : Fits g m) where
   half : length (flatten g) / 2 ≡ m
   half = omega (arith, f .even)
 
-  length-recordBits : length (recordBits g) ≡ usedBits (length g) m
+  pub length-recordBits : length (recordBits g) ≡ usedBits (length g) m
   unfolding recordBits usedBits
   length-recordBits =
       simp (length-append, length-toBits, length-unaryOf, length-fieldBits) (omega (arith, f .even))
@@ -160,15 +160,13 @@ module _ {g : Blocks} {m : ℕ} (f : Fits g m) where
       ∙ ap (λ (k : ℕ). toBits 13 (length g) ++ (toBits 15 k ++ (unaryOf g ++ fieldBits (flatten g))) ++ fill g) half
       ∙ simp append-assoc
 
-  length-front : length (front (length g) m) ≡ 28
-  unfolding front
-  length-front = simp (length-append, length-toBits)
+  length-before : length (headerBits (length g) m ++ unaryOf g) ≡ 28 + (length g + length (flatten g))
+  length-before =
+      length-append (headerBits (length g) m) (unaryOf g)
+      ∙ omega (arith, length-headerBits (length g) m, length-unaryOf g)
 
-  length-before : length (front (length g) m ++ unaryOf g) ≡ 28 + (length g + length (flatten g))
-  length-before = length-append (front (length g) m) (unaryOf g) ∙ omega (arith, length-front, length-unaryOf g)
-
-  bits-front : bits (recordOf g) ≡ front (length g) m ++ (unaryOf g ++ (fieldBits (flatten g) ++ fill g))
-  unfolding front
+  bits-front : bits (recordOf g) ≡ headerBits (length g) m ++ (unaryOf g ++ (fieldBits (flatten g) ++ fill g))
+  unfolding headerBits
   bits-front = bits-recordOf ∙ sym (append-assoc (toBits 13 (length g)) (toBits 15 m) _)
 
   pub terminals-recordOf : terminals (recordOf g) ≡ length g
@@ -190,7 +188,8 @@ module _ {g : Blocks} {m : ℕ} (f : Fits g m) where
       let l : 28 + (length g + 2 * m) ≤ 8 * length (recordOf g) = omega (arith, length-recordOf) in
       rw (terminals-recordOf, wires-recordOf)
       (held (recordOf g) 28 (length g + 2 * m) (le-leb _ _ l)
-      ∙ ap (take (length g + 2 * m)) (ap (drop 28) bits-front ∙ drop-at (front (length g) m) _ 28 length-front)
+      ∙ ap (take (length g + 2 * m))
+      (ap (drop 28) bits-front ∙ drop-at (headerBits (length g) m) _ 28 (length-headerBits (length g) m))
       ∙ take-at (unaryOf g) _ (length g + 2 * m) (omega (arith, length-unaryOf g, f .even)))
 
   pub fields-recordOf : fields (recordOf g) ≡ flatten g
@@ -200,11 +199,11 @@ module _ {g : Blocks} {m : ℕ} (f : Fits g m) where
         terminals-recordOf,
         wires-recordOf,
         bits-front,
-        ← append-assoc (front (length g) m) (unaryOf g)
+        ← append-assoc (headerBits (length g) m) (unaryOf g)
             (fieldBits (flatten g) ++ fill g),
         ← f .even,
       )
-      (from-fieldBits (flatten g) (front (length g) m ++ unaryOf g) (fill g) _ length-before
+      (from-fieldBits (flatten g) (headerBits (length g) m ++ unaryOf g) (fill g) _ length-before
       (flatten-below g (lit< tt) (f .small)))
 
   pub blocks-recordOf : blocks (recordOf g) ≡ g

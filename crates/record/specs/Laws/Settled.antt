@@ -40,11 +40,13 @@ refusals =
     ∷ Refusal.NoChild
     ∷ Refusal.NoStart
     ∷ Refusal.BadList
+    ∷ Refusal.BadLists
+    ∷ Refusal.WrongRecordBuffer
     ∷ []
 
 pub named : ℕ → Refusal
 unfolding refusals
-named k = getD refusals (k - 1) Refusal.BadList
+named k = getD refusals (k - 1) Refusal.WrongRecordBuffer
 
 pub named-number : (r : Refusal) → named (number r) ≡ r
 unfolding refusals named
@@ -63,9 +65,11 @@ named-number Refusal.BadIndex = refl
 named-number Refusal.NoChild = refl
 named-number Refusal.NoStart = refl
 named-number Refusal.BadList = refl
+named-number Refusal.BadLists = refl
+named-number Refusal.WrongRecordBuffer = refl
 
 -- the documents' numbers
-pub number-bounds : (r : Refusal) → (1 ≤ number r) × (number r ≤ 15)
+pub number-bounds : (r : Refusal) → (1 ≤ number r) × (number r ≤ 17)
 number-bounds Refusal.TooShort = (omega arith, omega arith)
 number-bounds Refusal.OverLimit = (omega arith, omega arith)
 number-bounds Refusal.WrongLength = (omega arith, omega arith)
@@ -81,6 +85,8 @@ number-bounds Refusal.BadIndex = (omega arith, omega arith)
 number-bounds Refusal.NoChild = (omega arith, omega arith)
 number-bounds Refusal.NoStart = (omega arith, omega arith)
 number-bounds Refusal.BadList = (omega arith, omega arith)
+number-bounds Refusal.BadLists = (omega arith, omega arith)
+number-bounds Refusal.WrongRecordBuffer = (omega arith, omega arith)
 
 -- ---- enums
 

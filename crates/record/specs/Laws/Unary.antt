@@ -15,7 +15,7 @@ use Rattle.record.specs.Laws.Parts.{zeros-none}
 
 -- ---- D of blocks
 
-count-zeros : (k : ℕ) → count (replicate k false) ≡ 0
+pub count-zeros : (k : ℕ) → count (replicate k false) ≡ 0
 unfolding count
 count-zeros zero = refl
 count-zeros (suc k) = count-zeros k

@@ -1,9 +1,9 @@
--- `header::record_length` meets its contract.
+-- `lengths::record_length` meets its contract.
 use mathlib.Core.Path.{refl}
 use borrow.Author.Needs.{needs}
 use Rattle.record.specs.Record.{usedBits, recordLength}
-use Rattle.record.proofs.header.record_length.Statement.{statement}
-use Rattle.record.proofs.header.record_length.Tie as tie
+use Rattle.record.proofs.lengths.record_length.Statement.{statement}
+use Rattle.record.proofs.lengths.record_length.Tie as tie
 
 returns : tie.Need-returns
 unfolding usedBits recordLength

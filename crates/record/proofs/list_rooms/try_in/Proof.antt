@@ -1,0 +1,40 @@
+-- `list_rooms::try_in` meets its contract: the parts lent are of the exact length.
+use mathlib.Core.Path.{sym}
+use lib.Seq.{length-take-le}
+use Rattle.record.specs.Laws.Lending.{lent}
+use borrow.Author.Needs.{needs}
+use Rattle.record.proofs.list_rooms.try_in.Statement.{statement}
+use Rattle.record.proofs.list_rooms.try_in.Tie as tie
+
+slice-aggregate-try-lists : tie.Need-slice-aggregate-try-lists
+slice-aggregate-try-lists c =
+    let start = c .before .before .before .before .before .before .before in
+    sym (length-take-le _ _ (start .pre .1 .for-starts))
+
+slice-aggregate-try-lists-2 : tie.Need-slice-aggregate-try-lists-2
+slice-aggregate-try-lists-2 c =
+    let start = c .before .before .before .before .before .before .before .before in
+    sym (length-take-le _ _ (start .pre .1 .for-nbrs))
+
+slice-aggregate-try-lists-3 : tie.Need-slice-aggregate-try-lists-3
+slice-aggregate-try-lists-3 c =
+    let start = c .before .before .before .before .before .before .before .before .before in
+    sym (length-take-le _ _ (start .pre .1 .for-reverse))
+
+slice-aggregate-try-lists-4 : tie.Need-slice-aggregate-try-lists-4
+slice-aggregate-try-lists-4 c =
+    let start = c .before .before .before .before .before .before .before .before .before .before in
+    sym (length-take-le _ _ (start .pre .1 .for-next))
+
+try-lists-requires : tie.Need-try-lists-requires
+try-lists-requires c κs =
+    let start = c .before .before .before .before .before .before .before .before .before .before in
+    (start .pre .0, lent (start .pre .1))
+
+pub try-in-spec : {M : Type 1} → statement M
+try-in-spec =
+    tie.close
+    (tie.spec (λ c. search needs) (λ c. search needs) (λ c. search needs) slice-aggregate-try-lists (λ c. search needs)
+    slice-aggregate-try-lists-2 (λ c. search needs) slice-aggregate-try-lists-3 (λ c. search needs)
+    slice-aggregate-try-lists-4 try-lists-requires (λ c. search needs) (λ c. search needs) (λ c. search needs)
+    (λ c. search needs) (λ c. search needs))
