@@ -3,6 +3,7 @@
 ghost use mathlib.Core.Path.{_≡_};
 ghost use Rattle.bits.specs.Bits.{bit, string, rank, select};
 ghost use Rattle.record.specs.Operations.{check, degree, unpack, unpacked};
+ghost use Rattle.record.specs.Filing.{file, filed};
 ghost use Rattle.forest.specs.Operations.{build, built, loopFigure};
 ghost use Rattle.queries.specs.Answers.{orZero};
 ghost use Rattle.queries.specs.Operations.{parent, head, ancestor, children, child, visit, visited};
@@ -38,6 +39,16 @@ pub extern "C" fn celduga_unpack(bytes: &[u8], list: &mut [u16]) -> u32
         ⌝ }
 {
     codes::of_verdict(record::unpack(bytes, list))
+}
+
+#[no_mangle]
+pub extern "C" fn celduga_file(degrees: &[u16], neighbours: &[u16], bytes: &mut [u8]) -> u32
+    ensures { λ r. ⌜
+        (r ≡ code nothing (file (now (degrees .entry)) (now (neighbours .entry)) (now (bytes .entry))))
+        × (now (bytes .exit) ≡ filed (now (degrees .entry)) (now (neighbours .entry)) (now (bytes .entry)))
+        ⌝ }
+{
+    codes::of_verdict(record::file(degrees, neighbours, bytes))
 }
 
 // Where terminal v's part of an unpacked list of len numbers stands: how many come before it, and how many it has.
@@ -185,13 +196,13 @@ pub extern "C" fn celduga_select(bytes: &[u8], start: usize, places: usize, k: u
 
 const MAJOR: u32 = 0;
 
-const MINOR: u32 = 6;
+const MINOR: u32 = 7;
 
 const PATCH: u32 = 0;
 
 #[no_mangle]
 pub extern "C" fn celduga_version() -> u32
-    ensures { λ r. ⌜ r ≡ version 0 6 0 ⌝ }
+    ensures { λ r. ⌜ r ≡ version 0 7 0 ⌝ }
 {
     65536 * MAJOR + 256 * MINOR + PATCH
 }

@@ -1,16 +1,17 @@
--- Demands 2 and 3 as theorems, and what document 02 says of the start, of doubled wires, of a list of terminals and of
--- the loop figure: open this file first. The index is any that Build writes for the record, with any start (`Written`),
--- or, where it is said, any at all; the marks are the bits of that index; the answers are those of the operations, as
--- `Operations` and `Lookup` define them and as the contracts of the code say. Terminal v is vertex v - 1 of the graph;
--- positions of a block and cells of a list count from 0.
+-- Demands 2 and 3 as theorems, and what document 02 says of the start, of doubled wires, of a list of terminals, of the
+-- loop figure and of filing from lists: open this file first. The index is any that Build writes for the record, with
+-- any start (`Written`), or, where it is said, any at all; the marks are the bits of that index; the answers are those
+-- of the operations, as `Operations`, `Lookup` and `Filing` define them and as the contracts of the code say. Terminal
+-- v is vertex v - 1 of the graph; positions of a block and cells of a list count from 0.
 use mathlib.Core.Path.{_≡_, sym, ap, subst, _∙_}
 use mathlib.Core.Logic.{_⊎_, _↔_}
 use mathlib.Core.Bool.{Bool, true, false}
-use mathlib.Core.List.{List, []}
+use mathlib.Core.List.{List, [], map}
 use mathlib.Core.Option.{none}
 use Prim.Native.Nat.{ℕ, suc, _+_, _-_, _*_, _≤_, _<_}
 use native.Mathlib.Omega.{arith}
-use lib.ListN.{length, getD, take}
+use lib.ListN.{length, getD, take, length-map}
+use Rattle.bits.specs.Laws.Bytes.{AreBytes}
 use Rattle.graph.specs.Graph.{Blocks, block, Place, mentions, twin}
 use Rattle.graph.specs.Search.{Forest, all, search, countUp, forest}
 use Rattle.graph.specs.Joined.{Chain, without}
@@ -21,11 +22,15 @@ use Rattle.graph.specs.Forest.{children as childrenIn}
 use Rattle.graph.specs.Counts.{countPlaces, countEdges, atNeither, lowest, looms}
 use Rattle.graph.specs.Theorems.{wire-places, ancestor-told, looms-told, as-many-looms, edges-counted}
 use Rattle.graph.specs.Theorems.{counted-twice}
-use Rattle.record.specs.Record.{terminals, wires, unary, blocks}
+use Rattle.record.specs.Record.{terminals, wires, unary, fields, blocks}
 use Rattle.record.specs.Rules.{firstBroken}
 use Rattle.record.specs.Answers.{refused, answered}
 use Rattle.forest.specs.Index.{indexBy, indexOf, markBytes, indexLength}
-use Rattle.record.specs.Operations.{Accepted}
+use Rattle.record.specs.Operations.{outOfRange, Accepted, check, degree, unpack, unpacked}
+use Rattle.record.specs.Filing.{recordFrom, badLists, file, filed}
+use Rattle.record.specs.Laws.Layout.{length-fields}
+use Rattle.record.specs.Laws.Refiled as Refiled
+use Rattle.adjacency.specs.Places.{anyIn}
 use Rattle.record.specs.Laws.Sound.{accepted-well-formed}
 use Rattle.record.specs.Laws.Sounded.{accepted-sound, sound-all}
 use Rattle.forest.specs.Operations.{build, built, firstStart, loops, loopFigure, rootsIn}
@@ -120,6 +125,85 @@ module _ {bytes : List ℕ} (a : Accepted bytes) where
   -- the count of wires by which the figure is told below finds all m of them
   pub wires-counted : countEdges (blocks bytes) all ≡ wires bytes
   wires-counted = edges-counted (accepted-well-formed a) (wires bytes) (sound-all (accepted-sound a))
+
+-- ---- File, from any lists and for any buffer
+
+module _ (degrees neighbours buffer : List ℕ) where
+  -- its refusals
+  pub file-refusals : {k : ℕ} → file degrees neighbours buffer ≡ refused k
+      → (k ≡ 16) ⊎ ((k ≡ 6) ⊎ ((k ≡ 8) ⊎ (k ≡ 17)))
+  file-refusals = Refiled.only-refusals degrees neighbours buffer
+
+  pub file-unwritten : {k : ℕ} → file degrees neighbours buffer ≡ refused k → filed degrees neighbours buffer ≡ buffer
+  file-unwritten = Refiled.file-unwritten degrees neighbours buffer
+
+  -- else it writes the record of the two lists
+  module _ (e : file degrees neighbours buffer ≡ answered tt) where
+    pub file-written : filed degrees neighbours buffer ≡ recordFrom degrees neighbours
+    file-written = Refiled.file-written degrees neighbours buffer e
+
+    pub filed-accepted : Accepted (filed degrees neighbours buffer)
+    filed-accepted = Refiled.filed-accepted degrees neighbours buffer e
+
+    -- Degree tells the degrees again
+    pub filed-terminals : terminals (filed degrees neighbours buffer) ≡ length degrees
+    filed-terminals = Refiled.filed-terminals degrees neighbours buffer e
+
+    pub filed-degree : {v : ℕ} → v < length degrees
+        → degree (filed degrees neighbours buffer) (v + 1) ≡ answered (getD degrees v 0)
+    filed-degree {v} h =
+        Refiled.degrees-told filed-accepted v (omega (arith, filed-terminals))
+        ∙ ap (λ (l : List ℕ). answered (getD l v 0)) (Refiled.filed-degrees degrees neighbours buffer e)
+
+    -- and Unpack the neighbours
+    pub filed-wires : 2 * wires (filed degrees neighbours buffer) ≡ length neighbours
+    filed-wires =
+        sym (length-fields (filed degrees neighbours buffer))
+        ∙ sym (length-map (fields (filed degrees neighbours buffer)) suc)
+        ∙ ap length (Refiled.filed-unpacks degrees neighbours buffer e)
+
+    pub filed-unpack : (list : List ℕ) → length list ≡ length neighbours
+        → (unpack (filed degrees neighbours buffer) list ≡ answered tt)
+        × (unpacked (filed degrees neighbours buffer) list ≡ neighbours)
+    filed-unpack list h = (
+      Refiled.unpack-told filed-accepted list (h ∙ sym filed-wires),
+      Refiled.unpacks-told filed-accepted list (h ∙ sym filed-wires)
+          ∙ Refiled.filed-unpacks degrees neighbours buffer e,
+    )
+
+-- between 16 and 17 come 6 and 8 alone: a neighbour that is 0 or above n gives 6, and where there is none, Check
+-- refuses the result by no other rule
+module _ (degrees neighbours : List ℕ) (good : badLists degrees neighbours ≡ false) where
+  pub outside-refused : anyIn (outOfRange (length degrees)) neighbours ≡ true → (buffer : List ℕ)
+      → file degrees neighbours buffer ≡ refused 6
+  outside-refused = Refiled.outside-refused degrees neighbours good
+
+  pub result-refusals : anyIn (outOfRange (length degrees)) neighbours ≡ false → {k : ℕ}
+      → check (recordFrom degrees neighbours) ≡ refused k → (k ≡ 6) ⊎ (k ≡ 8)
+  result-refusals = Refiled.result-refusals degrees neighbours good
+
+-- Degree tells every degree of an accepted record, and each is a number of 16 bits
+module _ {bytes : List ℕ} (a : Accepted bytes) where
+  pub degrees-told : (v : ℕ) → v < terminals bytes
+      → degree bytes (v + 1) ≡ answered (getD (map length (blocks bytes)) v 0)
+  degrees-told = Refiled.degrees-told a
+
+  pub degrees-few : (v : ℕ) → v < terminals bytes → getD (map length (blocks bytes)) v 0 ≤ 32768
+  degrees-few = Refiled.degrees-few a
+
+-- a record unpacked and written again has its former bytes: written from its degrees, as Degree tells them, and from
+-- the list that Unpack leaves
+pub filed-again : {bytes : List ℕ} → Accepted bytes → AreBytes bytes → (degrees list buffer : List ℕ)
+    → length degrees ≡ terminals bytes
+    → ((v : ℕ) → v < terminals bytes → degree bytes (v + 1) ≡ answered (getD degrees v 0))
+    → length list ≡ 2 * wires bytes → length buffer ≡ length bytes
+    → (unpack bytes list ≡ answered tt)
+    × (file degrees (unpacked bytes list) buffer ≡ answered tt) × (filed degrees (unpacked bytes list) buffer ≡ bytes)
+filed-again a h degrees list buffer d tells l b =
+    let e = Refiled.told-degrees a {degrees = degrees} d tells in
+    let f = Refiled.unpacks-told a list l in
+    let (g, i) = Refiled.refiled a h buffer b in
+    (Refiled.unpack-told a list l, rw (e, f) g, rw (e, f) i)
 
 -- ---- for any index that Build writes
 

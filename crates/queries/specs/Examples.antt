@@ -1,8 +1,8 @@
 -- Document 01's lines that are marked P, all of them, as document 02 changes them, the columns of its listing, the
--- sample from another start, lists of terminals, and loop figures, as one list of cases under one theorem, computed by
--- the checker.
+-- sample from another start, lists of terminals, loop figures, and records from lists, as one list of cases under one
+-- theorem, computed by the checker.
 use mathlib.Core.Path.{_≡_, refl}
-use mathlib.Core.List.{List, [], _∷_, _++_, map, flatten}
+use mathlib.Core.List.{List, [], _∷_, _++_, map, flatten, sum}
 use Prim.Native.Nat.{ℕ, _-_}
 use lib.ListN.{length, take, replicate}
 use Rattle.bits.specs.Bits.{toBits, bits, string, count, onesAt, select, value, field, packed, pack}
@@ -17,6 +17,7 @@ use Rattle.record.specs.Rules.{firstBroken, beginsWithZero, orderR, spareSet, p
 use Rattle.adjacency.specs.Places.{anyIn, anyFrom, stray, oneSided}
 use Rattle.record.specs.Answers.{Answer, refused, answered, outcome, otherwise, bufferAfter, said}
 use Rattle.record.specs.Operations.{check, otherLength, outOfRange}
+use Rattle.record.specs.Filing.{byDegrees, recordFrom, badLists, fileRules, file, filed}
 use Rattle.forest.specs.Index.{marksFrom, section, sectionE, sectionP, sectionB, numbers, indexBy, indexOf}
 use Rattle.forest.specs.Index.{markBytes, numberBytes, indexLength}
 use Rattle.forest.specs.Operations.{loops, loopFigure}
@@ -29,10 +30,10 @@ use Rattle.queries.specs.Lookup.{lookupLists, lookedUp}
 
 -- a line: blocks and their record, a record and its blocks, a record and what Check says, a record, a start and its
 -- index, a record with its index and the heads of its terminals, a record, a start and its table, a record, an index, a
--- list of terminals and two lists that are lent, with what Lookup answers and the two lists afterwards, or a record and
--- its loop figure
+-- list of terminals and two lists that are lent, with what Lookup answers and the two lists afterwards, a record and
+-- its loop figure, or degrees, neighbours and a buffer, with what File answers and the buffer afterwards
 pub data Line : Type 0 where
-  files : Blocks → List ℕ → Line
+  packs : Blocks → List ℕ → Line
   reads : List ℕ → Blocks → Line
   checks : List ℕ → Answer (Unit {0}) → Line
   indexed : List ℕ → ℕ → List ℕ → Line
@@ -40,9 +41,10 @@ pub data Line : Type 0 where
   listed : List ℕ → ℕ → Columns → Line
   looks : List ℕ → List ℕ → List ℕ → Lists → Answer (Unit {0}) → Lists → Line
   figured : List ℕ → Answer ℕ → Line
+  files : List ℕ → List ℕ → List ℕ → Answer (Unit {0}) → List ℕ → Line
 
 abbrev pub computed : Line → Line
-computed (files g bytes) = files g (recordOf g)
+computed (packs g bytes) = packs g (recordOf g)
 computed (reads bytes g) = reads bytes (blocks bytes)
 computed (checks bytes a) = checks bytes (check bytes)
 computed (indexed bytes start index) = indexed bytes start (indexOf (blocks bytes) (start - 1))
@@ -51,6 +53,8 @@ computed (listed bytes start t) = listed bytes start (tableOf bytes start)
 computed (looks bytes index list lent a l) =
     looks bytes index list lent (lookup bytes index list lent) (lookedUp bytes index list lent)
 computed (figured bytes a) = figured bytes (loopFigure bytes)
+computed (files degrees neighbours buffer a after) =
+    files degrees neighbours buffer (file degrees neighbours buffer) (filed degrees neighbours buffer)
 
 -- the sample loom, terminals less 1
 abbrev pub loom : Blocks
@@ -110,10 +114,17 @@ fullIndex = replicate 15 0xFF
 abbrev pub lent : Lists
 lent = lists (90 ∷ 91 ∷ []) (92 ∷ 93 ∷ [])
 
+-- the sample's degrees, and its neighbours in a row, from 1
+abbrev pub sampleDegrees : List ℕ
+sampleDegrees = 2 ∷ 2 ∷ 3 ∷ 1 ∷ 1 ∷ 1 ∷ []
+
+abbrev pub sampleNeighbours : List ℕ
+sampleNeighbours = 3 ∷ 2 ∷ 1 ∷ 3 ∷ 2 ∷ 4 ∷ 1 ∷ 3 ∷ 6 ∷ 5 ∷ []
+
 -- for any three bytes a, b and c
 abbrev pub lines : ℕ → ℕ → ℕ → List Line
 lines a b c =
-    files loom sample
+    packs loom sample
     ∷ reads sample loom
     ∷ checks sample (answered tt)
     ∷ indexed sample 1 sampleIndex
@@ -137,22 +148,34 @@ lines a b c =
     ∷ figured (recordOf severalLooms) (answered 2)
     ∷ figured (take 20 sample ++ (0x41 ∷ [])) (refused 5)
     ∷ figured (recordOf ((1 ∷ 1 ∷ 1 ∷ []) ∷ (0 ∷ []) ∷ [])) (refused 8)
-    ∷ files [] empty
+    ∷ files sampleDegrees sampleNeighbours (replicate 21 0xFF) (answered tt) sample
+    ∷ files sampleDegrees sampleNeighbours (a ∷ b ∷ c ∷ []) (refused 17) (a ∷ b ∷ c ∷ [])
+    ∷ files [] [] (replicate 4 0xFF) (answered tt) empty
+    ∷ files (2 ∷ 2 ∷ []) (2 ∷ 2 ∷ 1 ∷ 1 ∷ []) (replicate 11 0xFF) (answered tt) doubled
+    ∷ files (1 ∷ 1 ∷ []) (2 ∷ 1 ∷ []) (replicate 7 0xFF) (answered tt) wire
+    ∷ files (1 ∷ 1 ∷ []) (2 ∷ 4097 ∷ []) (a ∷ b ∷ c ∷ []) (refused 6) (a ∷ b ∷ c ∷ [])
+    ∷ files (1 ∷ 1 ∷ []) (2 ∷ 0 ∷ []) (a ∷ b ∷ c ∷ []) (refused 6) (a ∷ b ∷ c ∷ [])
+    ∷ files (1 ∷ 1 ∷ []) (2 ∷ 2 ∷ []) (a ∷ b ∷ c ∷ []) (refused 6) (a ∷ b ∷ c ∷ [])
+    ∷ files (2 ∷ 1 ∷ 1 ∷ []) (2 ∷ 3 ∷ 1 ∷ 2 ∷ []) (a ∷ b ∷ c ∷ []) (refused 8) (a ∷ b ∷ c ∷ [])
+    ∷ files (1 ∷ 0 ∷ []) (0 ∷ []) (a ∷ b ∷ c ∷ []) (refused 16) (a ∷ b ∷ c ∷ [])
+    ∷ files (1 ∷ 1 ∷ []) (2 ∷ []) (a ∷ b ∷ c ∷ []) (refused 16) (a ∷ b ∷ c ∷ [])
+    ∷ files (65535 ∷ 3 ∷ []) (2 ∷ 1 ∷ []) (a ∷ b ∷ c ∷ []) (refused 16) (a ∷ b ∷ c ∷ [])
+    ∷ packs [] empty
     ∷ reads empty []
     ∷ checks empty (answered tt)
     ∷ indexed empty 0 []
-    ∷ files ([] ∷ []) single
+    ∷ packs ([] ∷ []) single
     ∷ reads single ([] ∷ [])
     ∷ checks single (answered tt)
     ∷ indexed single 1 (0x00 ∷ 0x00 ∷ 0x00 ∷ 0x00 ∷ 0x00 ∷ [])
-    ∷ files ((1 ∷ []) ∷ (0 ∷ []) ∷ []) wire
+    ∷ packs ((1 ∷ []) ∷ (0 ∷ []) ∷ []) wire
     ∷ reads wire ((1 ∷ []) ∷ (0 ∷ []) ∷ [])
     ∷ checks wire (answered tt)
     ∷ indexed wire 1 (0x40 ∷ 0x10 ∷ 0x50 ∷ 0x00 ∷ 0x00 ∷ 0x01 ∷ [])
     ∷ checks (take 20 sample ++ (0x41 ∷ [])) (refused 5)
     ∷ checks (a ∷ b ∷ c ∷ []) (refused 1)
     ∷ checks (0x80 ∷ 0x08 ∷ 0x00 ∷ 0x00 ∷ []) (refused 2)
-    ∷ files doubledBlocks doubled
+    ∷ packs doubledBlocks doubled
     ∷ reads doubled doubledBlocks
     ∷ checks doubled (answered tt)
     ∷ indexed doubled 1 doubledIndex
@@ -170,4 +193,5 @@ unfolding toBits bits string count onesAt select value field packed pack mention
     numbers indexBy markBytes numberBytes indexLength blockMarks sectionOf numberOf stepBy stepUp headOf besideRules
     orderQ head flatten visit visitOf parent parentOf children childCount said answersOf tableOn bufferAfter both
     headAndVisit refusedBy badList lookupRules lookup lookupLists lookedUp loopFigure loops roots
+    byDegrees recordFrom badLists fileRules file filed sum
 as-stated a b c = refl

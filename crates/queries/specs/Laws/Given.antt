@@ -10,6 +10,7 @@ use lib.Dec.{eqb}
 use Rattle.record.specs.Rules.{Rule, orderR, placeRules, layoutRules, checkRules}
 use Rattle.record.specs.Answers.{Answer, refused, answered, triedThen}
 use Rattle.record.specs.Operations.{check, degreeRules, degree, unpackRules, unpack}
+use Rattle.record.specs.Filing.{fileRules, file}
 use Rattle.record.specs.Laws.Given.{has, never-tried, never-then}
 use Rattle.forest.specs.Operations.{buildRules, build, loopFigure}
 use Rattle.queries.specs.View.{viewOf}
@@ -56,13 +57,14 @@ module _ (bytes index : List ℕ) where
   lacks-7 (v ∷ list) = rw (asked-7 v (headAndVisit bytes index v) refl, lacks-7 list)
 
 pub never-seven : (bytes : List ℕ) → NeverGiven 7 bytes
-unfolding has orderR layoutRules placeRules checkRules degreeRules unpackRules buildRules besideRules orderQ
-    ancestorRules childRules tableRules lookupRules check degree unpack loopFigure build parent ancestor children child
-    visited table lookup childOf
+unfolding has orderR layoutRules placeRules checkRules degreeRules unpackRules fileRules buildRules besideRules orderQ
+    ancestorRules childRules tableRules lookupRules check degree unpack file loopFigure build parent ancestor children
+    child visited table lookup childOf
 never-seven bytes = record {
   by-check = never-tried (checkRules bytes) refl tt;
   by-degree = λ v. never-tried (degreeRules bytes v) refl _;
   by-unpack = λ list. never-tried (unpackRules bytes list) refl tt;
+  by-file = λ degrees neighbours. never-tried (fileRules degrees neighbours bytes) refl tt;
   by-build = λ start work index. never-tried (buildRules bytes start work index) refl tt;
   by-loop-figure = never-tried (checkRules bytes) refl _;
   by-parent = λ index v. not-7 (orderQ bytes index v) refl (parent-twelve (viewOf bytes index) (v - 1));
