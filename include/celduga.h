@@ -17,8 +17,8 @@
  *   - no pointer is NULL, also where the length is 0 (data() of an empty std::vector may be NULL);
  *   - a pointer to uint16_t is aligned for it;
  *   - a buffer that is written overlaps no other slice of the call (slices that are only read may overlap);
- *   - the stack has room: 192 KiB for celduga_table, 152 KiB for celduga_build, celduga_check, celduga_unpack and
- *     celduga_loop_figure, 32 KiB for celduga_lookup, 16 KiB for others.
+ *   - the stack has room: 192 KiB for celduga_table, 152 KiB for celduga_build, celduga_check, celduga_unpack,
+ *     celduga_file and celduga_loop_figure, 32 KiB for celduga_lookup, 16 KiB for others.
  *
  * Threads. There is no state, and no pointer is kept after a call. Calls may run at once where none writes what another
  * is lent.
@@ -43,7 +43,7 @@ extern "C" {
 uint32_t celduga_version(void);
 
 /* The limits of n and m, and the greatest lengths: bytes of a record and of an index, numbers of a work slice and of a
-   list, and terminals of the list of celduga_lookup. */
+   list of neighbours, and terminals of the list of celduga_lookup. */
 #define CELDUGA_MAX_TERMINALS 4096
 #define CELDUGA_MAX_WIRES 16384
 #define CELDUGA_MAX_RECORD_LEN 53764
@@ -58,21 +58,23 @@ uint32_t celduga_version(void);
  * visit number nowhere.
  */
 enum celduga_refusal_number {
-    CELDUGA_TOO_SHORT = 1,         /* the record has under 4 bytes */
-    CELDUGA_OVER_LIMIT = 2,        /* n or m is over its limit */
-    CELDUGA_WRONG_LENGTH = 3,      /* the record has another length than n and m give */
-    CELDUGA_BAD_UNARY = 4,         /* D has not n ones, or begins with a zero */
-    CELDUGA_SPARE_SET = 5,         /* a bit after the last field is set */
-    CELDUGA_STRAY_NEIGHBOUR = 6,   /* a neighbour is no terminal, or the terminal itself */
-    CELDUGA_DOUBLED_NEIGHBOUR = 7, /* given no longer: a neighbour may stand several times in a block */
-    CELDUGA_ONE_SIDED_WIRE = 8,    /* two terminals mention each other a different number of times */
-    CELDUGA_SHORT_WORK = 9,        /* the work slice has fewer numbers than celduga_work_len(n) */
-    CELDUGA_WRONG_BUFFER = 10,     /* the index or a list has another length than n and m give */
-    CELDUGA_NO_TERMINAL = 11,      /* the terminal, or the visit number, is 0 or above n */
-    CELDUGA_BAD_INDEX = 12,        /* the index shows what no forest does */
-    CELDUGA_NO_CHILD = 13,         /* j is 0 or above the number of children */
-    CELDUGA_NO_START = 14,         /* the start is 0 or above n, unless both are 0 */
-    CELDUGA_BAD_LIST = 15          /* the list has over 512 terminals, or an answer list has another length */
+    CELDUGA_TOO_SHORT = 1,           /* the record has under 4 bytes */
+    CELDUGA_OVER_LIMIT = 2,          /* n or m is over its limit */
+    CELDUGA_WRONG_LENGTH = 3,        /* the record has another length than n and m give */
+    CELDUGA_BAD_UNARY = 4,           /* D has not n ones, or begins with a zero */
+    CELDUGA_SPARE_SET = 5,           /* a bit after the last field is set */
+    CELDUGA_STRAY_NEIGHBOUR = 6,     /* a neighbour is no terminal, or the terminal itself */
+    CELDUGA_DOUBLED_NEIGHBOUR = 7,   /* given no longer: a neighbour may stand several times in a block */
+    CELDUGA_ONE_SIDED_WIRE = 8,      /* two terminals mention each other a different number of times */
+    CELDUGA_SHORT_WORK = 9,          /* the work slice has fewer numbers than celduga_work_len(n) */
+    CELDUGA_WRONG_BUFFER = 10,       /* the index or a list has another length than n and m give */
+    CELDUGA_NO_TERMINAL = 11,        /* the terminal, or the visit number, is 0 or above n */
+    CELDUGA_BAD_INDEX = 12,          /* the index shows what no forest does */
+    CELDUGA_NO_CHILD = 13,           /* j is 0 or above the number of children */
+    CELDUGA_NO_START = 14,           /* the start is 0 or above n, unless both are 0 */
+    CELDUGA_BAD_LIST = 15,           /* the list has over 512 terminals, or an answer list has another length */
+    CELDUGA_BAD_LISTS = 16,          /* too many degrees, or their sum is odd, too large or not the number of neighbours */
+    CELDUGA_WRONG_RECORD_BUFFER = 17 /* the buffer for the record has another length than it */
 };
 
 /* Results */
@@ -109,6 +111,9 @@ static inline const char *celduga_refusal_text(unsigned refusal)
     case CELDUGA_NO_CHILD: return "there is no such child";
     case CELDUGA_NO_START: return "there is no such terminal to start from";
     case CELDUGA_BAD_LIST: return "the list is too long, or an answer list has another length";
+    case CELDUGA_BAD_LISTS:
+        return "the degrees are too many, or their sum is odd, too large or not the number of neighbours";
+    case CELDUGA_WRONG_RECORD_BUFFER: return "the buffer has another length than the record";
     default: return "no refusal has this number";
     }
 }
@@ -138,7 +143,7 @@ static inline size_t celduga_index_len(size_t n, size_t m)
 }
 
 /* The numbers that the work slice of celduga_build and celduga_table must have at least, and those of the list of
-   celduga_unpack. */
+   celduga_unpack and of the neighbours of celduga_file. */
 static inline size_t celduga_work_len(size_t n)
 {
     return 8 * n;
@@ -159,6 +164,17 @@ uint32_t celduga_degree(const uint8_t *record, size_t record_len, size_t v);
 
 /* Writes the neighbours of all terminals to the list, block after block. No value. Refuses 1 to 6, 8, 10. */
 uint32_t celduga_unpack(const uint8_t *record, size_t record_len, uint16_t *list, size_t list_len);
+
+/*
+ * Writes the record with these degrees, one for each terminal from 1 on, and these neighbours, block after block as
+ * celduga_unpack gives them: for n degrees and 2m neighbours, celduga_record_len(n, m) bytes. A record is written again
+ * byte by byte from what celduga_degree answers for each terminal and what celduga_unpack writes. No value. Refuses 16
+ * where there are more than CELDUGA_MAX_TERMINALS degrees, or their sum is odd, above CELDUGA_MAX_LIST_LEN or not
+ * neighbours_len; then what celduga_check refuses of that record, which can be 6 and 8 only, and 6 also where a
+ * neighbour is 0 or above n; then 17 where record_len is not the record's.
+ */
+uint32_t celduga_file(const uint16_t *degrees, size_t degrees_len, const uint16_t *neighbours, size_t neighbours_len,
+    uint8_t *record, size_t record_len);
 
 /*
  * Where terminal v's neighbours stand in a list of list_len numbers that celduga_unpack filled: the high 32 bits say

@@ -269,7 +269,9 @@ def limits(page):
     same("the longest index", [f"{index_length(n, m):,}"], sought(r"bytes, so at most\s([\d,]+)\.", text))
     rules = tabled(titled(page, "Refusals"), "number", "name", "is broken where", "given by")
     asked = f"the list has more than {plain.MOST_ASKED} terminals, or an answer list has another length than it"
-    same("rule 15", ["15", "`BadList`", asked, "Lookup"], rules[-1])
+    same("rule 15", ["15", "`BadList`", asked, "Lookup"], rules[-3])
+    summed = f"their sum is odd, above {2 * m:,} or not the number of neighbours"
+    same("rule 16", ["16", "`BadLists`", f"there are more than {n:,} degrees, or {summed}", "File"], rules[-2])
     same("the longest list", [str(plain.MOST_ASKED)], sought(r"takes a list of at most ([\d,]+) terminals", page))
     same("what the program reads", [f"{longest + 1:,}"], sought(r"reads at most ([\d,]+) bytes", page))
     same("the largest loop figure", [f"{m - 1:,}"], sought(r"number of looms, 0 to ([\d,]+) \|", page))

@@ -13,6 +13,8 @@ static uint16_t list[2 * M];
 static uint8_t forest[15];
 static uint16_t visits[N], parents[N], children[N], heads[N];
 static uint16_t asked[MOST + 1], their_heads[MOST + 1], their_visits[MOST + 1];
+static uint16_t degrees[N + 1], neighbours[2 * M + 1];
+static uint8_t filed[sizeof sample + 1];
 static const uint8_t empty[] = {0, 0, 0, 0};
 
 static void sizes(size_t n, size_t m)
@@ -39,9 +41,9 @@ static void numbers(const char *name, const uint16_t *from, size_t count)
     putchar('\n');
 }
 
-static void shown(const uint8_t *from, size_t count)
+static void shown(const char *name, const uint8_t *from, size_t count)
 {
-    printf("index:");
+    printf("%s:", name);
     for (size_t i = 0; i < count; i++)
         printf(" %02X", (unsigned)from[i]);
     putchar('\n');
@@ -84,6 +86,13 @@ static void lookup(const char *call, size_t index_len, size_t list_len, size_t h
     numbers("visits", their_visits, N);
 }
 
+/* File with lists and a buffer of these lengths, and what the buffer holds then, with the byte behind it. */
+static void file(const char *call, size_t degrees_len, size_t neighbours_len, size_t record_len)
+{
+    told(call, celduga_file(degrees, degrees_len, neighbours, neighbours_len, filed, record_len));
+    shown("filed", filed, sizeof filed);
+}
+
 /* Where the part of terminal v stands in a list of so many numbers, and its numbers. */
 static void part(size_t list_len, size_t v)
 {
@@ -115,7 +124,7 @@ int main(void)
     header(sample);
     header(mixed);
     header(highest);
-    for (unsigned refusal = 0; refusal <= 17; refusal++)
+    for (unsigned refusal = 0; refusal <= 19; refusal++)
         printf("refusal %u: %s\n", refusal, celduga_refusal_text(refusal));
     printf("refusal %u: %s\n", 0xFFFFFFFFu, celduga_refusal_text(0xFFFFFFFFu));
 
@@ -130,17 +139,38 @@ int main(void)
         part(2 * M, v);
     part(2 * M - 1, 3);
     part(2 * M + 1, 3);
+    for (size_t v = 1; v <= N; v++)
+        degrees[v - 1] = (uint16_t)celduga_value(celduga_degree(r, rl, v));
+    memcpy(neighbours, list, sizeof list);
+    memset(filed, 0xA5, sizeof filed);
+    file("file of 5 degrees", N - 1, 2 * M, rl);
+    file("file of 9 neighbours", N, 2 * M - 1, rl);
+    file("file of 11 neighbours", N, 2 * M + 1, rl);
+    file("file to 20", N, 2 * M, rl - 1);
+    file("file to 22", N, 2 * M, rl + 1);
+    neighbours[9] = N + 1;
+    file("file with 7", N, 2 * M, rl);
+    file("file with 7 to 20", N, 2 * M, rl - 1);
+    neighbours[9] = 4;
+    file("file with 4 for 5", N, 2 * M, rl);
+    file("file with 4 for 5 of 11 neighbours to 20", N, 2 * M + 1, rl - 1);
+    neighbours[9] = 5;
+    file("file", N, 2 * M, rl);
+    printf("the same: %d\n", memcmp(filed, sample, sizeof sample) == 0);
+    /* a terminal more, without wires */
+    file("file of 7 degrees", N + 1, 2 * M, celduga_record_len(N + 1, M));
+    file("file of none", 0, 0, sizeof empty);
     memset(forest, 0xA5, sizeof forest);
     build("build from 0", 0, 8 * N, xl);
     build("build from 7", N + 1, 8 * N, xl);
     build("build from the largest", SIZE_MAX, 8 * N, xl);
     build("build from 0 in 47", 0, 8 * N - 1, xl);
     build("build from 0 to 14", 0, 8 * N, xl - 1);
-    shown(forest, xl);
+    shown("index", forest, xl);
     build("build from 4", 4, 8 * N, xl);
-    shown(forest, xl);
+    shown("index", forest, xl);
     build("build from 1", 1, 8 * N, xl);
-    shown(forest, xl);
+    shown("index", forest, xl);
     memset(heads, 1, sizeof heads);
     table("table of 5", 1, 8 * N, N - 1);
     table("table in 47", 1, 8 * N - 1, N);

@@ -96,6 +96,7 @@ def calls():
         yield from (f"part {v} of 10: {place}", f"neighbours:{''.join(f' {w}' for w in block)}")
     for room in 9, 11:
         yield from (f"part 3 of {room}: 0 0 at 0", "neighbours:")
+    yield from files()
     yield from ("build from 0: 14 0", "build from 7: 14 0", "build from the largest: 14 0")
     yield from ("build from 0 in 47: 9 0", "build from 0 to 14: 10 0", f"index: {spaced(['A5'] * 15)}")
     # 4 enters 3, 3 enters 2 and 2 enters 1; then come 5 and 6
@@ -118,6 +119,21 @@ def calls():
     yield from lookups(spaced)
     # D is 1001001000101010: places 1, 4 and 7 are the first three ones, and 11 is the fourth
     yield from ("rank: 3", "select: 11")
+
+
+def files():
+    """What it must print of File on the sample's lists. Where that refuses, nothing is written; 16 comes before 6, 8 and
+    17, and 17 behind them. The byte behind the buffer stays."""
+    shown = lambda data: f"filed: {data.hex(' ').upper()}"
+    before, sample = b"\xa5" * 22, record(SAMPLE)
+    refused = {"of 5 degrees": 16, "of 9 neighbours": 16, "of 11 neighbours": 16, "to 20": 17, "to 22": 17}
+    refused.update({"with 7": 6, "with 7 to 20": 6, "with 4 for 5": 8, "with 4 for 5 of 11 neighbours to 20": 16})
+    for call, refusal in refused.items():
+        yield from (f"file {call}: {refusal} 0", shown(before))
+    yield from ("file: 0 0", shown(sample + b"\xa5"), "the same: 1")
+    longer = record([*SAMPLE, []])
+    yield from ("file of 7 degrees: 0 0", shown(longer + before[len(longer) :]))
+    yield from ("file of none: 0 0", shown(bytes(4) + (longer + before[len(longer) :])[4:]))
 
 
 def lookups(spaced):
@@ -152,7 +168,7 @@ def header_calls(compiler, room):
 
 RUST_WORDS = """
 fn main() {
-    for number in 0..=17 {
+    for number in 0..=19 {
         match celduga::Refusal::from_number(number) {
             Some(refusal) => println!("{refusal}"),
             None => println!(),
@@ -163,13 +179,13 @@ fn main() {
 
 
 def refusals_in_words(room):
-    """The header's words for a refusal are those of the Rust package, 1 to 15, and it has others for 0 and for all
+    """The header's words for a refusal are those of the Rust package, 1 to 17, and it has others for 0 and for all
     above."""
     rust = rust_program(room, "words", RUST_WORDS).splitlines()
-    known = rust[1:16]
-    whole = len(rust) == 18 and len(set(known)) == 15 and all(known)
-    demand(whole, f"the Rust package has other refusals than 1 to 15: {rust}")
-    demand(not rust[0] and not any(rust[16:]), f"the Rust package has more refusals than 1 to 15: {rust}")
+    known = rust[1:18]
+    whole = len(rust) == 20 and len(set(known)) == 17 and all(known)
+    demand(whole, f"the Rust package has other refusals than 1 to 17: {rust}")
+    demand(not rust[0] and not any(rust[18:]), f"the Rust package has more refusals than 1 to 17: {rust}")
     none = "no refusal has this number"
     expected = [f"refusal {number}: {words}" for number, words in enumerate(["nothing is refused", *known, none, none])]
     for compiler in C, CPP:

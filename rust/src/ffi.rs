@@ -267,7 +267,7 @@ mod tests {
 
     #[test]
     fn the_high_half_is_the_number_of_the_refusal() {
-        for number in 1..=15 {
+        for number in 1..=17 {
             assert_eq!(
                 decode(number << 16).map_err(|refusal| u32::from(refusal.number())),
                 Err(number)
@@ -283,8 +283,8 @@ mod tests {
     }
 
     #[test]
-    #[should_panic(expected = "no name: 16")]
+    #[should_panic(expected = "no name: 18")]
     fn another_number_is_no_answer() {
-        let _ = decode(16 << 16);
+        let _ = decode(18 << 16);
     }
 }

@@ -52,10 +52,14 @@ pub enum Refusal {
     /// 15: the list has more than [`MAX_LOOKUP_LEN`](crate::MAX_LOOKUP_LEN) terminals, or an answer list has another
     /// length.
     BadList = 15,
+    /// 16: there are more than 4,096 degrees, or their sum is odd, above 32,768 or not the number of neighbours.
+    BadLists = 16,
+    /// 17: the buffer for the record has another length than the record.
+    WrongRecordBuffer = 17,
 }
 
 impl Refusal {
-    const ALL: [Refusal; 15] = [
+    const ALL: [Refusal; 17] = [
         Refusal::TooShort,
         Refusal::OverLimit,
         Refusal::WrongLength,
@@ -71,6 +75,8 @@ impl Refusal {
         Refusal::NoChild,
         Refusal::NoStart,
         Refusal::BadList,
+        Refusal::BadLists,
+        Refusal::WrongRecordBuffer,
     ];
 
     /// The refusal's number, from 1.
@@ -104,6 +110,10 @@ impl fmt::Display for Refusal {
             Refusal::NoChild => "there is no such child",
             Refusal::NoStart => "there is no such terminal to start from",
             Refusal::BadList => "the list is too long, or an answer list has another length",
+            Refusal::BadLists => {
+                "the degrees are too many, or their sum is odd, too large or not the number of neighbours"
+            }
+            Refusal::WrongRecordBuffer => "the buffer has another length than the record",
         };
         f.pad(words)
     }

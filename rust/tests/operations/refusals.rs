@@ -24,7 +24,7 @@ fn refused_records() -> [Vec<u8>; 7] {
 }
 
 fn refusal(number: usize) -> Refusal {
-    Refusal::from_number(number as u16).expect("a number from 1 to 15")
+    Refusal::from_number(number as u16).expect("a number from 1 to 17")
 }
 
 /// Build refuses with this start, and the buffer stays.
@@ -341,9 +341,9 @@ fn lookup_refuses_in_list_order() {
 #[test]
 fn numbers_and_words() {
     let refusals: Vec<Refusal> = (0..=20).filter_map(Refusal::from_number).collect();
-    assert!(refusals.iter().map(|refusal| refusal.number()).eq(1..=15));
+    assert!(refusals.iter().map(|refusal| refusal.number()).eq(1..=17));
     assert_eq!(refusals[0], Refusal::TooShort);
-    assert_eq!(refusals[14], Refusal::BadList);
+    assert_eq!(refusals[16], Refusal::WrongRecordBuffer);
     // celduga_refusal_text in include/celduga.h has the same words
     let words = [
         "the record has under 4 bytes",
@@ -361,6 +361,8 @@ fn numbers_and_words() {
         "there is no such child",
         "there is no such terminal to start from",
         "the list is too long, or an answer list has another length",
+        "the degrees are too many, or their sum is odd, too large or not the number of neighbours",
+        "the buffer has another length than the record",
     ];
     assert!(refusals.iter().map(|refusal| refusal.to_string()).eq(words));
     let error: Box<dyn std::error::Error> = Refusal::OneSidedWire.into();
