@@ -1,6 +1,6 @@
 """A plain program for document 01, in its order and from its sentences: bits, record, forest, operations, listing. From
-document 02 are the start of the search, what a wire is where several run between the same two terminals, Lookup, and
-what the loop figure counts.
+document 02 are the start of the search, what a wire is where several run between the same two terminals, Lookup, what
+the loop figure counts, and File.
 
 It shares no idea with the product: a bit string is a string of characters, the search is a recursion, a wire is its two
 places, and it has its marks in B where taking it out leaves its ends unjoined. An operation returns its answer, or
@@ -12,11 +12,13 @@ from collections import Counter
 from functools import lru_cache
 from itertools import cycle
 
-from packing import bits_of, fields_of, index_layout, index_length, number, record_length, whole
+from packing import bits_of, fields_of, index_layout, index_length, layout, number, record_length, whole
 
 MOST_TERMINALS, MOST_WIRES = 4096, 16384
 # so many terminals may one call of Lookup ask for
 MOST_ASKED = 512
+# so large may the sum of the degrees be that File takes
+MOST_LISTED = 32768
 
 # the search enters the terminals of a path one inside the other
 sys.setrecursionlimit(2 * MOST_TERMINALS)
@@ -331,6 +333,18 @@ def unpack(data, room):
     _, m = sizes(data)
     refuse(10, room != 2 * m)
     return [w for block in blocks_of(data) for w in block]
+
+
+def file(degrees, neighbours, room):
+    """The record of a list of degrees and one list of neighbours, for the length of the buffer."""
+    n, total = len(degrees), sum(degrees)
+    refuse(16, n > MOST_TERMINALS or total % 2 == 1 or total > MOST_LISTED or len(neighbours) != total)
+    refuse(6, any(w == 0 or w > n for w in neighbours))
+    d = "".join("1" + "0" * degree for degree in degrees)
+    data = layout(n, total // 2, d, [w - 1 for w in neighbours])
+    check(data)
+    refuse(17, room != len(data))
+    return data
 
 
 def part(data, room, v):
