@@ -17,10 +17,10 @@ from programs import HEADER
 
 GUARD = bytes(range(0xC0, 0x100))
 
-# The four lists of the table, the two that Lookup writes, and of every slice the bytes of one number; "asked" is the
-# list of the terminals that Lookup is asked for
-LISTS, ANSWERS = ["visits", "parents", "children", "heads"], ["heads", "visits"]
-WIDTHS = {"record": 1, "index": 1, "work": 2, "list": 2, "asked": 2, **dict.fromkeys(LISTS, 2)}
+# The four lists of the table, the two that Lookup writes, the two that File reads, and of every slice the bytes of one
+# number; "asked" is the list of the terminals that Lookup is asked for, and "filed" the buffer to which File writes
+LISTS, ANSWERS, FILED = ["visits", "parents", "children", "heads"], ["heads", "visits"], ["degrees", "listed"]
+WIDTHS = {"record": 1, "index": 1, "work": 2, "list": 2, "asked": 2, "filed": 1, **dict.fromkeys(LISTS + FILED, 2)}
 
 # What each returns, and what it takes: slices by their names above, all others are numbers
 FUNCTIONS = {
@@ -38,6 +38,7 @@ FUNCTIONS = {
     "lookup": (ctypes.c_uint32, ["record", "index", "asked", *ANSWERS]),
     "degree": (ctypes.c_uint32, ["record", "v"]),
     "unpack": (ctypes.c_uint32, ["record", "list"]),
+    "file": (ctypes.c_uint32, [*FILED, "filed"]),
     "neighbours": (ctypes.c_uint64, ["record", "room", "v"]),
     "loop_figure": (ctypes.c_uint32, ["record"]),
     "rank": (ctypes.c_size_t, ["record", "start", "places", "p"]),
@@ -46,7 +47,7 @@ FUNCTIONS = {
 SLICE, NUMBER = [ctypes.c_void_p, ctypes.c_size_t], [ctypes.c_size_t]
 # Those whose result has a refusal's number, and what each writes its result to
 REFUSING = {name for name, (kind, taken) in FUNCTIONS.items() if kind is ctypes.c_uint32 and taken}
-WRITTEN = {"build": ["index"], "table": LISTS, "unpack": ["list"], "lookup": ANSWERS}
+WRITTEN = {"build": ["index"], "table": LISTS, "unpack": ["list"], "lookup": ANSWERS, "file": ["filed"]}
 
 
 # The library
@@ -151,7 +152,7 @@ def told(argument, value):
     """A number, or in a few words what a slice holds before the call."""
     if argument not in WIDTHS:
         return value
-    return shown(value) if argument == "asked" else f"of {len(value)} bytes"
+    return shown(value) if argument in ("asked", *FILED) else f"of {len(value)} bytes"
 
 
 class Compared:
@@ -194,13 +195,16 @@ class Compared:
 
     def write(self, name, outcome, *given):
         """An operation that writes: the refusal and what is written to each buffer of the result, as plain.py says.
-        Behind the record, in order, come its numbers and what the lent slices hold before. All but those buffers, and
-        the work slice, hold the same after the call."""
+        Behind the record, where it takes one, come in order its numbers and what the lent slices hold before. All but
+        those buffers, and the work slice, hold the same after the call."""
         refusal, written = outcome
-        taken = list(zip(FUNCTIONS[name][1][1:], given))
+        names = FUNCTIONS[name][1]
+        of_record = names[0] == "record"
+        taken = list(zip(names[1:] if of_record else names, given))
         held = {argument: data for argument, data in taken if argument in WIDTHS}
         passed = [lent[argument].hold(value) if argument in held else (value,) for argument, value in taken]
-        found, expected = self.call(name, *self.record, *chain(*passed)), returned(refusal, None)
+        given = chain(self.record if of_record else (), *passed)
+        found, expected = self.call(name, *given), returned(refusal, None)
         words = "with " + ", ".join(f"{argument} {told(argument, value)}" for argument, value in taken)
         self.settle(found == expected, name, words, "gives", hex(found), "for", hex(expected))
         assert refusal or len(written) == len(WRITTEN[name])
