@@ -13,6 +13,14 @@ mod c {
         pub fn celduga_check(record: *const u8, record_len: usize) -> u32;
         pub fn celduga_degree(record: *const u8, record_len: usize, v: usize) -> u32;
         pub fn celduga_unpack(record: *const u8, record_len: usize, list: *mut u16, list_len: usize) -> u32;
+        pub fn celduga_file(
+            degrees: *const u16,
+            degrees_len: usize,
+            neighbours: *const u16,
+            neighbours_len: usize,
+            record: *mut u8,
+            record_len: usize,
+        ) -> u32;
         pub fn celduga_neighbours(record: *const u8, record_len: usize, list_len: usize, v: usize) -> u64;
         pub fn celduga_loop_figure(record: *const u8, record_len: usize) -> u32;
         pub fn celduga_build(
@@ -130,6 +138,20 @@ pub fn degree(record: &[u8], v: usize) -> Result<u16, Refusal> {
 pub fn unpack(record: &[u8], list: &mut [u16]) -> Result<u16, Refusal> {
     // SAFETY: the list is borrowed to be written, so it does not overlap the record.
     decode(unsafe { c::celduga_unpack(record.as_ptr(), record.len(), list.as_mut_ptr(), list.len()) })
+}
+
+pub fn file(degrees: &[u16], neighbours: &[u16], record: &mut [u8]) -> Result<u16, Refusal> {
+    // SAFETY: the record is borrowed to be written, so it overlaps neither list.
+    decode(unsafe {
+        c::celduga_file(
+            degrees.as_ptr(),
+            degrees.len(),
+            neighbours.as_ptr(),
+            neighbours.len(),
+            record.as_mut_ptr(),
+            record.len(),
+        )
+    })
 }
 
 pub fn neighbours(record: &[u8], list_len: usize, v: usize) -> Range<usize> {
@@ -257,7 +279,8 @@ pub fn select(bytes: &[u8], start: usize, places: usize, k: usize) -> usize {
 
 #[cfg(test)]
 mod tests {
-    use super::{decode, part};
+    use super::{decode, file, part};
+    use crate::Refusal;
 
     #[test]
     fn the_low_half_is_the_value() {
@@ -273,6 +296,26 @@ mod tests {
                 Err(number)
             );
         }
+    }
+
+    #[test]
+    fn a_record_is_filed_to_its_own_length_alone() {
+        let wire = [0x00, 0x10, 0x00, 0x1A, 0x00, 0x10, 0x00];
+        for len in (0..20).filter(|&len| len != wire.len()) {
+            let mut record = [0xA5; 20];
+            assert_eq!(
+                file(&[1, 1], &[2, 1], &mut record[..len]),
+                Err(Refusal::WrongRecordBuffer)
+            );
+            // 16, 6 and 8 come before
+            assert_eq!(file(&[1, 1], &[2], &mut record[..len]), Err(Refusal::BadLists));
+            assert_eq!(file(&[1, 1], &[2, 3], &mut record[..len]), Err(Refusal::StrayNeighbour));
+            assert_eq!(file(&[2, 0], &[2, 2], &mut record[..len]), Err(Refusal::OneSidedWire));
+            assert_eq!(record, [0xA5; 20]);
+        }
+        let mut record = [0xA5; 7];
+        assert_eq!(file(&[1, 1], &[2, 1], &mut record), Ok(0));
+        assert_eq!(record, wire);
     }
 
     #[test]

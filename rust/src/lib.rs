@@ -48,11 +48,12 @@
 //!
 //! The functions below mirror the library's operations one by one. They take bytes and lent buffers, and answer for all
 //! bytes, also for damaged records and for indexes that nobody built. Where one refuses, the buffer for the result is
-//! left unchanged.
+//! left unchanged. [`file`](fn@file) and [`file_lists`] are lent no buffer, and return the record.
 //!
 //! What the crate does beside these calls is tested, not proved: it reads the header for [`Sizes`] and a terminal's
-//! neighbours for the iterators, climbs by [`Index::parent`], gathers the terminals with one head to a [`Section`], and
-//! puts 0 for a terminal that 16 bits don't hold in [`Index::lookup`].
+//! neighbours for the iterators, climbs by [`Index::parent`], gathers the terminals with one head to a [`Section`], puts
+//! 0 for a terminal that 16 bits don't hold in [`Index::lookup`], finds the length of the record in [`file`](fn@file),
+//! and puts the lists of [`file_lists`] in a row, or refuses 16 where they are longer than a record's.
 //!
 //! # The library
 //!
@@ -68,7 +69,7 @@
 //! |---|---|
 //! | [`table`](fn@table), [`Record::table`], [`Record::table_from`], [`Record::sections`] | 192 KiB |
 //! | [`check`], [`unpack`], [`loop_figure`], [`Record::new`], [`Record::unpack`], [`Record::loop_figure`] | 152 KiB |
-//! | [`build`], [`Record::index`], [`Record::index_from`] | 152 KiB |
+//! | [`build`], [`Record::index`], [`Record::index_from`], [`file`](fn@file), [`file_lists`] | 152 KiB |
 //! | [`lookup`], [`Index::lookup`] | 32 KiB |
 //! | all others | 16 KiB |
 //!
@@ -98,8 +99,8 @@ pub use index::Index;
 pub use neighbours::Neighbours;
 pub use numbers::{Dfi, Vertex};
 pub use operations::{
-    ancestor, build, check, child, children, degree, head, lookup, loop_figure, neighbours, parent, rank, select,
-    table, unpack, visit, visited,
+    ancestor, build, check, child, children, degree, file, file_lists, head, lookup, loop_figure, neighbours, parent,
+    rank, select, table, unpack, visit, visited,
 };
 pub use record::Record;
 pub use refusal::Refusal;

@@ -1,8 +1,11 @@
 //! The operations, one function each, for all bytes.
 
+use alloc::vec;
+use alloc::vec::Vec;
 use core::ops::Range;
 
-use crate::{ffi, Dfi, Refusal, Vertex};
+use crate::sizes::{MAX_LIST_LEN, MAX_TERMINALS};
+use crate::{ffi, Dfi, Refusal, Sizes, Vertex};
 
 fn vertex(number: u16) -> Vertex {
     Vertex(number.into())
@@ -43,6 +46,68 @@ pub fn degree(record: &[u8], v: Vertex) -> Result<usize, Refusal> {
 /// Refusals 1 to 6, 8, 10, tried in this order.
 pub fn unpack(record: &[u8], list: &mut [u16]) -> Result<(), Refusal> {
     ffi::unpack(record, list).map(drop)
+}
+
+/// The record with these degrees, one for each terminal from 1 on, and these neighbours, block after block as
+/// [`unpack`] gives them. A record that is unpacked is filed again with its own bytes.
+///
+/// The buffer has the record's length always, so 17 is never refused.
+///
+/// # Errors
+///
+/// Refusals 16, 6, 8, tried in this order. 6 is also given where a neighbour is 0 or above the number of degrees.
+///
+/// # Examples
+///
+/// ```
+/// use celduga::{file, Refusal};
+///
+/// // 1: 2; 2: 1 3; 3: 2
+/// let path = file(&[1, 2, 1], &[2, 1, 3, 2])?;
+/// assert_eq!(path, [0x00, 0x18, 0x00, 0x2A, 0x40, 0x02, 0x00, 0x00, 0x04, 0x00, 0x20]);
+/// assert_eq!(file(&[1, 2, 1], &[2, 1, 3]), Err(Refusal::BadLists));
+/// assert_eq!(file(&[1, 2, 1], &[2, 1, 4, 2]), Err(Refusal::StrayNeighbour));
+/// assert_eq!(file(&[1, 2, 1], &[2, 1, 1, 2]), Err(Refusal::OneSidedWire));
+/// # Ok::<(), Refusal>(())
+/// ```
+pub fn file(degrees: &[u16], neighbours: &[u16]) -> Result<Vec<u8>, Refusal> {
+    // lists of other lengths are refused, whatever the buffer is
+    let len = Sizes::of_lists(degrees.len(), neighbours.len()).map_or(0, Sizes::record_len);
+    let mut record = vec![0; len];
+    ffi::file(degrees, neighbours, &mut record)?;
+    Ok(record)
+}
+
+/// The record with these adjacency lists: the neighbours of each terminal, from terminal 1 on. It is
+/// [`file`](fn@file) with their lengths and with all of them in a row.
+///
+/// # Errors
+///
+/// Refusals 16, 6, 8, tried in this order. 16 is given for more than 4,096 lists, and for an odd number of neighbours
+/// or more than 32,768.
+///
+/// # Examples
+///
+/// ```
+/// use celduga::{file_lists, Record, Refusal, Vertex};
+///
+/// let path = file_lists(&[vec![2], vec![1, 3], vec![2]])?;
+/// assert!(Record::new(&path)?.neighbours(Vertex(2))?.eq([Vertex(1), Vertex(3)]));
+/// assert_eq!(file_lists(&[vec![2], vec![1, 3]]), Err(Refusal::BadLists));
+/// assert_eq!(file_lists(&[[2], [2]]), Err(Refusal::StrayNeighbour));
+/// # Ok::<(), Refusal>(())
+/// ```
+pub fn file_lists<L: AsRef<[u16]>>(lists: &[L]) -> Result<Vec<u8>, Refusal> {
+    let lens = || lists.iter().map(|list| list.as_ref().len());
+    let total = lens().try_fold(0, |sum: usize, len| {
+        sum.checked_add(len).filter(|&sum| sum <= MAX_LIST_LEN)
+    });
+    if lists.len() > MAX_TERMINALS || total.is_none() {
+        return Err(Refusal::BadLists);
+    }
+    let degrees: Result<Vec<u16>, _> = lens().map(u16::try_from).collect();
+    let neighbours: Vec<u16> = lists.iter().flat_map(|list| list.as_ref()).copied().collect();
+    file(&degrees.map_err(|_| Refusal::BadLists)?, &neighbours)
 }
 
 /// Where the neighbours of terminal `v` stand in a list of so many numbers that [`unpack`] filled.

@@ -1,7 +1,13 @@
-//! The numbers in a record's header, the lengths that follow from them, and the one that is fixed.
+//! The numbers in a record's header, the lengths that follow from them, and those that are fixed.
 
 /// The terminals that the list of [`lookup`](crate::lookup) and of [`Index::lookup`](crate::Index::lookup) has at most.
 pub const MAX_LOOKUP_LEN: usize = 512;
+
+/// The terminals that a record has at most.
+pub(crate) const MAX_TERMINALS: usize = 4096;
+
+/// The neighbours that the blocks of a record have at most, all together.
+pub(crate) const MAX_LIST_LEN: usize = 32768;
 
 /// The numbers of terminals and wires in a record's header, n and m, and the lengths that they give.
 ///
@@ -27,6 +33,15 @@ impl Sizes {
         Some(Sizes {
             terminals: (header >> 19) as u16,
             wires: (header >> 4 & 0x7FFF) as u16,
+        })
+    }
+
+    /// The sizes of a record with so many degrees and neighbours; `None` where none has them.
+    pub(crate) fn of_lists(degrees: usize, neighbours: usize) -> Option<Sizes> {
+        let within = degrees <= MAX_TERMINALS && neighbours <= MAX_LIST_LEN && neighbours % 2 == 0;
+        within.then_some(Sizes {
+            terminals: degrees as u16,
+            wires: (neighbours / 2) as u16,
         })
     }
 
@@ -65,7 +80,8 @@ impl Sizes {
         8 * self.terminals()
     }
 
-    /// The numbers of the list of [`unpack`](crate::unpack).
+    /// The numbers of the list of [`unpack`](crate::unpack), and of the neighbours of
+    /// [`file`](fn@crate::file).
     #[must_use]
     pub fn list_len(self) -> usize {
         2 * self.wires()

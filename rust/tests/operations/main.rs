@@ -1,5 +1,6 @@
 //! The package: the lines of the sample record, every refusal, and the views.
 
+mod filing;
 mod lookups;
 mod packing;
 mod refusals;
