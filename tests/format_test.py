@@ -270,8 +270,10 @@ def limits(page):
     rules = tabled(titled(page, "Refusals"), "number", "name", "is broken where", "given by")
     asked = f"the list has more than {plain.MOST_ASKED} terminals, or an answer list has another length than it"
     same("rule 15", ["15", "`BadList`", asked, "Lookup"], rules[-3])
-    summed = f"their sum is odd, above {2 * m:,} or not the number of neighbours"
-    same("rule 16", ["16", "`BadLists`", f"there are more than {n:,} degrees, or {summed}", "File"], rules[-2])
+    filed = f"more than {n:,} degrees; their sum is odd, above {plain.MOST_LISTED:,}, or not the number of neighbours"
+    same("rule 16", ["16", "`BadLists`", filed, "File"], rules[-2])
+    told = sought(r"at most ([\d,]+) degrees, their sum is even and at most ([\d,]+),", page)
+    same("what File takes", [(f"{n:,}", f"{plain.MOST_LISTED:,}")], told)
     same("the longest list", [str(plain.MOST_ASKED)], sought(r"takes a list of at most ([\d,]+) terminals", page))
     same("what the program reads", [f"{longest + 1:,}"], sought(r"reads at most ([\d,]+) bytes", page))
     same("the largest loop figure", [f"{m - 1:,}"], sought(r"number of looms, 0 to ([\d,]+) \|", page))
@@ -342,6 +344,7 @@ CALLS = {
     "Check": check,
     "Degree": plain.degree,
     "Unpack": plain.unpack,
+    "File": plain.file,
     "Neighbours": plain.part,
     "Loop figure": plain.loop_figure,
     "Build": plain.build,
@@ -361,6 +364,7 @@ CALLS = {
 # An answer in the page's words, where these are not just its number.
 WORDS = {
     "Unpack": spaced,
+    "File": hexadecimal,
     "Neighbours": lambda part: f"{part[1]} numbers from number {part[0] + 1} on",
     "Build": hexadecimal,
     "Table": lambda columns: "; ".join(map(spaced, columns)),
@@ -385,7 +389,7 @@ def operations(page):
     shown = tabled(titled(page, "Operations"), "operation", "takes", "tries, in order", "answers")
     same("the operations", sorted(set(CALLS) - {"Rank", "Select"}), sorted(row[0] for row in shown))
     refused = tabled(titled(page, "Small records"), "record", "what it is", "refused")
-    lengths = [0, 1, 2, 5, 6, 10, 15, 48]
+    lengths = [0, 1, 2, 5, 6, 7, 10, 15, 48]
     pool = {
         "record": [*small_records(page).values(), *(bytes.fromhex(row[0]) for row in refused)],
         "index": [*indexes(page).values()],
@@ -393,6 +397,9 @@ def operations(page):
         "work": lengths,
         "index buffer": lengths,
         "four lists": [(6, 6, 6, 6), (5, 6, 6, 6), (6, 5, 6, 6), (6, 6, 5, 6), (6, 6, 6, 5)],
+        "degrees": [[], [1, 1], [2, 0], [2, 1], [0] * (plain.MOST_TERMINALS + 1)],
+        "neighbours": [[], [2, 1], [2, 2], [1, 2], [0, 1], [3, 1], [2, 1, 1]],
+        "record buffer": lengths,
         "terminals": [[], [1], [2], [0], [1, 2], [1, 7], [1] * (plain.MOST_ASKED + 1)],
         "two lists": [(0, 0), (1, 1), (2, 2), (1, 2), (2, 1), (plain.MOST_ASKED + 1, plain.MOST_ASKED + 1)],
     }
@@ -403,20 +410,20 @@ def operations(page):
             flat = [x for argument in given for x in (argument if isinstance(argument, tuple) else [argument])]
             found.add(answer(CALLS[operation], *flat)[0])
         expected = {0}.union(*(letters[letter] for letter in re.findall("order ([A-Z])", tries)))
-        expected |= {int(number) for number in re.findall(r"[;:] (\d+)", tries)}
+        expected |= {int(number) for number in re.findall(r"(?:^|[;:] )(\d+)", tries)}
         # it refuses without a number
         same(f"the refusals of {operation}", found, {0} if operation == "Neighbours" else expected)
 
 
-def terminals_in(text):
-    """A list of terminals as the page writes it, [6 2], or [1 × 3] for [1 1 1]."""
+def numbers_in(text):
+    """A list of numbers as the page writes it, [6 2], or [1 × 3] for [1 1 1]."""
     times = re.fullmatch(r"\[(\d+) × (\d+)\]", text)
     return [int(times[1])] * int(times[2]) if times else [int(v) for v in text[1:-1].split()]
 
 
 def given_as(word, names):
-    """What a call is given: a number, a list of terminals, or what has this name."""
-    return int(word) if word.isdigit() else terminals_in(word) if word.startswith("[") else names[word]
+    """What a call is given: a number, a list of numbers, or what has this name."""
+    return int(word) if word.isdigit() else numbers_in(word) if word.startswith("[") else names[word]
 
 
 def called(page, call):
@@ -433,7 +440,7 @@ def examples(page):
     for call, words, _ in shown:
         operation, refusal, found = called(page, call)
         same(call, f"refused {refusal}" if refusal else WORDS.get(operation, str)(found), words)
-    missing = {f"refused {number}" for number in range(9, 16)} - {row[1] for row in shown}
+    missing = {f"refused {number}" for number in range(9, 18)} - {row[1] for row in shown}
     demand(not missing, f"there is no example of {missing}")
 
 
