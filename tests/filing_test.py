@@ -1,8 +1,8 @@
-"""Compares File, which writes a record from a list of degrees and one list of neighbours, with plain.py: on the lists of
-records of every shape, which are written again byte by byte, at the borders of each refusal, with every set of refusals
-at once, and on lists of every kind.
+"""Compares File, which writes a record from a list of degrees and one list of neighbours, with plain.py: on the lists
+of records of every shape, which are written again byte by byte, at the borders of each refusal, with every set of
+refusals at once, and on lists of every kind.
 
-A refusal leaves the buffer as it was, and nothing is written outside of it, whatever it held before.
+A refusal leaves the buffer as it was. Else all of it is written, whatever it held before, and nothing outside of it.
 """
 import ctypes
 import mmap
@@ -69,15 +69,17 @@ def filed_again(data):
     compared.settle(answer(file, degrees, listed, len(data)) == (0, data), "plain.py files another record")
     given = unfiled(compared, compared.record)
     compared.settle(given == (degrees, listed), "the library gives other lists than plain.py")
+    passed = cells(degrees), cells(listed)
     for held in bytes(len(data)), b"\xff" * len(data), rng.randbytes(len(data)):
-        written(compared, degrees, listed, held)
+        compared.write("file", (0, [data]), *passed, held)
     # what the last call has written
     again = lent["filed"].end - len(data), len(data)
     found = compared.call("check", *again)
     compared.settle(found == 0, "check gives", hex(found), "of what file has written")
     compared.settle(unfiled(compared, again) == given, "what file has written gives other lists")
     for room in {0, len(data) - 1, len(data) + 1, 2 * len(data)}:
-        expect(compared, rng, 17, degrees, listed, room)
+        compared.write("file", (17, []), *passed, junk(rng, room))
+    expect(compared, rng, 17, degrees, listed, rng.choice([0, len(data) - 1, len(data) + 1]))
     return compared.result()
 
 
