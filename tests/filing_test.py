@@ -9,15 +9,16 @@ import mmap
 import sys
 from array import array
 from collections import Counter
+from functools import lru_cache
 from itertools import chain, combinations, product
 from random import Random
 
 import shapes
-from families import summed, tally
-from header import Compared, lent, load, with_library
+from families import tally
+from header import FILED, Compared, lent, load, with_library
 from header_test import TOP, cells, junk, records
-from packing import SAMPLE, WIRE, record, record_length
-from plain import MOST_LISTED, MOST_TERMINALS, MOST_WIRES, answer, blocks_of, check, file, order_r, sizes, unpack
+from packing import SAMPLE, WIRE, record_length
+from plain import MOST_LISTED, MOST_TERMINALS, MOST_WIRES, answer, blocks_of, check, file, order_r, sizes
 from programs import ARCHIVE
 
 # What File may give, 0 for no refusal
@@ -163,32 +164,31 @@ def of_neighbours():
     return found
 
 
-PAGES_READ = 1
+# Lists, and instead of some how many zeros they have: other lists if their lengths were cut to 32 bits
+VAST = [([], 2**32), (2**32, []), (2**32, 2**32), (2**32 + 1, []), ([1, 1], 2**32 + 2), ([2, 0], 2**32 + 2)]
 
 
-def vast(count):
-    """So many zeros of 16 bits each, to be read: the address and the length."""
-    given = ctypes.CDLL(None, use_errno=True).mmap
+@lru_cache
+def zeros():
+    """Where memory begins that has more than 2^32 zeros of 16 bits each, and can only be read."""
+    given = ctypes.CDLL(None).mmap
     given.restype = ctypes.c_void_p
     given.argtypes = [ctypes.c_void_p, ctypes.c_size_t, *3 * [ctypes.c_int], ctypes.c_long]
-    found = given(None, 2 * count, PAGES_READ, mmap.MAP_PRIVATE | mmap.MAP_ANONYMOUS, -1, 0)
+    found = given(None, 2 * (2**32 + 2), mmap.PROT_READ, mmap.MAP_PRIVATE | mmap.MAP_ANONYMOUS, -1, 0)
     assert found != ctypes.c_void_p(-1).value, "there is no room for so many numbers"
-    return found, count
+    return found
 
 
-def vast_lists(case):
-    """Lists that would do if their lengths were cut to 32 bits are refused with 16: of degrees, or of neighbours."""
-    degrees, listed = case
-    compared, room = Compared(b""), fitting(degrees, listed)
-    long = [vast(2**32 + len(numbers)) for numbers in ([], listed)]
-    kept = lent["degrees"].hold(cells(degrees)), lent["listed"].hold(cells(listed))
-    trials = [(kept[0], long[1])] if degrees else [(kept[0], long[1]), (long[0], kept[1]), tuple(long)]
-    for given in trials:
-        held = junk(Random(room), room)
-        found = compared.call("file", *chain(*given, lent["filed"].hold(held)))
-        lengths = [length for _, length in given]
-        compared.settle(found == 16 << 16, "file of lists of", lengths, "gives", hex(found))
-        compared.settle(lent["filed"].holds(held), "file of lists of", lengths, "leaves other bytes in the buffer")
+def vast(case):
+    """They are refused with 16."""
+    rng, compared = Random(str(case)), Compared(b"")
+    named = zip(FILED, case)
+    slices = [(zeros(), given) if isinstance(given, int) else lent[name].hold(cells(given)) for name, given in named]
+    for room in record_length(0, 0), record_length(2, 1), 0:
+        held = junk(rng, room)
+        found = compared.call("file", *chain(*slices, lent["filed"].hold(held)))
+        compared.settle(found == 16 << 16, "file of", case, "gives", hex(found))
+        compared.settle(lent["filed"].holds(held), "file of", case, "leaves other bytes in the buffer")
     return compared.result()
 
 
@@ -275,9 +275,9 @@ def first_of(rules):
 def several(case):
     """Lists and a buffer that break these rules: 16 on each ground, 8 in each way, and 6 in any block."""
     rules, ground, way, seed = case
-    rng, compared = Random(str(case)), Compared(b"")
-    data = shapes.broken(rng, rules & {8}, way=way)
-    blocks = blocks_of(data)
+    names = [function.__name__ for function in (ground, way) if function]
+    rng, compared = Random(f"{sorted(rules)} {names} {seed}"), Compared(b"")
+    blocks = blocks_of(shapes.broken(rng, rules & {8}, way=way))
     degrees, listed = lists(blocks)
     if 6 in rules:
         owners = [v for v, block in enumerate(blocks, 1) for _ in block]
@@ -372,7 +372,7 @@ def families():
     strayed = small[: len(shapes.FIXED)] + small[::25] + medium[::20] + large[::6]
     return {
         "largest": (filed_again, large),
-        "vast lists": (vast_lists, [([], []), ([1, 1], [2, 1])]),
+        "vast lists": (vast, VAST),
         "number of degrees": (stated, of_degrees()),
         "sum of degrees": (stated, of_sums()),
         "number of neighbours": (stated, of_neighbours()),
