@@ -73,7 +73,7 @@ enum celduga_refusal_number {
     CELDUGA_NO_CHILD = 13,           /* j is 0 or above the number of children */
     CELDUGA_NO_START = 14,           /* the start is 0 or above n, unless both are 0 */
     CELDUGA_BAD_LIST = 15,           /* the list has over 512 terminals, or an answer list has another length */
-    CELDUGA_BAD_LISTS = 16,          /* too many degrees, or their sum is odd, too large or not the number of neighbours */
+    CELDUGA_BAD_LISTS = 16,          /* too many degrees, or a sum that is odd, too large or not neighbours_len */
     CELDUGA_WRONG_RECORD_BUFFER = 17 /* the buffer for the record has another length than it */
 };
 

@@ -122,8 +122,8 @@ def calls():
 
 
 def files():
-    """What it must print of File on the sample's lists. Where that refuses, nothing is written; 16 comes before 6, 8 and
-    17, and 17 behind them. The byte behind the buffer stays."""
+    """What it must print of File on the sample's lists. Where that refuses, nothing is written; 16 comes before 6, 8
+    and 17, and 17 behind them. The byte behind the buffer stays."""
     shown = lambda data: f"filed: {data.hex(' ').upper()}"
     before, sample = b"\xa5" * 22, record(SAMPLE)
     refused = {"of 5 degrees": 16, "of 9 neighbours": 16, "of 11 neighbours": 16, "to 20": 17, "to 22": 17}

@@ -51,9 +51,10 @@
 //! left unchanged. [`file`](fn@file) and [`file_lists`] are lent no buffer, and return the record.
 //!
 //! What the crate does beside these calls is tested, not proved: it reads the header for [`Sizes`] and a terminal's
-//! neighbours for the iterators, climbs by [`Index::parent`], gathers the terminals with one head to a [`Section`], puts
-//! 0 for a terminal that 16 bits don't hold in [`Index::lookup`], finds the length of the record in [`file`](fn@file),
-//! and puts the lists of [`file_lists`] in a row, or refuses 16 where they are longer than a record's.
+//! neighbours for the iterators, climbs by [`Index::parent`], gathers the terminals with one head to a [`Section`],
+//! puts 0 for a terminal that 16 bits don't hold in [`Index::lookup`], finds the length of the record in
+//! [`file`](fn@file), and puts the lists of [`file_lists`] in a row, or refuses 16 where they are longer than those of
+//! a record.
 //!
 //! # The library
 //!
