@@ -21,7 +21,9 @@ enum {
     BAD_INDEX,
     NO_CHILD,
     NO_START,
-    BAD_LIST
+    BAD_LIST,
+    UNFIT_LISTS,
+    WRONG_RECORD
 };
 
 static uint32_t refused(uint32_t number)
@@ -68,6 +70,13 @@ static inline uint64_t load_big_within(const uint8_t *bytes, size_t len, size_t 
     for (i = 0; i < 8; i++)
         w = w << 8 | (at + i < len ? bytes[at + i] : 0);
     return w;
+}
+
+/* Writes eight bytes, the highest first. */
+static inline void store_big(uint8_t *p, uint64_t w)
+{
+    w = __builtin_bswap64(w);
+    memcpy(p, &w, 8);
 }
 
 /* The ones of each byte of w, in that byte. */
@@ -196,6 +205,11 @@ struct graph {
     uint16_t nbrs[2 * MOST_WIRES];
 };
 
+static inline size_t record_length(size_t n, size_t m)
+{
+    return (HEADER_BITS + n + 26 * m + 7) / 8;
+}
+
 /* Order R: the number of the refusal, or 0. */
 static inline uint32_t order_r(const uint8_t *record, size_t len, struct sizes *s)
 {
@@ -207,7 +221,7 @@ static inline uint32_t order_r(const uint8_t *record, size_t len, struct sizes *
     s->m = head >> 4 & 0x7FFF;
     if (s->n > MOST_TERMINALS || s->m > MOST_WIRES)
         return OVER_LIMIT;
-    if (len != (HEADER_BITS + s->n + 26 * s->m + 7) / 8)
+    if (len != record_length(s->n, s->m))
         return WRONG_LENGTH;
     if (ones_in(record, HEADER_BITS, s->n + 2 * s->m) != s->n || (s->n + 2 * s->m > 0 && (record[3] & 8) == 0))
         return BAD_UNARY;
@@ -352,6 +366,87 @@ uint32_t plain_unpack(const uint8_t *record, size_t len, uint16_t *list, size_t 
         return refused(WRONG_BUFFER);
     for (i = 0; i < list_len; i++)
         list[i] = (uint16_t)(g.nbrs[i] + 1);
+    return 0;
+}
+
+/* Where each block starts, and where the last one ends. Returns the sum of the degrees, which may be too great for
+   both. */
+static size_t sum_up(const uint16_t *degrees, size_t n, uint16_t *starts)
+{
+    uint32_t sum = 0;
+    size_t v;
+    for (v = 0; v < n; v++) {
+        starts[v] = (uint16_t)sum;
+        sum += degrees[v];
+    }
+    starts[n] = (uint16_t)sum;
+    return sum;
+}
+
+/* The neighbours less 1; 0, which is no terminal, becomes 65,535. Returns the greatest. */
+static size_t take_neighbours(const uint16_t *list, size_t count, uint16_t *nbrs)
+{
+    uint16_t greatest = 0;
+    size_t i;
+    for (i = 0; i < count; i++) {
+        uint16_t v = (uint16_t)(list[i] - 1);
+        nbrs[i] = v;
+        greatest = v > greatest ? v : greatest;
+    }
+    return greatest;
+}
+
+/* The header and D by words, then the fields, four to a word. What stands before byte `at` is written; the next `bits`
+   bits are the high ones of w, with zeros below. A word with four fields fills six bytes: the two behind them are
+   written too, and once more when they are full. */
+static void write_record(const struct graph *g, uint8_t *record, size_t len)
+{
+    size_t count = 2 * g->m, end = HEADER_BITS + g->n + count, at = 0, i = 0, bits, v;
+    uint64_t w = (uint64_t)g->n << 51 | (uint64_t)g->m << 36;
+    for (v = 0; v < g->n; v++) {
+        for (bits = HEADER_BITS + g->starts[v] + v - 8 * at; bits >= 64; bits -= 64, at += 8, w = 0)
+            store_big(record + at, w);
+        w |= (uint64_t)1 << 63 >> bits;
+    }
+    for (bits = end - 8 * at; bits >= 64; bits -= 64, at += 8, w = 0)
+        store_big(record + at, w);
+    for (; bits >= 8; bits -= 8, w <<= 8)
+        record[at++] = (uint8_t)(w >> 56);
+    for (; i + 4 <= count && at + 8 <= len; i += 4, at += 6, w <<= 48) {
+        const uint16_t *f = g->nbrs + i;
+        w |= ((uint64_t)f[0] << 36 | (uint64_t)f[1] << 24 | (uint64_t)f[2] << 12 | f[3]) << (16 - bits);
+        store_big(record + at, w);
+    }
+    for (; i < count; i++) {
+        w |= (uint64_t)g->nbrs[i] << (52 - bits);
+        for (bits += 12; bits >= 8; bits -= 8, w <<= 8)
+            record[at++] = (uint8_t)(w >> 56);
+    }
+    if (bits > 0)
+        record[at] = (uint8_t)(w >> 56);
+}
+
+uint32_t plain_file(const uint16_t *degrees, size_t degrees_len, const uint16_t *neighbours, size_t neighbours_len,
+                    uint8_t *record, size_t record_len)
+{
+    struct graph g;
+    size_t sum;
+    uint32_t why;
+    if (degrees_len > MOST_TERMINALS)
+        return refused(UNFIT_LISTS);
+    sum = sum_up(degrees, degrees_len, g.starts);
+    if (sum % 2 != 0 || sum > 2 * MOST_WIRES || neighbours_len != sum)
+        return refused(UNFIT_LISTS);
+    g.n = degrees_len;
+    g.m = sum / 2;
+    if (sum > 0 && take_neighbours(neighbours, sum, g.nbrs) >= g.n)
+        return refused(STRAY_NEIGHBOUR);
+    why = pairing(&g);
+    if (why != 0)
+        return refused(why);
+    if (record_len != record_length(g.n, g.m))
+        return refused(WRONG_RECORD);
+    write_record(&g, record, record_len);
     return 0;
 }
 

@@ -11,6 +11,8 @@ uint32_t plain_build(const uint8_t *record, size_t len, size_t start, uint16_t *
                      size_t index_len);
 uint32_t plain_degree(const uint8_t *record, size_t len, size_t v);
 uint32_t plain_unpack(const uint8_t *record, size_t len, uint16_t *list, size_t list_len);
+uint32_t plain_file(const uint16_t *degrees, size_t degrees_len, const uint16_t *neighbours, size_t neighbours_len,
+                    uint8_t *record, size_t record_len);
 uint64_t plain_neighbours(const uint8_t *record, size_t len, size_t list_len, size_t v);
 uint32_t plain_loop_figure(const uint8_t *record, size_t len);
 uint32_t plain_table(const uint8_t *record, size_t len, size_t start, uint16_t *work, size_t work_len,
