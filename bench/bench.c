@@ -26,7 +26,7 @@
 enum { MOST_N = 4096, MOST_M = 16384, MOST_INDEX = 3 * 4608 + 6144, ARGUMENTS = 1024, ROUNDS = 40, QUERY_ROUNDS = 50,
        STRING_ROUNDS = 200, LENGTHS = 7, COLUMNS = 4, SHOWN = 3, FIELD_BYTES = 4096, FIELDS = 1 << 18, ORDERS = 2,
        MIXED_COPIES = 100, UNBUILT = 16, MOST_LOOKUP = 512, MOST_ASKED = 2 * MOST_LOOKUP, LISTED = 7,
-       LOOKUP_ROUNDS = 10, SINGLES = 4, BESIDE = 4 };
+       LOOKUP_ROUNDS = 10, SINGLES = 4, BESIDE = 4, TRACINGS = 100, HARMS = 3 };
 
 /* The bits at which a field can start in so many bytes. */
 enum { FIELD_STARTS = 8 * FIELD_BYTES - 11 };
@@ -43,6 +43,7 @@ struct side {
     uint32_t (*check)(const uint8_t *, size_t);
     uint32_t (*build)(const uint8_t *, size_t, size_t, uint16_t *, size_t, uint8_t *, size_t);
     uint32_t (*unpack)(const uint8_t *, size_t, uint16_t *, size_t);
+    uint32_t (*file)(const uint16_t *, size_t, const uint16_t *, size_t, uint8_t *, size_t);
     uint32_t (*loop_figure)(const uint8_t *, size_t);
     uint32_t (*table)(const uint8_t *, size_t, size_t, uint16_t *, size_t, uint16_t *, size_t, uint16_t *, size_t,
         uint16_t *, size_t, uint16_t *, size_t);
@@ -57,43 +58,58 @@ struct side {
     size_t (*field)(const uint8_t *, size_t, size_t);
 };
 
-static const struct side product = { celduga_check, celduga_build, celduga_unpack, celduga_loop_figure, celduga_table,
-    celduga_degree, celduga_neighbours,
+static const struct side product = { celduga_check, celduga_build, celduga_unpack, celduga_file, celduga_loop_figure,
+    celduga_table, celduga_degree, celduga_neighbours,
     { celduga_parent, celduga_head, celduga_children, celduga_visit, celduga_visited },
     { celduga_ancestor, celduga_child }, celduga_lookup,
     celduga_rank, celduga_select, bits_read12 };
 
-static const struct side plain = { plain_check, plain_build, plain_unpack, plain_loop_figure, plain_table,
+static const struct side plain = { plain_check, plain_build, plain_unpack, plain_file, plain_loop_figure, plain_table,
     plain_degree, plain_neighbours,
     { plain_parent, plain_head, plain_children, plain_visit, plain_visited }, { plain_ancestor, plain_child },
     plain_lookup, plain_rank, plain_select, plain_read12 };
 
 /* What is called. BUILD and TABLE have the start that is asked, which is 1 where they are timed; BUILD_LAST is Build
-   from the last terminal. PARENT to VISITED are the side's queries of one argument, ANCESTOR and CHILD those of two.
-   LOOKUP has two as well: the place in `terminals` where its list starts, and the list's length. */
-enum op { CHECK, BUILD, BUILD_LAST, UNPACK, LOOPS, TABLE, WHOLE, DEGREE = WHOLE, NEIGHBOURS, PARENT, HEAD, CHILDREN,
-          VISIT, VISITED, ANCESTOR, CHILD, LOOKUP, RANK, SELECT, FIELD, OPS };
+   from the last terminal. FILING is File of the tracing that is asked. PARENT to VISITED are the side's queries of one
+   argument, ANCESTOR and CHILD those of two. LOOKUP has two as well: the place in `terminals` where its list starts,
+   and the list's length. */
+enum op { CHECK, BUILD, BUILD_LAST, UNPACK, FILING, LOOPS, TABLE, WHOLE, DEGREE = WHOLE, NEIGHBOURS, PARENT, HEAD,
+          CHILDREN, VISIT, VISITED, ANCESTOR, CHILD, LOOKUP, RANK, SELECT, FIELD, OPS };
 
-static const char *const op_names[OPS] = { "Check", "Build", "Build from n", "Unpack", "Loop figure", "Table", "Degree",
-    "Neighbours", "Parent", "Head", "Children", "Visit", "Visited", "Ancestor", "Child", "Lookup", "Rank", "Select",
-    "Field" };
+static const char *const op_names[OPS] = { "Check", "Build", "Build from n", "Unpack", "File", "Loop figure", "Table",
+    "Degree", "Neighbours", "Parent", "Head", "Children", "Visit", "Visited", "Ancestor", "Child", "Lookup", "Rank",
+    "Select", "Field" };
+
+/* File's refusals of its own: of lists that no record has, and of the buffer. */
+enum { UNFIT_LISTS = 16, WRONG_RECORD = 17 };
+
+/* With each harm a record may have a terminal or a wire more, and its buffer one byte more than that. */
+enum { MOST_FILED = MOST_RECORD_BYTES + 4 * HARMS + 1 };
+
+/* What File is lent: the list of degrees, that of neighbours, and the length of the buffer for the record. */
+struct tracing {
+    size_t degrees_len, neighbours_len, record_len;
+    uint16_t degrees[MOST_N + HARMS], neighbours[2 * (MOST_M + HARMS)];
+};
 
 /* What one side writes to. The columns are Table's: visit numbers, parents, counts of children and heads. What is found
    is Lookup's: heads and visit numbers. */
 struct room {
     uint16_t work[8 * MOST_N], list[2 * MOST_M], columns[COLUMNS][MOST_N + 1], found[2][MOST_ASKED + 1];
-    uint8_t index[MOST_INDEX + 1];
+    uint8_t index[MOST_INDEX + 1], record[MOST_FILED];
 };
 
 static struct room rooms[2];
 static size_t arguments[LOOKUP][ARGUMENTS][2], string_arguments[LENGTHS][2][ARGUMENTS][2];
-static size_t answers, refusals[16];
+static size_t answers, refusals[18];
 static volatile size_t sink;
 
-/* What is asked: a record, the start and its buffers' lengths, Lookup's terminals and its answer lists' lengths, or a
-   string. */
+/* What is asked: a record, the start and its buffers' lengths, a tracing, Lookup's terminals and its answer lists'
+   lengths, or a string. Each record that is timed has its tracing. */
 static struct record records[RECORDS];
+static struct tracing tracings[RECORDS];
 static const struct record *asked;
+static const struct tracing *traced;
 static size_t start, work_len, index_len, list_len, column_lens[COLUMNS], found_lens[2];
 static uint16_t terminals[MOST_ASKED];
 static const uint8_t *string;
@@ -117,6 +133,27 @@ static void ask(const struct record *r)
         column_lens[i] = r->n;
 }
 
+static int bit(const uint8_t *bytes, size_t at)
+{
+    return bytes[at / 8] >> (7 - at % 8) & 1;
+}
+
+/* The tracing of an accepted record: the degrees as D's bits tell them, and the list that the product unpacks. */
+static void trace(const struct record *r, struct tracing *t)
+{
+    size_t i, v = 0;
+    t->degrees_len = r->n;
+    t->neighbours_len = 2 * r->m;
+    t->record_len = r->len;
+    for (i = 0; i < r->n + 2 * r->m; i++) {
+        if (bit(r->bytes, 28 + i) != 0)
+            t->degrees[v++] = 0;
+        else
+            t->degrees[v - 1]++;
+    }
+    celduga_unpack(r->bytes, r->len, t->neighbours, t->neighbours_len);
+}
+
 static inline size_t call(const struct side *s, struct room *r, enum op op, size_t a, size_t b)
 {
     const uint8_t *bytes = asked->bytes;
@@ -130,6 +167,9 @@ static inline size_t call(const struct side *s, struct room *r, enum op op, size
         return s->build(bytes, len, asked->n, r->work, work_len, r->index, index_len);
     case UNPACK:
         return s->unpack(bytes, len, r->list, list_len);
+    case FILING:
+        return s->file(traced->degrees, traced->degrees_len, traced->neighbours, traced->neighbours_len, r->record,
+            traced->record_len);
     case LOOPS:
         return s->loop_figure(bytes, len);
     case TABLE:
@@ -224,6 +264,150 @@ static void compare_whole(void)
                 differ("a list written by Table", (size_t)i, 0, 0, 0);
     } else if (memcmp(rooms[0].columns, before[0].columns, sizeof rooms[0].columns) != 0) {
         differ("a list left by Table", 0, 0, 0, 0);
+    }
+}
+
+/* What File must answer: 16 where the lists fit no record; else what Check of the product answers on the record that is
+   packed bit by bit, and 6 where a number has no field; else 17 where the buffer has another length. */
+static size_t by_packing(const struct tracing *t, uint8_t *packed)
+{
+    size_t n = t->degrees_len, sum = 0, at, i, len, answer;
+    for (i = 0; i < n; i++)
+        sum += t->degrees[i];
+    if (n > MOST_N || sum % 2 != 0 || sum > 2 * MOST_M || t->neighbours_len != sum)
+        return (size_t)UNFIT_LISTS << 16;
+    len = celduga_record_len(n, sum / 2);
+    memset(packed, 0, len);
+    at = put(packed, put(packed, 0, 13, n), 15, sum / 2);
+    for (i = 0; i < n; i++)
+        at = put(packed, at, 1, 1) + t->degrees[i];
+    for (i = 0; i < sum; i++) {
+        if (t->neighbours[i] == 0 || t->neighbours[i] > MOST_N)
+            return (size_t)CELDUGA_STRAY_NEIGHBOUR << 16;
+        at = put(packed, at, 12, t->neighbours[i] - 1u);
+    }
+    answer = celduga_check(packed, len);
+    return answer == 0 && t->record_len != len ? (size_t)WRONG_RECORD << 16 : answer;
+}
+
+/* File of both sides, and by packing. A refused call must leave its buffer, and one that writes what stands behind the
+   record. */
+static void compare_file(const struct tracing *t)
+{
+    static uint8_t packed[MOST_FILED], expected[MOST_FILED];
+    size_t left, right;
+    int s;
+    traced = t;
+    for (s = 0; s < 2; s++)
+        memset(rooms[s].record, s == 0 ? 0xAA : 0x55, sizeof rooms[s].record);
+    left = same(FILING, 0, 0);
+    right = by_packing(t, packed);
+    if (left != right)
+        differ("File, beside Check of the record,", t->degrees_len, t->neighbours_len, left, right);
+    for (s = 0; s < 2; s++) {
+        memset(expected, s == 0 ? 0xAA : 0x55, sizeof expected);
+        if (left == 0)
+            memcpy(expected, packed, t->record_len);
+        if (memcmp(rooms[s].record, expected, sizeof expected) != 0)
+            differ(left == 0 ? "the record written by File" : "the buffer left by File", t->degrees_len,
+                t->neighbours_len, 0, 0);
+    }
+}
+
+/* Breaks a tracing in one of several ways, or makes it that of another record. Without neighbours there are four ways,
+   without terminals one. */
+static void harm_tracing(struct tracing *t, uint64_t *state)
+{
+    size_t n = t->degrees_len, count = t->neighbours_len, others[3], at, from, v;
+    uint16_t x;
+    switch (draw(state, n == 0 ? 1 : count < 2 ? 4 : 11)) {
+    case 0: /* one terminal more */
+        t->degrees[t->degrees_len++] = 0;
+        break;
+    case 1: /* one terminal less */
+        t->degrees_len--;
+        break;
+    case 2: /* another degree */
+        v = draw(state, n);
+        t->degrees[v] = (uint16_t)(draw(state, 4) == 0 ? draw(state, 1 << 16) : t->degrees[v] + 1 + draw(state, 2));
+        break;
+    case 3: /* one neighbour more or less, or two less */
+        t->neighbours[count] = (uint16_t)(1 + draw(state, n));
+        t->neighbours_len = count < 2 || draw(state, 2) == 0 ? count + 1 : count - 1 - draw(state, 2);
+        break;
+    case 4: /* a number that is no terminal's */
+        others[0] = 0;
+        others[1] = n + 1;
+        others[2] = n + 1 + draw(state, 0xFFFF - n);
+        t->neighbours[draw(state, count)] = (uint16_t)others[draw(state, 3)];
+        break;
+    case 5: /* the terminal itself among its neighbours */
+        at = draw(state, count);
+        for (v = 0, from = t->degrees[0]; from <= at && v + 1 < n; from += t->degrees[v])
+            v++;
+        t->neighbours[at] = (uint16_t)(v + 1);
+        break;
+    case 6: /* another neighbour */
+        t->neighbours[draw(state, count)] = (uint16_t)(1 + draw(state, n));
+        break;
+    case 7: /* two neighbours change places, of one block or of any */
+        at = draw(state, count);
+        from = draw(state, 2) == 0 ? (at + 1) % count : draw(state, count);
+        x = t->neighbours[at];
+        t->neighbours[at] = t->neighbours[from];
+        t->neighbours[from] = x;
+        break;
+    case 8: /* a block takes over a place of another, of the next one or of any */
+        at = draw(state, n);
+        from = draw(state, 2) == 0 ? (at + 1) % n : draw(state, n);
+        if (t->degrees[from] > 0) {
+            t->degrees[from]--;
+            t->degrees[at]++;
+        }
+        break;
+    case 9: /* two degrees change by 32,768 each, and the sum in 16 bits not at all */
+        t->degrees[draw(state, n)] ^= 0x8000;
+        t->degrees[draw(state, n)] ^= 0x8000;
+        break;
+    default: /* one wire more, between the last two terminals */
+        if (n >= 2 && t->degrees[n - 1] <= count) {
+            at = count - t->degrees[n - 1];
+            memmove(t->neighbours + at + 1, t->neighbours + at, t->degrees[n - 1] * sizeof t->neighbours[0]);
+            t->neighbours[at] = (uint16_t)n;
+            t->neighbours[count + 1] = (uint16_t)(n - 1);
+            t->neighbours_len += 2;
+            t->degrees[n - 2]++;
+            t->degrees[n - 1]++;
+        }
+        break;
+    }
+}
+
+/* The tracing of the record that is asked, with up to three harms, and every second time with a buffer of another
+   length. */
+static void compare_tracings(int turns, uint64_t *state)
+{
+    static struct tracing whole, harmed;
+    size_t i, len;
+    trace(asked, &whole);
+    for (; turns > 0; turns--) {
+        harmed = whole;
+        for (i = draw(state, HARMS + 1); i > 0; i--)
+            harm_tracing(&harmed, state);
+        len = celduga_record_len(harmed.degrees_len, harmed.neighbours_len / 2);
+        switch (draw(state, 6)) {
+        case 0:
+            len--;
+            break;
+        case 1:
+            len++;
+            break;
+        case 2:
+            len = draw(state, len);
+            break;
+        }
+        harmed.record_len = len;
+        compare_file(&harmed);
     }
 }
 
@@ -341,11 +525,6 @@ static void compare_list(uint64_t *state)
 static void turn_bit(uint8_t *bytes, size_t at)
 {
     bytes[at / 8] ^= (uint8_t)(0x80 >> at % 8);
-}
-
-static int bit(const uint8_t *bytes, size_t at)
-{
-    return bytes[at / 8] >> (7 - at % 8) & 1;
 }
 
 /* Writes the field at bit `from` at bit `at` too. */
@@ -553,13 +732,24 @@ static void compare_fields(void)
         same(FIELD, at, 0);
 }
 
-/* A record that is accepted. */
+/* A record that is accepted. Unpacked and written again, it has its former bytes. */
 static void compare_accepted(void)
 {
-    uint32_t why = plain_check(asked->bytes, asked->len);
+    static struct tracing t;
+    uint32_t why = plain_check(asked->bytes, asked->len), degree;
+    size_t v;
     compare_whole();
     if (why != 0)
         differ("a record of the benchmark", 0, 0, 0, why);
+    trace(asked, &t);
+    for (v = 1; v <= asked->n; v++) {
+        degree = celduga_degree(asked->bytes, asked->len, v);
+        if (degree != t.degrees[v - 1])
+            differ("Degree, beside the bits of D,", v, 0, degree, t.degrees[v - 1]);
+    }
+    compare_file(&t);
+    if (memcmp(rooms[0].record, asked->bytes, asked->len) != 0)
+        differ("the record written again by File", 0, 0, 0, 0);
 }
 
 /* All records of a size that are timed; the first comes last, and stays. */
@@ -592,12 +782,13 @@ static void compare_mixed(struct record *r, uint64_t *state)
                 compare_queries(v, state);
             compare_list(state);
         }
+        compare_tracings(TRACINGS, state);
         compare_unbuilt(r, UNBUILT, state);
     }
 }
 
 /* Records without wires. Without terminals too, a list of none is answered, and any number is refused. */
-static void compare_unwired(struct record *r)
+static void compare_unwired(struct record *r, uint64_t *state)
 {
     size_t v;
     int size;
@@ -606,6 +797,7 @@ static void compare_unwired(struct record *r)
         ask(r);
         start = r->n;
         compare_accepted();
+        compare_tracings(TRACINGS, state);
     }
     found_lens[0] = found_lens[1] = 0;
     compare_lookup(0);
@@ -627,6 +819,7 @@ static void compare_all(void)
             make_record(shape, size, 0, &r);
             compare_harmed(&r, &state);
             compare_timed(shape, size, &r);
+            compare_tracings(TRACINGS, &state);
             for (v = 0; v <= r.n + 1; v++)
                 compare_queries(v, &state);
             compare_lists(&state);
@@ -635,7 +828,7 @@ static void compare_all(void)
         }
     }
     compare_mixed(&r, &state);
-    compare_unwired(&r);
+    compare_unwired(&r, &state);
     compare_fields();
 }
 
@@ -697,7 +890,7 @@ static double noted(enum op op, int size, struct times t)
     return kept(&ratios[op][size], t.product / t.plain);
 }
 
-/* The time of a call on each of the records from `first` on. */
+/* The time of a call on each of the records from `first` on, or on its tracing. */
 static double pass_over(const struct side *s, struct room *r, enum op op, const struct record *first, int count)
 {
     int i;
@@ -705,6 +898,7 @@ static double pass_over(const struct side *s, struct room *r, enum op op, const 
     double from = now();
     for (i = 0; i < count; i++) {
         ask(&first[i]);
+        traced = &tracings[&first[i] - records];
         sum += call(s, r, op, 0, 0);
     }
     sink = sum;
@@ -755,17 +949,19 @@ static void try_records(struct times *t, enum op op, const struct record *first,
     keep_least(t, a, pass_over(&plain, &rooms[1], op, first, count));
 }
 
-/* One shape: Check, Build from 1 and from n, Unpack, Loop figure and Table at all sizes, in turn. At each size there
-   are as many records as make up the same volume, since the processor learns the branches of a small record that it
-   meets again and again. */
+/* One shape: Check, Build from 1 and from n, Unpack, File, Loop figure and Table at all sizes, in turn. At each size
+   there are as many records as make up the same volume, since the processor learns the branches of a small record that
+   it meets again and again. */
 static void measure_shape(int shape)
 {
     const struct record *first[SIZES];
     int size, op, round, i, made = 0;
     for (size = 0; size < SIZES; size++) {
         first[size] = &records[made];
-        for (i = 0; i < copies(size); i++)
-            make_record(shape, size, i, &records[made++]);
+        for (i = 0; i < copies(size); i++, made++) {
+            make_record(shape, size, i, &records[made]);
+            trace(&records[made], &tracings[made]);
+        }
     }
     for (round = 0; round < ROUNDS; round++)
         for (op = 0; op < WHOLE; op++)
@@ -1095,6 +1291,9 @@ static int once(const char *side, const char *name, const char *shape, const cha
     size_t i, sum = 0;
     if (which == 2 || op == RANK || !ask_named(shape, size))
         return 2;
+    if (op == FILING)
+        trace(asked, &tracings[0]);
+    traced = &tracings[0];
     if (op < WHOLE)
         return call(s, &rooms[0], (enum op)op, 0, 0) > 0xFFFF;
     prepare_queries();
@@ -1124,8 +1323,8 @@ static int compare(void)
     int i;
     compare_all();
     printf("The two sides gave %zu equal answers. Refusals among them:", answers);
-    for (i = 1; i < 16; i++)
-        printf(" %zu of %d%s", refusals[i], i, i < 15 ? "," : ".\n");
+    for (i = 1; i < 18; i++)
+        printf(" %zu of %d%s", refusals[i], i, i < 17 ? "," : ".\n");
     return 0;
 }
 

@@ -158,7 +158,7 @@ static void list_blocks(int shape)
         shuffle(made.nbrs + made.starts[v], made.starts[v + 1] - made.starts[v]);
 }
 
-static size_t put(uint8_t *record, size_t at, size_t width, size_t value)
+size_t put(uint8_t *record, size_t at, size_t width, size_t value)
 {
     while (width-- > 0) {
         if ((value >> width & 1) != 0)

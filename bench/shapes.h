@@ -12,6 +12,9 @@ extern const char *const shape_names[SHAPES];
 /* A number below `limit`, which is over 0, and the next state. */
 uint64_t draw(uint64_t *state, uint64_t limit);
 
+/* Writes a number of so many bits from bit `at` on, over zeros. Returns the bit behind it. */
+size_t put(uint8_t *record, size_t at, size_t width, size_t value);
+
 struct record {
     size_t n, m, len, index_len;
     uint8_t bytes[MOST_RECORD_BYTES];
