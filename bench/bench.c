@@ -26,7 +26,7 @@
 enum { MOST_N = 4096, MOST_M = 16384, MOST_INDEX = 3 * 4608 + 6144, ARGUMENTS = 1024, ROUNDS = 40, QUERY_ROUNDS = 50,
        STRING_ROUNDS = 200, LENGTHS = 7, COLUMNS = 4, SHOWN = 3, FIELD_BYTES = 4096, FIELDS = 1 << 18, ORDERS = 2,
        MIXED_COPIES = 100, UNBUILT = 16, MOST_LOOKUP = 512, MOST_ASKED = 2 * MOST_LOOKUP, LISTED = 7,
-       LOOKUP_ROUNDS = 10, SINGLES = 4, BESIDE = 4, TRACINGS = 100, HARMS = 3 };
+       LOOKUP_ROUNDS = 10, SINGLES = 4, BESIDE = 5, TRACINGS = 100, HARMS = 3 };
 
 /* The bits at which a field can start in so many bytes. */
 enum { FIELD_STARTS = 8 * FIELD_BYTES - 11 };
@@ -868,11 +868,13 @@ struct range {
 };
 
 /* The least and the greatest ratio of each operation, by size; at 0, of Rank and Select over all lengths, and of Field
-   over both orders. Then those of two times of the product: of Lookup to single calls, and of Loop figure to Check. */
+   over both orders. Then those of two times of the product: of Lookup to single calls, and of Loop figure and File to
+   Check. */
 static struct range ratios[OPS][SIZES], beside[BESIDE][SIZES];
 
 static const char *const beside_names[BESIDE] = { "Lookup of 512 / single calls",
-    "Lookup of 512 / climbs, where these are not short", "Lookup of one / single calls", "Loop figure / Check" };
+    "Lookup of 512 / climbs, where these are not short", "Lookup of one / single calls", "Loop figure / Check",
+    "File / Check" };
 
 /* A ratio, which is kept where none was less or greater. */
 static double kept(struct range *r, double ratio)
@@ -981,6 +983,7 @@ static void print_shape(int shape)
             printf(" %.2f | %.2f |", whole[op].product / (8 * (double)r->len * copies(size)),
                 noted((enum op)op, size, whole[op]));
         kept(&beside[3][size], whole[LOOPS].product / whole[CHECK].product);
+        kept(&beside[4][size], whole[FILING].product / whole[CHECK].product);
         printf("\n");
     }
 }
