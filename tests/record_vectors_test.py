@@ -5,7 +5,7 @@ The stored output is what `rt ci` holds the proved program to. Here each record 
 asked by plain.py. With an argument it prints the lines instead.
 """
 from packing import SAMPLE, WIRE, flipped, layout, record
-from plain import answer, check, degree, neighbours, unpack
+from plain import answer, check, degree, file, neighbours, unpack
 from shapes import FIXED
 from stored import main, told
 
@@ -101,6 +101,56 @@ def records():
     yield "5_6_and_8", flipped(record([[2, 2, 3], [1], [3, 9]]), -1), 3, 3
 
 
+def filed(name, degrees, numbers, length):
+    """File, with the buffer after it."""
+    refusal, written = answer(file, degrees, numbers, length)
+    after = bytes([0xA5]) * length if refusal else written
+    return row(f"{name} file {length}: {told(refusal, 'accepted')},", (f"{b:02x}" for b in after))
+
+
+def filings():
+    """Name, degrees, neighbours and the buffer's length."""
+    def of(blocks):
+        return [len(b) for b in blocks], sum(blocks, [])
+    for length in (21, 20, 22):
+        yield "sample", *of(SAMPLE), length
+    for length in (4, 3):
+        yield "empty", [], [], length
+    for name, blocks in (
+        ("single", [[]]),
+        ("isolated", [[], [], [], []]),
+        ("wire", WIRE),
+        ("hub", [[4], [4], [4], [3, 1, 2]]),
+        ("triple", FIXED["triple"]),
+        ("apart", [[], [4], [], [2], []]),
+    ):
+        yield name, *of(blocks), len(record(blocks))
+    # 16
+    yield "odd", [1, 1, 1], [2, 1, 2], 9
+    yield "short_list", [1, 1], [2], 7
+    yield "long_list", [1, 1], [2, 1, 2], 7
+    yield "no_list", [1, 1], [], 7
+    yield "no_degrees", [], [1, 1], 7
+    yield "wrapped", [65535, 3], [2, 1], 7
+    # 6 and 8
+    yield "zero", [1, 1], [2, 0], 7
+    yield "over", [1, 1], [3, 1], 7
+    yield "cut", [1, 1], [2, 4097], 7
+    yield "last", [1, 1], [65535, 1], 7
+    yield "own", [1, 1], [1, 2], 7
+    yield "one_sided", [2, 1, 1], [2, 3, 1, 2], 11
+    yield "more", [3, 1], [2, 2, 2, 1], 11
+    # several at once
+    yield "16_6_and_17", [1, 1, 1], [0, 1, 2], 7
+    yield "16_8_and_17", [2, 1], [2, 2, 1, 1], 7
+    yield "6_and_17", [1, 1], [0, 1], 6
+    yield "6_after_8", [2, 2], [2, 2, 1, 3], 11
+    yield "8_and_17", [2, 1, 1], [2, 3, 1, 2], 10
+    # many degrees
+    yield "many", [0] * 4097, [], 4
+    yield "great", [65535] * 4096, [], 4
+
+
 def lines():
     for name, data, n, m in records():
         yield from ask(name, data, n, m)
@@ -108,6 +158,8 @@ def lines():
     yield from ask("widest", widest, 0, 0)
     for v in (4096, 4097):
         yield f"widest degree {v}: {told(*answer(degree, widest, v))}"
+    for case in filings():
+        yield filed(*case)
 
 
 if __name__ == "__main__":
