@@ -80,9 +80,6 @@ static const char *const op_names[OPS] = { "Check", "Build", "Build from n", "Un
     "Degree", "Neighbours", "Parent", "Head", "Children", "Visit", "Visited", "Ancestor", "Child", "Lookup", "Rank",
     "Select", "Field" };
 
-/* File's refusals of its own: of lists that no record has, and of the buffer. */
-enum { UNFIT_LISTS = 16, WRONG_RECORD = 17 };
-
 /* With each harm a record may have a terminal or a wire more, and its buffer one byte more than that. */
 enum { MOST_FILED = MOST_RECORD_BYTES + 4 * HARMS + 1 };
 
@@ -275,7 +272,7 @@ static size_t by_packing(const struct tracing *t, uint8_t *packed)
     for (i = 0; i < n; i++)
         sum += t->degrees[i];
     if (n > MOST_N || sum % 2 != 0 || sum > 2 * MOST_M || t->neighbours_len != sum)
-        return (size_t)UNFIT_LISTS << 16;
+        return (size_t)CELDUGA_BAD_LISTS << 16;
     len = celduga_record_len(n, sum / 2);
     memset(packed, 0, len);
     at = put(packed, put(packed, 0, 13, n), 15, sum / 2);
@@ -287,7 +284,7 @@ static size_t by_packing(const struct tracing *t, uint8_t *packed)
         at = put(packed, at, 12, t->neighbours[i] - 1u);
     }
     answer = celduga_check(packed, len);
-    return answer == 0 && t->record_len != len ? (size_t)WRONG_RECORD << 16 : answer;
+    return answer == 0 && t->record_len != len ? (size_t)CELDUGA_WRONG_RECORD_BUFFER << 16 : answer;
 }
 
 /* File of both sides, and by packing. A refused call must leave its buffer, and one that writes what stands behind the
