@@ -168,9 +168,9 @@ uint32_t celduga_unpack(const uint8_t *record, size_t record_len, uint16_t *list
 /*
  * Writes the record with these degrees, one for each terminal from 1 on, and these neighbours, block after block as
  * celduga_unpack gives them: for n degrees and 2m neighbours, celduga_record_len(n, m) bytes. A record is written again
- * byte by byte from what celduga_degree answers for each terminal and what celduga_unpack writes. No value. Refuses 16
- * where there are more than CELDUGA_MAX_TERMINALS degrees, or their sum is odd, above CELDUGA_MAX_LIST_LEN or not
- * neighbours_len; then what celduga_check refuses of that record, which can be 6 and 8 only, and 6 also where a
+ * with the same bytes from what celduga_degree answers for each terminal and what celduga_unpack writes. No value.
+ * Refuses 16 where there are more than CELDUGA_MAX_TERMINALS degrees, or their sum is odd, above CELDUGA_MAX_LIST_LEN
+ * or not neighbours_len; then what celduga_check refuses of that record, which can be 6 and 8 only, and 6 also where a
  * neighbour is 0 or above n; then 17 where record_len is not the record's.
  */
 uint32_t celduga_file(const uint16_t *degrees, size_t degrees_len, const uint16_t *neighbours, size_t neighbours_len,

@@ -270,10 +270,13 @@ def limits(page):
     rules = tabled(titled(page, "Refusals"), "number", "name", "is broken where", "given by")
     asked = f"the list has more than {plain.MOST_ASKED} terminals, or an answer list has another length than it"
     same("rule 15", ["15", "`BadList`", asked, "Lookup"], rules[-3])
-    filed = f"more than {n:,} degrees; their sum is odd, above {plain.MOST_LISTED:,}, or not the number of neighbours"
-    same("rule 16", ["16", "`BadLists`", filed, "File"], rules[-2])
-    told = sought(r"at most ([\d,]+) degrees, their sum is even and at most ([\d,]+),", page)
-    same("what File takes", [(f"{n:,}", f"{plain.MOST_LISTED:,}")], told)
+    summed = f"their sum is odd, above {plain.MOST_LISTED:,}, or not the number of neighbours"
+    same("rule 16", ["16", "`BadLists`", f"more than {n:,} degrees; {summed}", "File"], rules[-2])
+    filed = "the buffer for the record has another length than it"
+    same("rule 17", ["17", "`WrongRecordBuffer`", filed, "File"], rules[-1])
+    told = sought(r"(?m)^- (1[67]): ([^.]*)\.", titled(page, "Operations"))
+    lent = "the buffer has another length than n and m give"
+    same("what File refuses", [("16", f"there are more than {n:,} degrees, or {summed}"), ("17", lent)], told)
     same("the longest list", [str(plain.MOST_ASKED)], sought(r"takes a list of at most ([\d,]+) terminals", page))
     same("what the program reads", [f"{longest + 1:,}"], sought(r"reads at most ([\d,]+) bytes", page))
     same("the largest loop figure", [f"{m - 1:,}"], sought(r"number of looms, 0 to ([\d,]+) \|", page))
