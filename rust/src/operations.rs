@@ -98,16 +98,21 @@ pub fn file(degrees: &[u16], neighbours: &[u16]) -> Result<Vec<u8>, Refusal> {
 /// # Ok::<(), Refusal>(())
 /// ```
 pub fn file_lists<L: AsRef<[u16]>>(lists: &[L]) -> Result<Vec<u8>, Refusal> {
-    let lens = || lists.iter().map(|list| list.as_ref().len());
-    let total = lens().try_fold(0, |sum: usize, len| {
-        sum.checked_add(len).filter(|&sum| sum <= MAX_LIST_LEN)
-    });
-    if lists.len() > MAX_TERMINALS || total.is_none() {
+    if lists.len() > MAX_TERMINALS {
         return Err(Refusal::BadLists);
     }
-    let degrees: Result<Vec<u16>, _> = lens().map(u16::try_from).collect();
-    let neighbours: Vec<u16> = lists.iter().flat_map(|list| list.as_ref()).copied().collect();
-    file(&degrees.map_err(|_| Refusal::BadLists)?, &neighbours)
+    let mut degrees = Vec::with_capacity(lists.len());
+    let mut neighbours = Vec::new();
+    for list in lists {
+        let list = list.as_ref();
+        // never negative: no more than MAX_LIST_LEN are taken
+        if list.len() > MAX_LIST_LEN - neighbours.len() {
+            return Err(Refusal::BadLists);
+        }
+        degrees.push(list.len() as u16);
+        neighbours.extend_from_slice(list);
+    }
+    file(&degrees, &neighbours)
 }
 
 /// Where the neighbours of terminal `v` stand in a list of so many numbers that [`unpack`] filled.

@@ -2,6 +2,7 @@
 
 use crate::packing::*;
 use celduga::*;
+use std::cell::Cell;
 
 /// The degrees, and the neighbours in a row.
 fn lists<B: AsRef<[u16]>>(blocks: &[B]) -> (Vec<u16>, Vec<u16>) {
@@ -99,6 +100,25 @@ fn lists_are_never_cut() {
     let long = vec![1; 1 << 20];
     assert_eq!(file_lists(&vec![long.as_slice(); 4096]), no);
     assert_eq!(file_lists(&vec![long.as_slice(); 1 << 20]), no);
+}
+
+/// The first so many of these neighbours, and all of them when it is asked again.
+struct Fickle<'a>(Cell<usize>, &'a [u16]);
+
+impl AsRef<[u16]> for Fickle<'_> {
+    fn as_ref(&self) -> &[u16] {
+        &self.1[..self.0.replace(self.1.len())]
+    }
+}
+
+#[test]
+fn each_list_is_taken_once() {
+    for more in [1, 32767, 32768, 65536] {
+        let [ones, twos] = [vec![1; 1 + more], vec![2; 1 + more]];
+        let lists = |len| [Fickle(Cell::new(len), &twos), Fickle(Cell::new(len), &ones)];
+        assert_eq!(file_lists(&lists(0)), file(&[0, 0], &[]));
+        assert_eq!(file_lists(&lists(1)).unwrap(), WIRE);
+    }
 }
 
 #[test]
