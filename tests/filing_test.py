@@ -1,6 +1,6 @@
 """Compares File, which writes a record from a list of degrees and one list of neighbours, with plain.py: on the lists
-of records of every shape, which are written again byte by byte, at the borders of each refusal, with every set of
-refusals at once, and on lists of every kind.
+of records of every shape, which are written again with the same bytes, at the borders of each refusal and of each room
+that File takes, with every set of refusals at once, and on lists of every kind.
 
 A refusal leaves the buffer as it was. Else all of it is written, whatever it held before, and nothing outside of it.
 """
@@ -14,10 +14,10 @@ from itertools import chain, combinations, product
 from random import Random
 
 import shapes
-from families import tally
+from families import summed, tally
 from header import FILED, Compared, lent, load, with_library
 from header_test import TOP, cells, junk, records
-from packing import SAMPLE, WIRE, record_length
+from packing import SAMPLE, WIRE, record, record_length
 from plain import MOST_LISTED, MOST_TERMINALS, MOST_WIRES, answer, blocks_of, check, file, order_r, sizes
 from programs import ARCHIVE
 
@@ -42,6 +42,11 @@ def written(compared, degrees, listed, held):
     refusal, data = answer(file, degrees, listed, len(held))
     compared.write("file", (refusal, [data]), cells(degrees), cells(listed), held)
     return refusal
+
+
+def refused(degrees, listed):
+    """The refusal's number by plain.py, 0 for none, with a buffer of the record's length."""
+    return answer(file, degrees, listed, fitting(degrees, listed))[0]
 
 
 def expect(compared, rng, number, degrees, listed, room=None):
@@ -204,14 +209,23 @@ def strays(n, w):
     return [0, *sorted(v for v in high if n < v <= TOP)]
 
 
+def owners_of(blocks):
+    """For each neighbour in a row the terminal in whose block it stands."""
+    return [v for v, block in enumerate(blocks, 1) for _ in block]
+
+
+def some_places(rng, listed):
+    """Each place of a short list; else the first, the last and two more."""
+    places = range(len(listed))
+    return places if len(places) <= 40 else sorted({places[0], places[-1], *rng.sample(places, 2)})
+
+
 def on_strays(data):
     """At each place of a small record, or at some, a neighbour becomes a number that is no terminal, or the terminal
     itself; and all neighbours do so at once."""
     rng, compared, blocks = Random(data), Compared(data), blocks_of(data)
-    n, (degrees, listed) = len(blocks), lists(blocks)
-    owners = [v for v, block in enumerate(blocks, 1) for _ in block]
-    places = range(len(listed)) if len(listed) <= 40 else {0, len(listed) - 1, *rng.sample(range(len(listed)), 2)}
-    for i in places:
+    n, (degrees, listed), owners = len(blocks), lists(blocks), owners_of(blocks)
+    for i in some_places(rng, listed):
         for w in [owners[i], *strays(n, listed[i])]:
             expect(compared, rng, 6, degrees, replaced(listed, i, w))
             expect(compared, rng, 6, degrees, replaced(listed, i, w), rng.choice([0, len(data) - 1, len(data) + 1]))
@@ -223,6 +237,18 @@ def on_strays(data):
     # the highest terminal where it would be cut to 0
     if n in listed:
         expect(compared, rng, 6, degrees, [0 if w == n else w for w in listed])
+    return compared.result()
+
+
+def on_one_sided(data):
+    """At each place of a small record, or at some, a neighbour becomes another terminal, of three or more."""
+    rng, compared, blocks = Random(data), Compared(data), blocks_of(data)
+    n, (degrees, listed), owners = len(blocks), lists(blocks), owners_of(blocks)
+    for i in some_places(rng, listed):
+        others = sorted({*range(1, n + 1)} - {owners[i], listed[i]})
+        for w in {others[0], others[-1], rng.choice(others)}:
+            expect(compared, rng, 8, degrees, replaced(listed, i, w))
+            expect(compared, rng, 8, degrees, replaced(listed, i, w), rng.choice([0, len(data) - 1, len(data) + 1]))
     return compared.result()
 
 
@@ -240,6 +266,37 @@ UNEVEN = [
     [[2] * (MOST_WIRES + 1), [1] * (MOST_WIRES - 1)],
     [[2] * (2 * MOST_WIRES), []],
 ]
+
+
+# The borders of the rooms
+
+# The most terminals and wires of each room but the largest, which takes all
+ROOMS = [(128, 256), (512, 1024), (MOST_TERMINALS, 4096)]
+# So many where the other number is at a border
+FEW_TERMINALS, FEW_WIRES = 5, 9
+
+
+def border_sizes():
+    """Terminals and wires: one of them at a border or one above it, and few of the other; both at the borders of one
+    room; the one at its border, and the other one above."""
+    found = []
+    for n, m in ROOMS:
+        found += [(FEW_TERMINALS, m), (FEW_TERMINALS, m + 1), (n, FEW_WIRES), (n, m), (n, m + 1)]
+        if n < MOST_TERMINALS:
+            found += [(n + 1, FEW_WIRES), (n + 1, m)]
+    return found
+
+
+def along(rng, n, m):
+    """So many wires along a path, one of them at each of its ends."""
+    _, wires = shapes.path(n)
+    return shapes.shuffled(rng, (n, [wires[0], wires[-1], *rng.choices(wires, k=m - 2)]))
+
+
+def at_border(size):
+    """A record of this size, and its lists with a stray neighbour and with a one-sided wire."""
+    data = record(along(Random(f"rooms {size}"), *size))
+    return summed(test(data) for test in (filed_again, on_strays, on_one_sided))
 
 
 # Every set of refusals at once
@@ -273,16 +330,23 @@ def first_of(rules):
 
 
 def several(case):
-    """Lists and a buffer that break these rules: 16 on each ground, 8 in each way, and 6 in any block."""
+    """Lists and a buffer that break these rules: 16 on each ground, 8 in each way, and 6 in any block that keeps its
+    neighbours where 8 is broken. So 6 and 8 are broken each by itself too, where the other is put right."""
     rules, ground, way, seed = case
     names = [function.__name__ for function in (ground, way) if function]
-    rng, compared = Random(f"{sorted(rules)} {names} {seed}"), Compared(b"")
+    drawn_by = f"{sorted(rules)} {names} {seed}"
+    rng, compared = Random(drawn_by), Compared(b"")
     blocks = blocks_of(shapes.broken(rng, rules & {8}, way=way))
-    degrees, listed = lists(blocks)
-    if 6 in rules:
-        owners = [v for v, block in enumerate(blocks, 1) for _ in block]
-        i = rng.choice([0, len(listed) - 1, rng.randrange(len(listed))])
-        listed = replaced(listed, i, rng.choice([owners[i], *strays(len(blocks), listed[i])]))
+    # the same record with 8 kept
+    even = blocks_of(shapes.broken(Random(drawn_by), set()))
+    kept = [(v, j) for v, block in enumerate(even, 1) if block == blocks[v - 1] for j in range(len(block))]
+    v, j = rng.choice([kept[0], kept[-1], rng.choice(kept)])
+    stray = rng.choice([v, *strays(len(even), even[v - 1][j])])
+    alone = {0: even, 6: shapes.changed(even, v, j, stray), 8: shapes.changed(blocks, v, j, even[v - 1][j])}
+    for number in sorted(alone.keys() & {0, *rules}):
+        found = refused(*lists(alone[number]))
+        compared.settle(found == number, f"plain.py's File of {alone[number]} refuses with {found} for {number}")
+    degrees, listed = lists(shapes.changed(blocks, v, j, stray) if 6 in rules else blocks)
     if 16 in rules:
         degrees, listed = ground(rng, degrees, listed)
     room = fitting(degrees, listed)
@@ -382,6 +446,7 @@ def families():
         "damaged records": (as_checked, passing),
         "neighbours that are no terminals": (on_strays, strayed),
         "unequal mentions": (stated, [(8, *lists(blocks)) for blocks in UNEVEN]),
+        "borders of the rooms": (at_border, border_sizes()),
         "every set of refusals": (several, sets_of_refusals()),
         "every list of few numbers": (every_small, range(4)),
         "random lists": (random_lists, range(24)),
