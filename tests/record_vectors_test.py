@@ -114,41 +114,19 @@ def filings():
         return [len(b) for b in blocks], sum(blocks, [])
     for length in (21, 20, 22):
         yield "sample", *of(SAMPLE), length
-    for length in (4, 3):
-        yield "empty", [], [], length
-    for name, blocks in (
-        ("single", [[]]),
-        ("isolated", [[], [], [], []]),
-        ("wire", WIRE),
-        ("hub", [[4], [4], [4], [3, 1, 2]]),
-        ("triple", FIXED["triple"]),
-        ("apart", [[], [4], [], [2], []]),
-    ):
+    yield "empty", [], [], 4
+    for name, blocks in ("apart", [[], [4], [], [2], []]), ("triple", FIXED["triple"]):
         yield name, *of(blocks), len(record(blocks))
     # 16
     yield "odd", [1, 1, 1], [2, 1, 2], 9
-    yield "short_list", [1, 1], [2], 7
-    yield "long_list", [1, 1], [2, 1, 2], 7
-    yield "no_list", [1, 1], [], 7
-    yield "no_degrees", [], [1, 1], 7
     yield "wrapped", [65535, 3], [2, 1], 7
-    # 6 and 8
-    yield "zero", [1, 1], [2, 0], 7
-    yield "over", [1, 1], [3, 1], 7
-    yield "cut", [1, 1], [2, 4097], 7
-    yield "last", [1, 1], [65535, 1], 7
-    yield "own", [1, 1], [1, 2], 7
-    yield "one_sided", [2, 1, 1], [2, 3, 1, 2], 11
-    yield "more", [3, 1], [2, 2, 2, 1], 11
-    # several at once
-    yield "16_6_and_17", [1, 1, 1], [0, 1, 2], 7
-    yield "16_8_and_17", [2, 1], [2, 2, 1, 1], 7
-    yield "6_and_17", [1, 1], [0, 1], 6
-    yield "6_after_8", [2, 2], [2, 2, 1, 3], 11
-    yield "8_and_17", [2, 1, 1], [2, 3, 1, 2], 10
-    # many degrees
     yield "many", [0] * 4097, [], 4
-    yield "great", [65535] * 4096, [], 4
+    # 6 and 8, and several at once
+    yield "zero", [1, 1], [2, 0], 7
+    yield "cut", [1, 1], [2, 4097], 7
+    yield "one_sided", [2, 1, 1], [2, 3, 1, 2], 11
+    yield "8_and_17", [2, 1, 1], [2, 3, 1, 2], 10
+    yield "6_after_8", [2, 2], [2, 2, 1, 3], 11
 
 
 def lines():
