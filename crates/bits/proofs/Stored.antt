@@ -9,15 +9,15 @@ use native.Mathlib.Numerals.{add-one, add-two, towards-suc}
 use native.Mathlib.Omega.{arith}
 use lib.Arith.{digits-lt}
 use lib.Bits.{bitAnd, bitOr, or-step, or-zero-r, or-block, or-lt, or-shifted, and-mask}
-use lib.ListN.{length, take, drop, getD, set, replicate, length-drop}
-use lib.Pow.{shl-lt, shl-shr, shr-shr, split, high, low, pow-lt, pow-mono, pow-add, pow-pos}
-use lib.Seq.{sets, sets-eq, length-take-le}
+use lib.ListN.{length, take, drop, getD, set, replicate}
+use lib.Pow.{shl-lt, shl-shr, shr-shr, split, pow-lt, pow-mono, pow-add, pow-pos}
+use lib.Seq.{sets, sets-eq}
 use Rattle.bits.specs.Bits.{toBits, bits, value, field, put}
-use Rattle.bits.specs.Laws.Digits.{toBits-agree, toBits-append, toBits-value}
+use Rattle.bits.specs.Laws.Digits.{toBits-agree, toBits-append, toBits-below}
 use Rattle.bits.specs.Laws.Bytes.{AreBytes, length-bits, bits-append, take-bits, drop-bits}
 use Rattle.bits.specs.Laws.Fields.{field-lt, field-front, field-back}
 use Rattle.bits.specs.Laws.Packing.{take-replicate}
-use Rattle.bits.specs.Laws.Puts.{length-put, field-put, put-number, put-part, put-one, put-beside}
+use Rattle.bits.specs.Laws.Puts.{length-put, field-put, put-replaced, put-one, put-beside}
 use Rattle.bits.specs.Steps.{joined, two, three, byteOf, IsByte, fourOf, frontOf, Blank, replace}
 use Rattle.bits.specs.Laws.Joined.{field-joined, two-bytes, three-bytes}
 use Rattle.bits.proofs.Joined.{byte-field}
@@ -96,20 +96,14 @@ write : (bytes vs : List ℕ) (start w k v x y : ℕ) → start / 8 + length vs 
     → x ≡ field (8 * length vs) (bits bytes) (8 * (start / 8)) → y ≡ replace x w k v
     → bits vs ≡ toBits (8 * length vs) y
     → bits (sets bytes (start / 8) vs) ≡ put w v (bits bytes) start
-unfolding field
 write bytes vs start w k v x y h e hv ex ey eb =
     let f : ℕ = start / 8 in
-    let r : ℕ = start % 8 in
     let m : ℕ = 8 * length vs in
-    let part : List Bool = take m (drop (8 * f) (bits bytes)) in
-    let lb : length (bits bytes) ≡ 8 * length bytes = length-bits bytes in
-    let lp : length part ≡ m = length-take-le m (drop (8 * f) (bits bytes)) (simp length-drop (omega arith)) in
-    let old : toBits m x ≡ part = rw ex (toBits-value m part lp) in
-    let new : bits vs ≡ put w v part r = rw (eb, ey, ← old, ← e) (put-number r w k x v hv) in
-    let s : 8 * f + r ≡ start = omega arith in
+    let new = eb ∙ ap (toBits m) (ey ∙ ap (λ (n : ℕ). replace n w k v) ex) in
+    let s : 8 * f + start % 8 ≡ start = omega arith in
     stored bytes vs f h
     ∙ ap (λ (t : List Bool). take (8 * f) (bits bytes) ++ (t ++ drop (8 * f + m) (bits bytes))) new
-    ∙ put-part w v (bits bytes) (8 * f) m r (omega arith) (omega arith)
+    ∙ put-replaced (bits bytes) (8 * f) m (start % 8) w k v (omega (arith, length-bits bytes)) e hv
     ∙ ap (put w v (bits bytes)) s
 
 -- what a write of one, two or three bytes leaves
@@ -181,10 +175,7 @@ write-beside bytes at a b x h ha hb e ep eq er =
     let s : List Bool = bits bytes in
     let l : length s ≡ 8 * length bytes = length-bits bytes in
     let vs : List ℕ = byteOf x 16 ∷ byteOf x 8 ∷ byteOf x 0 ∷ [] in
-    let top : x / 2 ^ 12 ≡ a = ap (λ (n : ℕ). n / 2 ^ 12) e ∙ high a 12 hb in
-    let rest : x % 2 ^ 12 ≡ b % 2 ^ 12 = ap (λ (n : ℕ). n % 2 ^ 12) e ∙ low a 12 hb ∙ sym (mod-eq-of-lt hb) in
-    let new : bits vs ≡ toBits 12 a ++ toBits 12 b =
-    bits-three x ∙ toBits-append 12 12 x ∙ ap₂ _++_ (ap (toBits 12) top) (toBits-agree 12 x b rest) in
+    let new : bits vs ≡ toBits 12 a ++ toBits 12 b = bits-three x ∙ ap (toBits 24) e ∙ toBits-below 12 12 a b hb in
     rw (ep, eq, er, add-one at, add-two at)
     (stored bytes vs at h ∙ ap (λ (t : List Bool). take (8 * at) s ++ (t ++ drop (8 * at + 24) s)) new
     ∙ sym (put-beside 12 a 12 b s (8 * at) (omega arith)))
@@ -283,7 +274,7 @@ pub write-blank : {s : List Bool} (start w k v : ℕ) → Blank s start → 8 * 
     → start % 8 + (w + k) ≡ 64 → v < 2 ^ w
     → {t : ℕ} → t ≡ frontOf s start
     → put 64 (bitOr (t * 2 ^ w % 2 ^ 64) v * 2 ^ k % 2 ^ 64) s (8 * (start / 8)) ≡ put w v s start
-unfolding field put
+unfolding put
 write-blank {s} start w k v z h e hv {t} et =
     let g : ℕ = 8 * (start / 8) in
     let r : ℕ = start % 8 in
@@ -299,10 +290,5 @@ write-blank {s} start w k v z h e hv {t} et =
     let t64 : t * 2 ^ w < 2 ^ 64 = lt-of-lt-of-le (shl-lt r w tl) (pow-mono {i = r + w} {j = 64} (omega arith)) in
     let x : bitOr (t * 2 ^ w % 2 ^ 64) v * 2 ^ k % 2 ^ 64 ≡ replace y w k v =
     rw (mod-eq-of-lt t64, or-shifted t w v hv, mod-eq-of-lt x64, ey) (sym (replace-zeros t w k v)) in
-    let part : List Bool = take 64 (drop g s) in
-    let old : toBits 64 y ≡ part =
-    toBits-value 64 part (length-take-le 64 (drop g s) (simp length-drop (omega arith))) in
-    let new : toBits 64 (replace y w k v) ≡ put w v part r =
-    rw e at (put-number r w k y v hv) ∙ ap (λ (l : List Bool). put w v l r) old in
-    ap (λ (l : List Bool). take g s ++ (l ++ drop (g + 64) s)) (ap (toBits 64) x ∙ new)
-    ∙ put-part w v s g 64 r h (omega arith) ∙ ap (put w v s) at-start
+    ap (λ (n : ℕ). take g s ++ (toBits 64 n ++ drop (g + 64) s)) x
+    ∙ put-replaced s g 64 r w k v h e hv ∙ ap (put w v s) at-start

@@ -10,7 +10,7 @@ use mathlib.Core.List.{List, [], map}
 use mathlib.Core.Option.{none}
 use Prim.Native.Nat.{ℕ, suc, _+_, _-_, _*_, _≤_, _<_}
 use native.Mathlib.Omega.{arith}
-use lib.ListN.{length, getD, take, length-map}
+use lib.ListN.{length, getD, take}
 use Rattle.bits.specs.Laws.Bytes.{AreBytes}
 use Rattle.graph.specs.Graph.{Blocks, block, Place, mentions, twin}
 use Rattle.graph.specs.Search.{Forest, all, search, countUp, forest}
@@ -22,13 +22,12 @@ use Rattle.graph.specs.Forest.{children as childrenIn}
 use Rattle.graph.specs.Counts.{countPlaces, countEdges, atNeither, lowest, looms}
 use Rattle.graph.specs.Theorems.{wire-places, ancestor-told, looms-told, as-many-looms, edges-counted}
 use Rattle.graph.specs.Theorems.{counted-twice}
-use Rattle.record.specs.Record.{terminals, wires, unary, fields, blocks}
+use Rattle.record.specs.Record.{terminals, wires, unary, blocks}
 use Rattle.record.specs.Rules.{firstBroken}
 use Rattle.record.specs.Answers.{refused, answered}
 use Rattle.forest.specs.Index.{indexBy, indexOf, markBytes, indexLength}
 use Rattle.record.specs.Operations.{outOfRange, Accepted, check, degree, unpack, unpacked}
 use Rattle.record.specs.Filing.{recordFrom, badLists, file, filed}
-use Rattle.record.specs.Laws.Layout.{length-fields}
 use Rattle.record.specs.Laws.Refiled as Refiled
 use Rattle.adjacency.specs.Places.{anyIn}
 use Rattle.record.specs.Laws.Sound.{accepted-well-formed}
@@ -151,25 +150,16 @@ module _ (degrees neighbours buffer : List ℕ) where
 
     pub filed-degree : {v : ℕ} → v < length degrees
         → degree (filed degrees neighbours buffer) (v + 1) ≡ answered (getD degrees v 0)
-    filed-degree {v} h =
-        Refiled.degrees-told filed-accepted v (omega (arith, filed-terminals))
-        ∙ ap (λ (l : List ℕ). answered (getD l v 0)) (Refiled.filed-degrees degrees neighbours buffer e)
+    filed-degree {v} = Refiled.filed-degree degrees neighbours buffer e v
 
     -- and Unpack the neighbours
     pub filed-wires : 2 * wires (filed degrees neighbours buffer) ≡ length neighbours
-    filed-wires =
-        sym (length-fields (filed degrees neighbours buffer))
-        ∙ sym (length-map (fields (filed degrees neighbours buffer)) suc)
-        ∙ ap length (Refiled.filed-unpacks degrees neighbours buffer e)
+    filed-wires = Refiled.filed-wires degrees neighbours buffer e
 
     pub filed-unpack : (list : List ℕ) → length list ≡ length neighbours
         → (unpack (filed degrees neighbours buffer) list ≡ answered tt)
         × (unpacked (filed degrees neighbours buffer) list ≡ neighbours)
-    filed-unpack list h = (
-      Refiled.unpack-told filed-accepted list (h ∙ sym filed-wires),
-      Refiled.unpacks-told filed-accepted list (h ∙ sym filed-wires)
-          ∙ Refiled.filed-unpacks degrees neighbours buffer e,
-    )
+    filed-unpack = Refiled.filed-unpack degrees neighbours buffer e
 
 -- between 16 and 17 come 6 and 8 alone: a neighbour that is 0 or above n gives 6, and where there is none, Check
 -- refuses the result by no other rule
@@ -199,11 +189,7 @@ pub filed-again : {bytes : List ℕ} → Accepted bytes → AreBytes bytes → (
     → length list ≡ 2 * wires bytes → length buffer ≡ length bytes
     → (unpack bytes list ≡ answered tt)
     × (file degrees (unpacked bytes list) buffer ≡ answered tt) × (filed degrees (unpacked bytes list) buffer ≡ bytes)
-filed-again a h degrees list buffer d tells l b =
-    let e = Refiled.told-degrees a {degrees = degrees} d tells in
-    let f = Refiled.unpacks-told a list l in
-    let (g, i) = Refiled.refiled a h buffer b in
-    (Refiled.unpack-told a list l, rw (e, f) g, rw (e, f) i)
+filed-again = Refiled.filed-again
 
 -- ---- for any index that Build writes
 

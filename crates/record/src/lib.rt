@@ -1,6 +1,6 @@
 // Records (document 01, "Record"): checking, the questions that need no search, and a record from lists (document 02).
-// No function of this file has
-// a precondition; most functions of the public modules, which are for the crates above, have one.
+// No function of this file has a precondition; most functions of the public modules, which are for the crates above,
+// have one.
 ghost use mathlib.Core.Path.{_≡_};
 ghost use Rattle.record.specs.Rules.{checkRules};
 ghost use Rattle.record.specs.Answers.{number, verdict, counted, shape, tried, sizesOf};

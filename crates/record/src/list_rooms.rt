@@ -27,7 +27,7 @@ fn try_in(
 {
     let n = degrees.len();
     let blocks = n + 1;
-    let fields = 2 * (neighbours.len() / 2);
+    let fields = neighbours.len();
     try_lists(
         degrees,
         neighbours,

@@ -377,8 +377,8 @@ fn filed() {
     file(b"triple", &[3, 3], &[2, 2, 2, 1, 1, 1], 14);
 }
 
-// 16: an odd sum; one that is the number of neighbours in 16 bits alone; a degree too many. 6: a neighbour that is 0, or
-// right in 12 bits alone. 8: a wire at one end only; with 17 too; and with 6 behind it, which is told.
+// 16: an odd sum; one that is the number of neighbours in 16 bits alone; a degree too many. 6: a neighbour that is 0,
+// or right in 12 bits alone. 8: a wire at one end only; with 17 too; and with 6 behind it, which is told.
 fn not_filed() {
     file(b"odd", &[1, 1, 1], &[2, 1, 2], 9);
     file(b"wrapped", &[65535, 3], &[2, 1], 7);

@@ -107,3 +107,9 @@ toBits-append a b v =
       value-toBits a (v / 2 ^ b),
       value-toBits b v,
     )))
+
+-- a number below another
+pub toBits-below : (a b x y : ℕ) → y < 2 ^ b → toBits (a + b) (x * 2 ^ b + y) ≡ toBits a x ++ toBits b y
+toBits-below a b x y h =
+    toBits-append a b (x * 2 ^ b + y)
+    ∙ ap₂ _++_ (ap (toBits a) (high x b h)) (toBits-agree b (x * 2 ^ b + y) y (low x b h ∙ sym (mod-eq-of-lt h)))

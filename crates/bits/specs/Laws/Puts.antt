@@ -12,7 +12,7 @@ use lib.Seq.{take-at, drop-at, take-add, take-take, length-take-le}
 use lib.Seq.{drop-drop, drop-append-le, drop-append-add, set-split}
 use Rattle.bits.specs.Bits.{toBits, bit, value, field, put}
 use Rattle.bits.specs.Steps.{fourOf, replace}
-use Rattle.bits.specs.Laws.Digits.{length-toBits, toBits-agree, toBits-append}
+use Rattle.bits.specs.Laws.Digits.{length-toBits, toBits-agree, toBits-append, toBits-below, toBits-value}
 use Rattle.bits.specs.Laws.Fields.{field-append, field-laid}
 
 module _ (w v : ℕ) (s : List Bool) (start : ℕ) (h : start + w ≤ length s) where
@@ -84,14 +84,8 @@ put-beside w a u b s p h =
 pub four-bits : (a b c d : ℕ) → a < 4096 → b < 4096 → c < 4096 → d < 4096
     → toBits 48 (fourOf a b c d) ≡ (toBits 12 a ++ toBits 12 b) ++ (toBits 12 c ++ toBits 12 d)
 four-bits a b c d ha hb hc hd =
-    two-bits 24 24 (a * 2 ^ 12 + b) (c * 2 ^ 12 + d) (omega arith)
-    ∙ ap₂ _++_ (two-bits 12 12 a b hb) (two-bits 12 12 c d hd)
-  where
-    two-bits : (w u x y : ℕ) → y < 2 ^ u → toBits (w + u) (x * 2 ^ u + y) ≡ toBits w x ++ toBits u y
-    two-bits w u x y h =
-        toBits-append w u (x * 2 ^ u + y)
-        ∙ ap₂ _++_ (ap (toBits w) (high x u h))
-        (toBits-agree u (x * 2 ^ u + y) y (low x u h ∙ sym (mod-eq-of-lt h)))
+    toBits-below 24 24 (a * 2 ^ 12 + b) (c * 2 ^ 12 + d) (omega arith)
+    ∙ ap₂ _++_ (toBits-below 12 12 a b hb) (toBits-below 12 12 c d hd)
 
 -- a field of one bit
 pub put-one : (b : Bool) (s : List Bool) (i : ℕ) → i < length s → put 1 (bit b) s i ≡ set s i b
@@ -100,7 +94,7 @@ put-one true s i h = rw (add-one i) (sym (set-split s i true h))
 put-one false s i h = rw (add-one i) (sym (set-split s i false h))
 
 -- put into r + w + k bits of a number: the bits above the field, the field, and those below it
-pub put-number : (r w k x v : ℕ) → v < 2 ^ w
+put-number : (r w k x v : ℕ) → v < 2 ^ w
     → toBits (r + (w + k)) (replace x w k v) ≡ put w v (toBits (r + (w + k)) x) r
 unfolding put
 put-number r w k x v hv =
@@ -123,7 +117,7 @@ put-number r w k x v hv =
     (toBits-agree k y x (low hi k (mod-lt x (pow-pos k))) ∙ sym back))
 
 -- a field put into the n bits from bit g on is put into the whole
-pub put-part : (w v : ℕ) (s : List Bool) (g n r : ℕ) → g + n ≤ length s → r + w ≤ n
+put-part : (w v : ℕ) (s : List Bool) (g n r : ℕ) → g + n ≤ length s → r + w ≤ n
     → take g s ++ (put w v (take n (drop g s)) r ++ drop (g + n) s) ≡ put w v s (g + r)
 unfolding put
 put-part w v s g n r h k =
@@ -146,3 +140,15 @@ put-part w v s g n r h k =
       front,
       back,
     )
+
+-- so it is the m bits from bit g on, as a number with a field replaced
+pub put-replaced : (s : List Bool) (g m r w k v : ℕ) → g + m ≤ length s → r + (w + k) ≡ m → v < 2 ^ w
+    → take g s ++ (toBits m (replace (field m s g) w k v) ++ drop (g + m) s) ≡ put w v s (g + r)
+unfolding field
+put-replaced s g m r w k v h e hv =
+    let part : List Bool = take m (drop g s) in
+    let old : toBits m (value part) ≡ part =
+    toBits-value m part (length-take-le m (drop g s) (simp length-drop (omega arith))) in
+    let new : toBits m (replace (value part) w k v) ≡ put w v part r =
+    rw e at (put-number r w k (value part) v hv) ∙ ap (λ (t : List Bool). put w v t r) old in
+    ap (λ (t : List Bool). take g s ++ (t ++ drop (g + m) s)) new ∙ put-part w v s g m r h (omega arith)

@@ -1,6 +1,7 @@
 -- What two lists that rule 16 lets pass give.
 --   listed            their lengths, and the sum of the degrees
 --   listed-good       and the other way round
+--   listed-pairs      there is an even number of neighbours
 --   length-byDegrees  a block for each degree
 --   degrees-back      the degrees of some blocks and their neighbours in a row give the blocks
 --   neighbours-back   the blocks that two lists give have the neighbours again
@@ -9,7 +10,7 @@
 use mathlib.Core.Path.{_≡_, refl, ap, ap₂, _∙_}
 use mathlib.Core.Bool.{false}
 use mathlib.Core.List.{List, [], _∷_, _++_, flatten, map, sum}
-use Prim.Native.Nat.{ℕ, _%_}
+use Prim.Native.Nat.{ℕ, _*_, _/_, _%_}
 use native.Mathlib.Omega.{arith}
 use borrow.Author.Tests.{ltb-false, le-ltb, eqb-true, eqb-false, eq-eqb, ne-eqb, not-false}
 use lib.Dec.{eqb, ltb}
@@ -50,6 +51,14 @@ listed-good {degrees} {neighbours} l =
       le-ltb 32768 (total degrees) (l .fits),
       eq-eqb (length neighbours) (total degrees) (l .whole),
     )
+
+-- the neighbours come in pairs
+pub listed-pairs : {degrees neighbours : List ℕ} → Listed degrees neighbours
+    → 2 * (length neighbours / 2) ≡ length neighbours
+listed-pairs l =
+    let e = l .even in
+    let w = l .whole in
+    omega arith
 
 -- ---- the blocks
 

@@ -14,6 +14,9 @@
 --   told-degrees    and no others are told
 --   unpack-told     Unpack refuses nothing
 --   unpacks-told    and leaves what the record unpacks to
+--   filed-degree    so Degree tells what was filed
+--   filed-unpack    and Unpack leaves it, in a list of the right length (filed-wires)
+--   filed-again     and what Degree tells and Unpack leaves, filed, is the record
 use mathlib.Core.Path.{_≡_, refl, sym, ap, ap₂, _∙_}
 use mathlib.Core.Bool.{true, false, not}
 use mathlib.Core.List.{List, [], _∷_, map}
@@ -270,3 +273,40 @@ module _ {bytes : List ℕ} (a : Accepted bytes) where
     pub unpacks-told : unpacked bytes list ≡ map suc (fields bytes)
     unfolding unpacked
     unpacks-told = sym (buffer-written (unpackRules bytes list) (map suc (fields bytes)) list unpack-kept)
+
+-- what was filed
+module _ (degrees neighbours bytes : List ℕ) (e : file degrees neighbours bytes ≡ answered tt) where
+  accepted : Accepted (filed degrees neighbours bytes)
+  accepted = filed-accepted degrees neighbours bytes e
+
+  pub filed-degree : (v : ℕ) → v < length degrees
+      → degree (filed degrees neighbours bytes) (v + 1) ≡ answered (getD degrees v 0)
+  filed-degree v h =
+      degrees-told accepted v (omega (arith, filed-terminals degrees neighbours bytes e))
+      ∙ ap (λ (l : List ℕ). answered (getD l v 0)) (filed-degrees degrees neighbours bytes e)
+
+  pub filed-wires : 2 * wires (filed degrees neighbours bytes) ≡ length neighbours
+  filed-wires =
+      sym (length-fields (filed degrees neighbours bytes))
+      ∙ sym (length-map (fields (filed degrees neighbours bytes)) suc)
+      ∙ ap length (filed-unpacks degrees neighbours bytes e)
+
+  pub filed-unpack : (list : List ℕ) → length list ≡ length neighbours
+      → (unpack (filed degrees neighbours bytes) list ≡ answered tt)
+      × (unpacked (filed degrees neighbours bytes) list ≡ neighbours)
+  filed-unpack list h =
+      let size = h ∙ sym filed-wires in
+      (unpack-told accepted list size, unpacks-told accepted list size ∙ filed-unpacks degrees neighbours bytes e)
+
+-- what is unpacked, filed
+pub filed-again : {bytes : List ℕ} → Accepted bytes → AreBytes bytes → (degrees list buffer : List ℕ)
+    → length degrees ≡ terminals bytes
+    → ((v : ℕ) → v < terminals bytes → degree bytes (v + 1) ≡ answered (getD degrees v 0))
+    → length list ≡ 2 * wires bytes → length buffer ≡ length bytes
+    → (unpack bytes list ≡ answered tt)
+    × (file degrees (unpacked bytes list) buffer ≡ answered tt) × (filed degrees (unpacked bytes list) buffer ≡ bytes)
+filed-again a h degrees list buffer d tells l b =
+    let e = told-degrees a {degrees = degrees} d tells in
+    let f = unpacks-told a list l in
+    let (g, i) = refiled a h buffer b in
+    (unpack-told a list l, rw (e, f) g, rw (e, f) i)

@@ -1,11 +1,12 @@
 -- A whole record: the header, D and the fields, written one after the other, are the record of the two lists.
 --   header-on     D is written behind the header
+--   record-room   there is room for each part
 --   length-front  where the fields begin
 --   written       all of it is written
 use mathlib.Core.Path.{_≡_, refl, sym, ap, _∙_}
 use mathlib.Core.Bool.{Bool, true, false}
 use mathlib.Core.List.{List, [], _∷_, _++_, append-assoc, map}
-use Prim.Native.Nat.{ℕ, _+_, _-_, _/_}
+use Prim.Native.Nat.{ℕ, _+_, _-_, _*_, _/_, _≤_}
 use native.Mathlib.Omega.{arith}
 use lib.ListN.{length, take, replicate, length-append, length-map}
 use Rattle.bits.specs.Bits.{toBits, bits, pack}
@@ -20,7 +21,7 @@ use Rattle.record.specs.Filing.{byDegrees, recordFrom}
 use Rattle.record.specs.Steps.{Listed, unaryBits}
 use Rattle.record.specs.Laws.Fields.{length-fieldBits}
 use Rattle.record.specs.Laws.RoundTrip.{length-headerBits}
-use Rattle.record.specs.Laws.Listed.{length-byDegrees, neighbours-back, lengths-back}
+use Rattle.record.specs.Laws.Listed.{listed-pairs, length-byDegrees, neighbours-back, lengths-back}
 use Rattle.record.proofs.Laws.Writing.Unary.{length-unaryBits}
 
 -- D is written behind the header
@@ -47,6 +48,17 @@ module _ {degrees neighbours : List ℕ} (l : Listed degrees neighbours) where
   whole : total degrees ≡ length numbers
   unfolding numbers
   whole = sym (l .whole) ∙ sym (length-map neighbours (λ v. v - 1))
+
+  -- the record has room for each of them, and the header for m
+  pub record-room : {k : ℕ} → k ≡ recordLength (length degrees) (length neighbours / 2)
+      → (4 ≤ k) × (length neighbours / 2 ≤ 16384) × (28 + (length degrees + total degrees) ≤ 8 * k)
+      × (28 + (length degrees + length neighbours) + 12 * length neighbours ≤ 8 * k)
+  unfolding recordLength usedBits
+  record-room e =
+      let fits = l .fits in
+      let size = l .whole in
+      let pairs = listed-pairs l in
+      (omega arith, omega arith, omega arith, omega arith)
 
   -- where the fields begin
   pub length-front : 28 + (length degrees + length neighbours)
