@@ -1,11 +1,13 @@
--- Counting: the places and the wires that pass a test, and the looms.
+-- Counting: the places and the wires that pass a test, the looms, and the sections.
 use Prim.Native.Nat.{ℕ, zero, suc, _+_}
 use mathlib.Core.Bool.{Bool, true, false, not, _||_}
+use mathlib.Core.List.{List, [], _∷_, map}
 use lib.Dec.{eqb, ltb}
 use lib.ListN.{length}
-use Rattle.graph.specs.Graph.{Blocks, block, target, twin}
-use Rattle.graph.specs.Search.{PlaceTest, all}
+use Rattle.graph.specs.Graph.{Blocks, block, target, mentions, twin}
+use Rattle.graph.specs.Search.{Forest, PlaceTest, all, countUp}
 use Rattle.graph.specs.Joined.{joined}
+use Rattle.graph.specs.Forest.{head}
 
 abbrev pub when : Bool → ℕ → ℕ  -- x where the test passes, else 0
 when true x = x
@@ -41,3 +43,13 @@ lowest g v = first (λ u. joined g all u v) v
 -- how many looms there are: a loom is the vertices joined to one another, counted at its lowest
 unfoldable pub looms : Blocks → ℕ
 looms g = sum (length g) (λ v. when (eqb (lowest g v) v) 1)
+
+-- ---- sections
+
+unfoldable pub different : List ℕ → ℕ  -- how many different numbers stand in a list: each counts where it stands last
+different [] = 0
+different (x ∷ l) = when (eqb (mentions x l) 0) 1 + different l
+
+-- how many sections there are: a section is the vertices that share a head
+unfoldable pub sections : Blocks → Forest → ℕ
+sections g F = different (map (head g F) (countUp 0 (length g)))

@@ -15,7 +15,8 @@ use Rattle.graph.specs.Search.{forest}
 use Rattle.graph.specs.Joined.{without, joined, bridge, DoublyJoined}
 use Rattle.graph.specs.Forest.{number, vertexAt, climb, parent, roots, rootOf, head, children, childMark}
 use Rattle.graph.specs.Forest.{parentMark}
-use Rattle.graph.specs.Counts.{sum, over, countPlaces, countEdges, atNeither, first, lowest, looms}
+use Rattle.graph.specs.Counts.{sum, over, countPlaces, countEdges, atNeither, first, lowest, looms, different}
+use Rattle.graph.specs.Counts.{sections}
 use Rattle.graph.specs.Theorems.{start-covers, same-heads}
 use Rattle.graph.specs.Laws.Places.Basics.{clash, and-parts}
 use Rattle.graph.specs.Laws.Places.Pairing.{well-formed-at}
@@ -35,6 +36,10 @@ marksFrom test u (l ∷ g) = marksOf test u 0 l ∷ marksFrom test (suc u) g
 abbrev counts : Blocks → Forest → List ℕ
 counts g F =
     roots F ∷ looms g ∷ countEdges g (atNeither g (childMark F)) ∷ countPlaces g (atNeither g (childMark F)) ∷ []
+
+-- the sections, the roots, the places with the mark B, and the bridges
+abbrev sectionCounts : Blocks → Forest → List ℕ
+sectionCounts g F = sections g F ∷ roots F ∷ countPlaces g (bridge g) ∷ countEdges g (bridge g) ∷ []
 
 -- ---- well formed: tested at each place
 
@@ -145,16 +150,27 @@ unfolding roots looms lowest first joined search run arcs entered flatten countE
     pair position mentions childMark
 sample-counts = refl
 
+-- 4 = 2 + 4 / 2
+sample-sections : sectionCounts sample sampleForest ≡ 4 ∷ 2 ∷ 4 ∷ 2 ∷ []
+unfolding sections different head climb roots bridge joined without pair position mentions search run countUp arcs
+    entered flatten countEdges countPlaces over sum
+sample-sections = refl
+
 -- from vertex 3: the same groups, in which 0, 1 and 2 have the head 2
 sample-heads-from-3 : map (head sample (forest sample 3)) vertices ≡ 2 ∷ 2 ∷ 2 ∷ 3 ∷ 4 ∷ 5 ∷ []
 unfolding head climb bridge joined without pair position mentions search run startsFrom countUp arcs entered flatten
 sample-heads-from-3 = refl
 
--- and as many roots and wires outside the forest
+-- and as many roots, wires outside the forest, and sections
 sample-counts-from-3 : counts sample (forest sample 3) ≡ 2 ∷ 2 ∷ 1 ∷ 2 ∷ []
 unfolding roots looms lowest first joined search run startsFrom countUp arcs entered flatten countEdges countPlaces over
     sum atNeither pair position mentions childMark
 sample-counts-from-3 = refl
+
+sample-sections-from-3 : sectionCounts sample (forest sample 3) ≡ 4 ∷ 2 ∷ 4 ∷ 2 ∷ []
+unfolding sections different head climb roots bridge joined without pair position mentions search run startsFrom countUp
+    arcs entered flatten countEdges countPlaces over sum
+sample-sections-from-3 = refl
 
 -- ---- two wires between the same ends, and a single one further on
 
@@ -193,11 +209,21 @@ unfolding roots looms lowest first joined search run startsFrom countUp arcs ent
     sum atNeither pair position mentions childMark
 doubled-counts = refl
 
+-- 2 = 1 + 2 / 2: the doubled wire is no bridge
+doubled-sections : sectionCounts doubled (forest doubled 0) ≡ 2 ∷ 1 ∷ 2 ∷ 1 ∷ []
+unfolding sections different head climb roots bridge joined without pair position mentions search run startsFrom countUp
+    arcs entered flatten countEdges countPlaces over sum
+doubled-sections = refl
+
 -- ---- no vertices, and three without wires
 
 empty-counts : counts [] (forest [] 0) ≡ 0 ∷ 0 ∷ 0 ∷ 0 ∷ []
 unfolding roots looms search run startsFrom flatten countEdges countPlaces over sum
 empty-counts = refl
+
+empty-sections : sectionCounts [] (forest [] 0) ≡ 0 ∷ 0 ∷ 0 ∷ 0 ∷ []
+unfolding sections different roots search run startsFrom countUp flatten countEdges countPlaces over sum
+empty-sections = refl
 
 abbrev isolated : Blocks
 isolated = [] ∷ [] ∷ [] ∷ []
@@ -206,3 +232,8 @@ isolated-counts : counts isolated (forest isolated 0) ≡ 3 ∷ 3 ∷ 0 ∷ 0 �
 unfolding roots looms lowest first joined search run startsFrom countUp arcs entered flatten countEdges countPlaces over
     sum
 isolated-counts = refl
+
+isolated-sections : sectionCounts isolated (forest isolated 0) ≡ 3 ∷ 3 ∷ 0 ∷ 0 ∷ []
+unfolding sections different head climb roots mentions search run startsFrom countUp arcs entered flatten countEdges
+    countPlaces over sum
+isolated-sections = refl

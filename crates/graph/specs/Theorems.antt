@@ -1,10 +1,11 @@
 -- The theorems, for the forest of any list of starts that covers the vertices, and for doubled neighbours too. Each is
 -- a citation of a law.
-use Prim.Native.Nat.{ℕ, suc, _-_, _*_, _+_, _≤_, _<_, min}
+use Prim.Native.Nat.{ℕ, suc, _-_, _*_, _/_, _+_, _≤_, _<_, min}
 use mathlib.Core.Path.{_≡_}
 use mathlib.Core.Logic.{_⊎_, inr, _↔_}
 use mathlib.Core.Bool.{Bool, true, false}
 use mathlib.Core.List.{List, [], _∷_, List·Memᴰ, flatten}
+use native.Mathlib.Omega.{arith}
 use lib.Dec.{eqb}
 use lib.ListN.{length, take}
 use Rattle.graph.specs.Graph.{Blocks, block, Place, mentions, position, pair, twin, WellFormed}
@@ -12,7 +13,7 @@ use Rattle.graph.specs.Search.{Forest, PlaceTest, all, entered, search, 
 use Rattle.graph.specs.Joined.{Chain, without, joined, bridge, DoublyJoined}
 use Rattle.graph.specs.Forest.{number, vertexAt, parent, roots, rootOf, head, Ancestor, children}
 use Rattle.graph.specs.Forest.{childMark, parentMark}
-use Rattle.graph.specs.Counts.{when, sum, countPlaces, countEdges, atNeither, lowest, looms}
+use Rattle.graph.specs.Counts.{when, sum, countPlaces, countEdges, atNeither, lowest, looms, sections}
 use Rattle.graph.specs.Walk.{walk}
 use Rattle.graph.specs.Laws.Places.Mentions.{Mention}
 use Rattle.graph.specs.Laws.Places.Pairing.{InRange, Balanced, pair-told, both-ends}
@@ -44,6 +45,7 @@ use Rattle.graph.specs.Laws.Counts.Edges.{two-places, neither-twin, all-
 use Rattle.graph.specs.Laws.Counts.Roots.{roots-parentless, roots-fewer}
 use Rattle.graph.specs.Laws.Counts.Looms.{lowest-joined, lowest-least, lowest-told, roots-looms}
 use Rattle.graph.specs.Laws.Counts.Loops.{roots-and-edges}
+use Rattle.graph.specs.Laws.Counts.Sections.{bridges-twice, sections-edges}
 
 -- `forest g s` takes s and then the vertices in order: they cover
 pub start-covers : (g : Blocks) (s : ℕ) → Startable g s → Covers g (startsFrom (length g) s)
@@ -339,3 +341,17 @@ module _ {g : Blocks} (wf : WellFormed g) {starts : List ℕ} (cov : Covers g st
   pub edges-outside : (m : ℕ) → length (flatten g) ≡ 2 * m
       → m + roots (search g all starts) ≡ length g + countEdges g (atNeither g (childMark (search g all starts)))
   edges-outside = roots-and-edges wf (spans (wf .in-range) cov)
+
+-- ---- 10. There are as many different heads as roots and half the places with the mark B together
+
+-- a bridge has two such places, so that their number is even
+pub bridges-counted : {g : Blocks} → WellFormed g → countPlaces g (bridge g) ≡ 2 * countEdges g (bridge g)
+bridges-counted = bridges-twice
+
+module _ {g : Blocks} (wf : WellFormed g) {starts : List ℕ} (cov : Covers g starts) where
+  pub sections-counted : sections g (search g all starts) ≡ roots (search g all starts) + countPlaces g (bridge g) / 2
+  sections-counted = omega (arith, sections-edges wf (spans (wf .in-range) cov), bridges-twice wf)
+
+  -- so every start gives as many: one for each loom, and one more for each bridge
+  pub as-many-sections : sections g (search g all starts) ≡ looms g + countEdges g (bridge g)
+  as-many-sections = omega (arith, sections-edges wf (spans (wf .in-range) cov), as-many-looms wf cov)

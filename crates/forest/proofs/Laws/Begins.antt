@@ -16,8 +16,9 @@ use Rattle.graph.specs.Graph.{Blocks}
 use Rattle.graph.specs.Search.{Forest, all, search, countUp, startsFrom}
 use Rattle.graph.specs.Forest.{number}
 use Rattle.graph.specs.Laws.Places.Basics.{Told, pass, fail, told}
+use Rattle.graph.specs.Laws.Places.CountUp.{count-more, count-none}
 use Rattle.graph.specs.Laws.Tree.Entries.{Entered}
-use Rattle.graph.specs.Laws.Joined.Spanning.{count-more, count-none, Covers, Spanning, search-spans, forest-length}
+use Rattle.graph.specs.Laws.Joined.Spanning.{Covers, Spanning, search-spans, forest-length}
 use Rattle.graph.specs.Laws.Joined.Starts.{starts-more, starts-many, starts-cover}
 use Rattle.graph.specs.Laws.Loop.Arrays.{Kept, visit-entered}
 use Rattle.graph.specs.Laws.Loop.Invariant.{Loop, loop-begin, loop-full, loop-end}

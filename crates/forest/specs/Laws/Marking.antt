@@ -10,9 +10,10 @@ use lib.ListN.{length, take, set, replicate, length-append, replicate-append-rep
 use lib.Seq.{set-append-left}
 use Rattle.graph.specs.Graph.{Blocks, block}
 use Rattle.graph.specs.Search.{PlaceTest, countUp}
+use Rattle.graph.specs.Laws.Places.CountUp.{length-each, each-same}
 use Rattle.record.specs.Record.{layOut}
 use Rattle.forest.specs.Index.{marksFrom, section}
-use Rattle.forest.specs.Laws.Sections.{length-each, each-same, placeBit, laidFrom, marksOf, marks-same}
+use Rattle.forest.specs.Laws.Sections.{placeBit, laidFrom, marksOf, marks-same}
 
 -- ---- no mark
 

@@ -1,41 +1,17 @@
--- The bits of a section: how many they are, and where those of a vertex and of its block stand; and the numbers in
--- order.
+-- The bits of a section: how many they are, and where those of a vertex and of its block stand; and the stored numbers.
 use mathlib.Core.Path.{_≡_, refl, ap, ap₂, _∙_}
 use mathlib.Core.Bool.{Bool, false}
 use mathlib.Core.List.{List, [], _∷_, _++_, map, flatten}
 use Prim.Native.Nat.{ℕ, zero, suc, _+_, _≤_, _<_}
 use native.Mathlib.Omega.{arith}
-use lib.ListN.{length, take, getD, length-append, length-map, List·getD-append}
+use lib.ListN.{length, take, getD, length-append, List·getD-append}
 use lib.Seq.{getD-append-add}
 use Rattle.graph.specs.Graph.{Blocks, block}
 use Rattle.graph.specs.Search.{Forest, PlaceTest, countUp}
 use Rattle.graph.specs.Forest.{number}
-use Rattle.graph.specs.Laws.Joined.Spanning.{count-length}
+use Rattle.graph.specs.Laws.Places.CountUp.{length-each, each-at, each-same}
 use Rattle.record.specs.Record.{layOut}
 use Rattle.forest.specs.Index.{marksFrom, section, numbers}
-
--- ---- a function at i, i + 1, ..
-
-pub length-each : {A : Type 0} (f : ℕ → A) (i n : ℕ) → length (map f (countUp i n)) ≡ n
-length-each f i n = length-map (countUp i n) f ∙ count-length i n
-
-pub each-at : {A : Type 0} (f : ℕ → A) (d : A) (i n k : ℕ) → k < n → getD (map f (countUp i n)) k d ≡ f (i + k)
-unfolding countUp
-each-at f d i zero k h = absurd (omega arith)
-each-at f d i (suc n) zero h = ap f (omega arith)
-each-at f d i (suc n) (suc k) h = each-at f d (suc i) n k (omega arith) ∙ ap f (omega arith)
-
-pub each-same : {A : Type 0} (f h : ℕ → A) (i n : ℕ) → ((k : ℕ) → k < n → f (i + k) ≡ h (i + k))
-    → map f (countUp i n) ≡ map h (countUp i n)
-unfolding countUp
-each-same f h i zero e = refl
-each-same {A} f h i (suc n) e =
-    let z : i + 0 ≡ i = omega arith in
-    let first : f i ≡ h i = rw z at (e 0 (omega arith)) in
-    ap₂ (λ (x : A) (xs : List A). x ∷ xs) first (each-same f h (suc i) n step)
-  where
-    step : (k : ℕ) → k < n → f (suc i + k) ≡ h (suc i + k)
-    step k l = let c : i + suc k ≡ suc i + k = omega arith in rw c at (e (suc k) (omega arith))
 
 -- ---- sections
 

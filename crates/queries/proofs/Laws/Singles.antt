@@ -26,6 +26,7 @@ use Rattle.bits.specs.Bits.{bit, count, select}
 use Rattle.bits.specs.Laws.Select.{select-none, select-bounds, select-le}
 use Rattle.graph.specs.Graph.{target}
 use Rattle.graph.specs.Search.{countUp}
+use Rattle.graph.specs.Laws.Places.CountUp.{length-each, each-at}
 use Rattle.record.specs.Record.{unary, fields, blocks}
 use Rattle.record.specs.Rules.{firstBroken}
 use Rattle.record.specs.Starts.{startsOf}
@@ -34,7 +35,6 @@ use Rattle.record.specs.Steps.{Sound}
 use Rattle.record.specs.Laws.First.{first-broken, first-kept}
 use Rattle.record.specs.Laws.Sounded.{sound-vertices}
 use Rattle.record.specs.Laws.Told.{then-told, then-untold}
-use Rattle.forest.specs.Laws.Sections.{length-each, each-at}
 use Rattle.queries.specs.View.{View, viewBy, blockMarks, sectionOf}
 use Rattle.queries.specs.Queries.{childCount, vertexOr, childOf, pastCount, visitOf, found, visitedOf}
 use Rattle.queries.proofs.Laws.Ones.{positive, part-length, count-next, found-here, found-none}

@@ -6,9 +6,9 @@ use native.Mathlib.Omega.{arith}
 use lib.ListN.{length, getD}
 use lib.Seq.{ext-getD}
 use Rattle.graph.specs.Forest.{parent as parentIn}
+use Rattle.graph.specs.Laws.Places.CountUp.{length-each, each-at}
 use Rattle.record.specs.Record.{terminals}
 use Rattle.record.specs.Answers.{Answer, answered, said}
-use Rattle.forest.specs.Laws.Sections.{length-each, each-at}
 use Rattle.queries.specs.Steps.{Ranged}
 use Rattle.queries.specs.Answers.{orZero, unlessZero}
 use Rattle.queries.specs.Operations.{parent, head, children, visit}

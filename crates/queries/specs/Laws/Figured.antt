@@ -12,6 +12,7 @@ use Rattle.graph.specs.Graph.{Blocks}
 use Rattle.graph.specs.Search.{Forest}
 use Rattle.graph.specs.Forest.{parent as parentIn, roots}
 use Rattle.graph.specs.Counts.{countEdges, atNeither}
+use Rattle.graph.specs.Laws.Places.CountUp.{length-each}
 use Rattle.graph.specs.Laws.Joined.Spanning.{search-spans}
 use Rattle.graph.specs.Laws.Counts.Edges.{edges-neither}
 use Rattle.record.specs.Record.{terminals, wires, blocks}
@@ -21,7 +22,6 @@ use Rattle.record.specs.Operations.{Accepted}
 use Rattle.record.specs.Laws.First.{both-kept, check-numbered}
 use Rattle.record.specs.Laws.Told.{untold-back, buffer-written}
 use Rattle.forest.specs.Operations.{loops, rootsIn}
-use Rattle.forest.specs.Laws.Sections.{length-each}
 use Rattle.forest.specs.Laws.Figures.{roots-from, loops-whole, loops-edges, roots-in}
 use Rattle.queries.specs.View.{sectionBit, placeOf}
 use Rattle.queries.specs.Answers.{orZero}

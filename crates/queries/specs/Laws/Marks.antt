@@ -12,9 +12,10 @@ use Rattle.bits.specs.Laws.Select.{select-zero, select-none, select-bounds, sel
 use Rattle.graph.specs.Graph.{Blocks, block}
 use Rattle.graph.specs.Search.{PlaceTest, countUp}
 use Rattle.graph.specs.Laws.Places.Basics.{Told, pass, fail, told, clash}
+use Rattle.graph.specs.Laws.Places.CountUp.{length-each, each-at}
 use Rattle.graph.specs.Laws.Edges.Children.{marks, marked}
 use Rattle.forest.specs.Index.{section}
-use Rattle.forest.specs.Laws.Sections.{length-each, each-at, placeBit, start-more, start-most, length-section, mark-bit}
+use Rattle.forest.specs.Laws.Sections.{placeBit, start-more, start-most, length-section, mark-bit}
 
 -- a mark stands inside the list
 pub set-inside : (t : List Bool) (i : ℕ) → getD t i false ≡ true → i < length t

@@ -19,13 +19,13 @@ use Rattle.graph.specs.Theorems.{wires-balance, number-in-range, vertex-in-rang
 use Rattle.graph.specs.Theorems.{children-as-listed, children-counted, parent-mark-once, parent-mark-none}
 use Rattle.graph.specs.Theorems.{ancestor-by-steps, head-by-steps, head-of-step}
 use Rattle.graph.specs.Laws.Places.Basics.{clash}
+use Rattle.graph.specs.Laws.Places.CountUp.{length-each, each-at}
 use Rattle.graph.specs.Laws.Places.Pairing.{place-at, source}
 use Rattle.graph.specs.Laws.Tree.Ancestors.{ancestor}
 use Rattle.graph.specs.Laws.Joined.Spanning.{Covers, search-spans}
 use Rattle.graph.specs.Laws.Edges.Marks.{back-place, back-marked, back-parent, first-back}
 use Rattle.graph.specs.Laws.Heads.Walks.{walk-stop, HeadSteps, AncestorSteps}
 use Rattle.record.specs.Answers.{Answer, refused, answered}
-use Rattle.forest.specs.Laws.Sections.{length-each, each-at}
 use Rattle.queries.specs.View.{View}
 use Rattle.queries.specs.Queries.{top, rise, stepBy, stepUp, parentBy, parentOf, headBy, headNext}
 use Rattle.queries.specs.Answers.{unlessZero}

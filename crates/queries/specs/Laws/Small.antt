@@ -16,6 +16,7 @@ use Rattle.graph.specs.Graph.{Blocks, block, target}
 use Rattle.graph.specs.Search.{countUp}
 use Rattle.graph.specs.Laws.Heads.Walks.{Steps, stops, leads, walk-has}
 use Rattle.graph.specs.Laws.Places.Basics.{Told, pass, fail, told}
+use Rattle.graph.specs.Laws.Places.CountUp.{length-each}
 use Rattle.record.specs.Record.{terminals, wires, unary, blocks}
 use Rattle.record.specs.Rules.{firstBroken}
 use Rattle.record.specs.Answers.{Answer, refused, answered, sizesOf}
@@ -24,7 +25,6 @@ use Rattle.record.specs.Laws.Sounded.{sound-vertices}
 use Rattle.record.specs.Laws.Spans.{block-small}
 use Rattle.record.specs.Laws.Told.{untold}
 use Rattle.record.specs.Laws.Valued.{Valued, none, value, Small, then-valued}
-use Rattle.forest.specs.Laws.Sections.{length-each}
 use Rattle.queries.specs.View.{View, viewOf, blockMarks, sectionOf}
 use Rattle.queries.specs.Queries.{Step, stuck, top, rise, stepUp, parentBy, parentOf, headBy, headNext, headOf}
 use Rattle.queries.specs.Queries.{childCount, vertexOr, childOf, visitOf, found, visitedOf}

@@ -122,7 +122,7 @@ over-twin wf = over-pair (both-ends wf)
 -- ---- how many places there are
 
 -- of a graph with one more vertex in front
-over-cons : (l : List ℕ) (g : Blocks) (f : ℕ → ℕ → ℕ)
+pub over-cons : (l : List ℕ) (g : Blocks) (f : ℕ → ℕ → ℕ)
     → over (l ∷ g) f ≡ sum (length l) (f 0) + over g (λ u j. f (suc u) j)
 unfolding over
 over-cons l g f = sum-first (length g) (λ u. sum (length (block (l ∷ g) u)) (f u))

@@ -44,16 +44,21 @@ module _ {Ok : ℕ → ℕ → ℕ → Type 0} (g : Blocks) {F : Forest} (b : Bu
   head-parent m e = climb-child (λ v. v) (λ u j v a. elim (bridge g u j) [ true ↦ v | false ↦ a ]) b m ∙ rw e
 
 -- where a head stands: at a root, or below a bridge
-data Top (g : Blocks) (F : Forest) (h : ℕ) : Type 0 where
+pub data Top (g : Blocks) (F : Forest) (h : ℕ) : Type 0 where
   top-root : List·Memᴰ (root h) F → Top g F h
   top-bridge : (p j : ℕ) → List·Memᴰ (via p j h) F → bridge g p j ≡ true → Top g F h
 
-top-entered : {g : Blocks} {F : Forest} {h : ℕ} → Top g F h → Entered h F
+pub top-entered : {g : Blocks} {F : Forest} {h : ℕ} → Top g F h → Entered h F
 top-entered (top-root m) = entry-entered m
 top-entered (top-bridge p j m e) = entry-entered m
 
+-- there the climb stops
+pub top-head : {Ok : ℕ → ℕ → ℕ → Type 0} {g : Blocks} {F : Forest} {h : ℕ} → Built Ok F → Top g F h → head g F h ≡ h
+top-head {g = g} b (top-root m) = head-root g b m
+top-head {g = g} b (top-bridge p j m e) = head-bridge g b m e
+
 module _ {g : Blocks} (wf : WellFormed g) {F : Forest} (span : Spanning g F) where
-  head-top : (v : ℕ) → Entered v F → Top g F (head g F v)
+  pub head-top : (v : ℕ) → Entered v F → Top g F (head g F v)
   head-top = forest-ind (λ v. Top g F (head g F v)) (span .built)
       (λ v m. rw (head-root g (span .built) m) (top-root m))
       (λ u j v m t. go u j v m t (told (bridge g u j)))

@@ -1,8 +1,8 @@
 -- A forest of the whole graph: the few facts that everything above rests on, and the search's forest has them.
-use Prim.Native.Nat.{ℕ, zero, suc, _+_, _-_, _≤_, _<_}
-use mathlib.Core.Path.{_≡_, refl, ap}
+use Prim.Native.Nat.{ℕ, zero, suc, _+_, _≤_, _<_}
+use mathlib.Core.Path.{_≡_, refl}
 use mathlib.Core.Logic.{_⊎_, inl, inr}
-use mathlib.Core.List.{List, [], _∷_, List·Memᴰ, List·Memᴰ·head, List·Memᴰ·tail}
+use mathlib.Core.List.{List, List·Memᴰ, List·Memᴰ·head, List·Memᴰ·tail}
 use native.Mathlib.Omega.{arith}
 use native.Mathlib.Decide.{decLt, ℕ-discrete}
 use lib.ListN.{length, take}
@@ -38,20 +38,6 @@ unfolding countUp
 count-inside i zero v m = elim m [ ]
 count-inside i (suc n) v (List·Memᴰ·head e) = omega arith
 count-inside i (suc n) v (List·Memᴰ·tail m) = let a = count-inside (suc i) n v m in omega arith
-
-pub count-length : (i n : ℕ) → length (countUp i n) ≡ n
-unfolding countUp
-count-length i zero = refl
-count-length i (suc n) = ap suc (count-length (suc i) n)
-
--- the vertices from i on, of n in all
-pub count-more : (n i : ℕ) → i < n → countUp i (n - i) ≡ i ∷ countUp (suc i) (n - suc i)
-unfolding countUp
-count-more n i h = let e : n - i ≡ suc (n - suc i) = omega arith in rw e
-
-pub count-none : (n i : ℕ) → n ≤ i → countUp i (n - i) ≡ []
-unfolding countUp
-count-none n i h = let e : n - i ≡ 0 = omega arith in rw e
 
 -- the vertices in order
 pub covers-vertices : (g : Blocks) → Covers g (countUp 0 (length g))

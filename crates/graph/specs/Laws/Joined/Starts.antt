@@ -11,13 +11,14 @@ use lib.ListN.{length}
 use Rattle.graph.specs.Graph.{Blocks}
 use Rattle.graph.specs.Search.{Goal, root, Forest, PlaceTest, all, search, countUp, startsFrom, forest}
 use Rattle.graph.specs.Forest.{number, parent}
+use Rattle.graph.specs.Laws.Places.CountUp.{count-length}
 use Rattle.graph.specs.Laws.Places.Pairing.{InRange}
 use Rattle.graph.specs.Laws.Tree.Entries.{now, none-entered, entry-grows, grows-trans, entered-grows}
 use Rattle.graph.specs.Laws.Tree.Numbers.{number-hit, number-stays}
 use Rattle.graph.specs.Laws.Tree.Climbs.{parent-root}
 use Rattle.graph.specs.Laws.Run.Segments.{Segment, skip, enter, segment-pass, segment-grows, segment-unique}
 use Rattle.graph.specs.Laws.Run.Segments.{search-segment}
-use Rattle.graph.specs.Laws.Joined.Spanning.{count-length, Covers, covers-vertices, Spanning, search-spans}
+use Rattle.graph.specs.Laws.Joined.Spanning.{Covers, covers-vertices, Spanning, search-spans}
 
 -- the start is a vertex, unless there are none
 abbrev pub Startable : Blocks → ℕ → Type 0

@@ -11,15 +11,15 @@ use Rattle.graph.specs.Graph.{mentions, position}
 
 -- ---- the clauses as equations
 
-mentions-nil : (v : ℕ) → mentions v [] ≡ 0
+pub mentions-nil : (v : ℕ) → mentions v [] ≡ 0
 unfolding mentions
 mentions-nil v = refl
 
-mentions-hit : {v x : ℕ} (l : List ℕ) → v ≡ x → mentions v (x ∷ l) ≡ suc (mentions v l)
+pub mentions-hit : {v x : ℕ} (l : List ℕ) → v ≡ x → mentions v (x ∷ l) ≡ suc (mentions v l)
 unfolding mentions
 mentions-hit l e = rw (eq-eqb _ _ e, mentions)
 
-mentions-miss : {v x : ℕ} (l : List ℕ) → (v ≡ x → ⊥) → mentions v (x ∷ l) ≡ mentions v l
+pub mentions-miss : {v x : ℕ} (l : List ℕ) → (v ≡ x → ⊥) → mentions v (x ∷ l) ≡ mentions v l
 unfolding mentions
 mentions-miss l h = rw (ne-eqb _ _ h, mentions)
 

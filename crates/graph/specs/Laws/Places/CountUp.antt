@@ -1,0 +1,45 @@
+-- The numbers i, i + 1, .. (`countUp`), and a function at each of them.
+--   count-length             how many they are
+--   count-more, count-none   those from i on, of n in all
+--   length-each, each-at     the values of a function: how many they are, and the one at a position
+--   each-same                functions that agree there
+use Prim.Native.Nat.{ℕ, zero, suc, _+_, _-_, _≤_, _<_}
+use mathlib.Core.Path.{_≡_, refl, ap, ap₂, _∙_}
+use mathlib.Core.List.{List, [], _∷_, map}
+use native.Mathlib.Omega.{arith}
+use lib.ListN.{length, getD, length-map}
+use Rattle.graph.specs.Search.{countUp}
+
+pub count-length : (i n : ℕ) → length (countUp i n) ≡ n
+unfolding countUp
+count-length i zero = refl
+count-length i (suc n) = ap suc (count-length (suc i) n)
+
+pub count-more : (n i : ℕ) → i < n → countUp i (n - i) ≡ i ∷ countUp (suc i) (n - suc i)
+unfolding countUp
+count-more n i h = let e : n - i ≡ suc (n - suc i) = omega arith in rw e
+
+pub count-none : (n i : ℕ) → n ≤ i → countUp i (n - i) ≡ []
+unfolding countUp
+count-none n i h = let e : n - i ≡ 0 = omega arith in rw e
+
+pub length-each : {A : Type 0} (f : ℕ → A) (i n : ℕ) → length (map f (countUp i n)) ≡ n
+length-each f i n = length-map (countUp i n) f ∙ count-length i n
+
+pub each-at : {A : Type 0} (f : ℕ → A) (d : A) (i n k : ℕ) → k < n → getD (map f (countUp i n)) k d ≡ f (i + k)
+unfolding countUp
+each-at f d i zero k h = absurd (omega arith)
+each-at f d i (suc n) zero h = ap f (omega arith)
+each-at f d i (suc n) (suc k) h = each-at f d (suc i) n k (omega arith) ∙ ap f (omega arith)
+
+pub each-same : {A : Type 0} (f h : ℕ → A) (i n : ℕ) → ((k : ℕ) → k < n → f (i + k) ≡ h (i + k))
+    → map f (countUp i n) ≡ map h (countUp i n)
+unfolding countUp
+each-same f h i zero e = refl
+each-same {A} f h i (suc n) e =
+    let z : i + 0 ≡ i = omega arith in
+    let first : f i ≡ h i = rw z at (e 0 (omega arith)) in
+    ap₂ (λ (x : A) (xs : List A). x ∷ xs) first (each-same f h (suc i) n step)
+  where
+    step : (k : ℕ) → k < n → f (suc i + k) ≡ h (suc i + k)
+    step k l = let c : i + suc k ≡ suc i + k = omega arith in rw c at (e (suc k) (omega arith))
