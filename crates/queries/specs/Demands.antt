@@ -1,14 +1,15 @@
 -- Demands 2 and 3 as theorems, and what document 02 says of the start, of doubled wires, of a list of terminals, of the
--- loop figure and of filing from lists: open this file first. The index is any that Build writes for the record, with
--- any start (`Written`), or, where it is said, any at all; the marks are the bits of that index; the answers are those
--- of the operations, as `Operations`, `Lookup` and `Filing` define them and as the contracts of the code say. Terminal
--- v is vertex v - 1 of the graph; positions of a block and cells of a list count from 0.
+-- loop figure, of filing from lists and of the number of sections: open this file first. The index is any that Build
+-- writes for the record, with any start (`Written`), or, where it is said, any at all; the marks are the bits of that
+-- index; the answers are those of the operations, as `Operations`, `Lookup` and `Filing` define them and as the
+-- contracts of the code say. Terminal v is vertex v - 1 of the graph; positions of a block and cells of a list count
+-- from 0.
 use mathlib.Core.Path.{_≡_, sym, ap, subst, _∙_}
 use mathlib.Core.Logic.{_⊎_, _↔_}
 use mathlib.Core.Bool.{Bool, true, false}
 use mathlib.Core.List.{List, [], map}
 use mathlib.Core.Option.{none}
-use Prim.Native.Nat.{ℕ, suc, _+_, _-_, _*_, _≤_, _<_}
+use Prim.Native.Nat.{ℕ, suc, _+_, _-_, _*_, _/_, _≤_, _<_}
 use native.Mathlib.Omega.{arith}
 use lib.ListN.{length, getD, take}
 use Rattle.bits.specs.Laws.Bytes.{AreBytes}
@@ -19,7 +20,7 @@ use Rattle.graph.specs.Laws.Places.Mentions.{Mention}
 use Rattle.graph.specs.Laws.Tree.Ancestors.{ancestor as ancestorIn}
 use Rattle.graph.specs.Forest.{number, vertexAt, parent as parentIn, roots, head as headIn, Ancestor}
 use Rattle.graph.specs.Forest.{children as childrenIn}
-use Rattle.graph.specs.Counts.{countPlaces, countEdges, atNeither, lowest, looms}
+use Rattle.graph.specs.Counts.{countPlaces, countEdges, atNeither, lowest, looms, different}
 use Rattle.graph.specs.Theorems.{wire-places, ancestor-told, looms-told, as-many-looms, edges-counted}
 use Rattle.graph.specs.Theorems.{counted-twice}
 use Rattle.record.specs.Record.{terminals, wires, unary, blocks}
@@ -46,11 +47,13 @@ use Rattle.queries.specs.Laws.Alike.{alike-answers}
 use Rattle.queries.specs.Laws.Columns.{table-cells}
 use Rattle.queries.specs.Laws.Figured.{loops-marked, table-loops}
 use Rattle.queries.specs.Laws.Given.{never-seven}
+use Rattle.queries.specs.Laws.Sectioned as Sectioned
 use Rattle.queries.specs.Laws.Looked as Looked
 use Rattle.queries.specs.Laws.Looked.{lookup-cells, lookup-refuses-head, lookup-refuses-visit, lookup-none}
 use Rattle.queries.specs.Laws.Looked.{lookup-built, head-gives, visit-gives}
 use Rattle.queries.specs.Lookup.{Lists, lists, badList, lookup, lookedUp, BothAnswer, LookupCells}
 use Rattle.queries.specs.Table.{tableOn, tableOf, Tabled}
+use Rattle.queries.specs.Sections.{headsOn, parentsOn, onesOfB}
 use Rattle.queries.specs.Given.{NeverGiven}
 
 -- where Build refuses nothing, it has written the index, with the start that it was given
@@ -348,6 +351,27 @@ module _ {bytes index : List ℕ} (w : Written bytes index) where
       subst (λ (x : List ℕ). terminals bytes + loops bytes ≡ wires bytes + rootsIn (tableOn bytes x .parents)) (w .is)
       (table-loops w)
 
+  -- ---- The number of sections: terminals that share a head are one section
+
+  -- Head and Parent answer for the terminals 1 to n: a head each, and 0, which stands for none, or a parent
+  pub heads-answered : map (head bytes index) (countUp 1 (terminals bytes)) ≡ map answered (headsOn bytes index)
+  heads-answered = Sectioned.heads-listed w
+
+  pub parents-answered : map (parent bytes index) (countUp 1 (terminals bytes))
+      ≡ map (λ k. answered (unlessZero k)) (parentsOn bytes index)
+  parents-answered = Sectioned.parents-listed w
+
+  -- the number of ones of B is even: half of it is that of the wires that B marks
+  pub ones-even : onesOfB bytes index ≡ 2 * (onesOfB bytes index / 2)
+  ones-even = omega (arith, Sectioned.ones-edges w)
+
+  pub single-feeds : onesOfB bytes index / 2 ≡ countEdges g B
+  single-feeds = omega (arith, Sectioned.ones-edges w)
+
+  -- as many different heads as roots and half the ones of B together
+  pub sections-counted : different (headsOn bytes index) ≡ rootsIn (parentsOn bytes index) + onesOfB bytes index / 2
+  sections-counted = Sectioned.heads-roots w
+
   -- ---- Demand 3
 
   pub heads-tell : {u v : ℕ} → Terminal bytes u → Terminal bytes v
@@ -380,3 +404,8 @@ same-groups w x t r =
     let p = heads-tell w t r .equal-exactly in
     let q = heads-tell x t r .equal-exactly in
     (λ e. q .1 (p .0 e), λ e. p .1 (q .0 e))
+
+-- and as many
+pub same-sections : {bytes a b : List ℕ} → Written bytes a → Written bytes b
+    → different (headsOn bytes a) ≡ different (headsOn bytes b)
+same-sections w x = Sectioned.heads-looms w ∙ sym (Sectioned.heads-looms x)

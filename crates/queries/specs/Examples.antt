@@ -1,6 +1,6 @@
 -- Document 01's lines that are marked P, all of them, as document 02 changes them, the columns of its listing, the
--- sample from another start, lists of terminals, loop figures, and records from lists, as one list of cases under one
--- theorem, computed by the checker.
+-- sample from another start, lists of terminals, loop figures, records from lists, and numbers of sections, as one list
+-- of cases under one theorem, computed by the checker.
 use mathlib.Core.Path.{_≡_, refl}
 use mathlib.Core.List.{List, [], _∷_, _++_, map, flatten, sum}
 use Prim.Native.Nat.{ℕ, _-_}
@@ -10,6 +10,7 @@ use Rattle.graph.specs.Graph.{Blocks, mentions, position, pair}
 use Rattle.graph.specs.Search.{entered, arcs, run, search, countUp, startsFrom}
 use Rattle.graph.specs.Joined.{without, joined, bridge}
 use Rattle.graph.specs.Forest.{number, roots, childMark, parentMark}
+use Rattle.graph.specs.Counts.{sum as addUp, different}
 use Rattle.graph.specs.Walk.{walk}
 use Rattle.record.specs.Record.{terminals, wires, usedBits, recordLength, unary, fieldsFrom, fields, zeros, parts}
 use Rattle.record.specs.Record.{blocks, layOut, unaryOf, fieldBits, recordBits, recordOf}
@@ -20,18 +21,20 @@ use Rattle.record.specs.Operations.{check, otherLength, outOfRange}
 use Rattle.record.specs.Filing.{byDegrees, recordFrom, badLists, fileRules, file, filed}
 use Rattle.forest.specs.Index.{marksFrom, section, sectionE, sectionP, sectionB, numbers, indexBy, indexOf}
 use Rattle.forest.specs.Index.{markBytes, numberBytes, indexLength}
-use Rattle.forest.specs.Operations.{loops, loopFigure}
+use Rattle.forest.specs.Operations.{loops, loopFigure, rootsIn}
 use Rattle.queries.specs.View.{blockMarks, sectionOf, numberOf}
 use Rattle.queries.specs.Queries.{stepBy, stepUp, headOf, parentOf, childCount, visitOf}
 use Rattle.queries.specs.Operations.{besideRules, orderQ, head, parent, children, visit}
 use Rattle.queries.specs.Table.{Columns, columns, answersOf, tableOn, tableOf}
+use Rattle.queries.specs.Sections.{headsOn, parentsOn, onesOfB}
 use Rattle.queries.specs.Lookup.{Lists, lists, both, headAndVisit, refusedBy, badList, lookupRules, lookup}
 use Rattle.queries.specs.Lookup.{lookupLists, lookedUp}
 
 -- a line: blocks and their record, a record and its blocks, a record and what Check says, a record, a start and its
 -- index, a record with its index and the heads of its terminals, a record, a start and its table, a record, an index, a
 -- list of terminals and two lists that are lent, with what Lookup answers and the two lists afterwards, a record and
--- its loop figure, or degrees, neighbours and a buffer, with what File answers and the buffer afterwards
+-- its loop figure, degrees, neighbours and a buffer, with what File answers and the buffer afterwards, or a record with
+-- its index, the number of different heads, that of the roots and that of the ones of B
 pub data Line : Type 0 where
   packs : Blocks → List ℕ → Line
   reads : List ℕ → Blocks → Line
@@ -42,6 +45,7 @@ pub data Line : Type 0 where
   looks : List ℕ → List ℕ → List ℕ → Lists → Answer (Unit {0}) → Lists → Line
   figured : List ℕ → Answer ℕ → Line
   files : List ℕ → List ℕ → List ℕ → Answer (Unit {0}) → List ℕ → Line
+  sectioned : List ℕ → List ℕ → ℕ → ℕ → ℕ → Line
 
 abbrev pub computed : Line → Line
 computed (packs g bytes) = packs g (recordOf g)
@@ -55,6 +59,8 @@ computed (looks bytes index list lent a l) =
 computed (figured bytes a) = figured bytes (loopFigure bytes)
 computed (files degrees neighbours buffer a after) =
     files degrees neighbours buffer (file degrees neighbours buffer) (filed degrees neighbours buffer)
+computed (sectioned bytes index heads roots ones) =
+    sectioned bytes index (different (headsOn bytes index)) (rootsIn (parentsOn bytes index)) (onesOfB bytes index)
 
 -- the sample loom, terminals less 1
 abbrev pub loom : Blocks
@@ -73,6 +79,9 @@ single = 0x00 ∷ 0x08 ∷ 0x00 ∷ 0x08 ∷ []
 
 abbrev pub wire : List ℕ
 wire = 0x00 ∷ 0x10 ∷ 0x00 ∷ 0x1A ∷ 0x00 ∷ 0x10 ∷ 0x00 ∷ []
+
+abbrev pub wireIndex : List ℕ
+wireIndex = 0x40 ∷ 0x10 ∷ 0x50 ∷ 0x00 ∷ 0x00 ∷ 0x01 ∷ []
 
 abbrev pub sampleIndex : List ℕ
 sampleIndex =
@@ -132,6 +141,11 @@ lines a b c =
     ∷ listed sample 1 sampleTable
     ∷ indexed sample 4 sampleIndex4
     ∷ headed sample sampleIndex4 (map answered (3 ∷ 3 ∷ 3 ∷ 4 ∷ 5 ∷ 6 ∷ []))
+    ∷ sectioned sample sampleIndex 4 2 4
+    ∷ sectioned sample sampleIndex4 4 2 4
+    ∷ sectioned doubled doubledIndex 1 1 0
+    ∷ sectioned wire wireIndex 2 1 2
+    ∷ sectioned empty [] 0 0 0
     ∷ looks sample sampleIndex (4 ∷ 2 ∷ []) lent (answered tt) (lists (4 ∷ 1 ∷ []) (4 ∷ 3 ∷ []))
     ∷ looks sample sampleIndex (2 ∷ 2 ∷ []) lent (answered tt) (lists (1 ∷ 1 ∷ []) (3 ∷ 3 ∷ []))
     ∷ looks sample sampleIndex (4 ∷ 7 ∷ []) lent (refused 11) lent
@@ -171,7 +185,7 @@ lines a b c =
     ∷ packs ((1 ∷ []) ∷ (0 ∷ []) ∷ []) wire
     ∷ reads wire ((1 ∷ []) ∷ (0 ∷ []) ∷ [])
     ∷ checks wire (answered tt)
-    ∷ indexed wire 1 (0x40 ∷ 0x10 ∷ 0x50 ∷ 0x00 ∷ 0x00 ∷ 0x01 ∷ [])
+    ∷ indexed wire 1 wireIndex
     ∷ checks (take 20 sample ++ (0x41 ∷ [])) (refused 5)
     ∷ checks (a ∷ b ∷ c ∷ []) (refused 1)
     ∷ checks (0x80 ∷ 0x08 ∷ 0x00 ∷ 0x00 ∷ []) (refused 2)
@@ -193,5 +207,5 @@ unfolding toBits bits string count onesAt select value field packed pack mention
     numbers indexBy markBytes numberBytes indexLength blockMarks sectionOf numberOf stepBy stepUp headOf besideRules
     orderQ head flatten visit visitOf parent parentOf children childCount said answersOf tableOn bufferAfter both
     headAndVisit refusedBy badList lookupRules lookup lookupLists lookedUp loopFigure loops roots
-    byDegrees recordFrom badLists fileRules file filed sum
+    byDegrees recordFrom badLists fileRules file filed sum headsOn parentsOn onesOfB different rootsIn addUp
 as-stated a b c = refl

@@ -15,6 +15,7 @@ pub mod Answered
 pub mod Edges
 pub mod Columns
 pub mod Figured
+pub mod Sectioned
 pub mod Twelve
 pub mod Asks
 pub mod Looked

@@ -5,11 +5,12 @@ use mathlib.Core.List.{List, map, flatten}
 use Prim.Native.Nat.{ℕ, zero, suc, _+_, _*_, _≤_, _<_}
 use native.Mathlib.Omega.{arith}
 use lib.ListN.{length, take, drop, getD}
-use Rattle.bits.specs.Bits.{bits, string, select}
+use Rattle.bits.specs.Bits.{bits, string, count, select}
 use Rattle.graph.specs.Graph.{Blocks, block, Place}
 use Rattle.graph.specs.Search.{Forest, PlaceTest, countUp, forest}
 use Rattle.graph.specs.Joined.{bridge}
 use Rattle.graph.specs.Forest.{number, childMark, parentMark}
+use Rattle.graph.specs.Counts.{countPlaces}
 use Rattle.graph.specs.Laws.Places.Pairing.{source}
 use Rattle.graph.specs.Laws.Joined.Starts.{Startable}
 use Rattle.graph.specs.Theorems.{start-covers, number-in-range}
@@ -22,6 +23,7 @@ use Rattle.record.specs.Laws.Sounded.{accepted-sound, sound-vertices, sound-all
 use Rattle.record.specs.Laws.Spans.{span-rises, span-ends, span-size, span-one}
 use Rattle.forest.specs.Index.{section, sectionE, sectionP, sectionB, indexOf, markBytes, indexLength}
 use Rattle.forest.specs.Laws.Sections.{blockStart, placeBit, own-bit, mark-bit}
+use Rattle.forest.specs.Laws.Ones.{count-section}
 use Rattle.forest.specs.Laws.Bytes.{length-index, string-E, string-P, string-B, number-stored, fill-E, fill-P, fill-B}
 use Rattle.forest.specs.Laws.Bytes.{fill-numbers}
 use Rattle.forest.specs.Laws.Starts.{start-block}
@@ -108,6 +110,10 @@ module _ {bytes : List ℕ} (a : Accepted bytes) where
         let z : 8 * (2 * markBytes n m) ≡ 8 * (2 * markBytes (length g) m) = omega arith in
         ap₂ (string index) z same-places ∙ string-B g F m as-many-places
     section-is (suc (suc (suc k))) h = absurd (omega arith)
+
+    pub built-ones : count (sectionOf (terminals bytes) (wires bytes) (indexOf (blocks bytes) s) 2)
+        ≡ countPlaces (blocks bytes) (bridge (blocks bytes))
+    built-ones = ap count (section-is 2 (omega arith)) ∙ count-section (bridge g) g
 
     stored-is : Startable (blocks bytes) s → (u : ℕ) → u < length (blocks bytes)
         → numberOf (terminals bytes) (wires bytes) (indexOf (blocks bytes) s) u ≡ number (forest (blocks bytes) s) u

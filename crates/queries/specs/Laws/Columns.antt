@@ -1,12 +1,13 @@
 -- The lists of a table, cell by cell.
 use mathlib.Core.Path.{_≡_, refl, sym, ap, _∙_}
-use mathlib.Core.List.{List}
+use mathlib.Core.List.{List, map, map-map}
 use Prim.Native.Nat.{ℕ, zero, suc, _+_, _-_, _<_}
 use native.Mathlib.Omega.{arith}
 use lib.ListN.{length, getD}
 use lib.Seq.{ext-getD}
+use Rattle.graph.specs.Search.{countUp}
 use Rattle.graph.specs.Forest.{parent as parentIn}
-use Rattle.graph.specs.Laws.Places.CountUp.{length-each, each-at}
+use Rattle.graph.specs.Laws.Places.CountUp.{length-each, each-at, each-same, each-next}
 use Rattle.record.specs.Record.{terminals}
 use Rattle.record.specs.Answers.{Answer, answered, said}
 use Rattle.queries.specs.Steps.{Ranged}
@@ -39,6 +40,29 @@ module _ {A : Type 0} (number : A → ℕ) (ask : ℕ → Answer A) (n : ℕ) wh
       let a = answer (suc i) (record { some = omega arith; upto = omega arith }) in
       h i k ∙ sym (ap (said number) (a ∙ ap (λ (x : ℕ). answered (f x)) z))
       ))
+
+  -- then it is this list, and each answer is a value of its cell
+  module _ (f : ℕ → A) (answer : (v : ℕ) → Ranged n v → ask v ≡ answered (f (v - 1))) where
+    pub column-is : answersOf number ask n ≡ map (λ v. number (f v)) (countUp 0 n)
+    column-is =
+        sym (column-told f answer (length-each (λ v. number (f v)) 0 n) (λ i h. (
+        let z : 0 + i ≡ i = omega arith in
+        each-at (λ v. number (f v)) 0 0 n i h ∙ ap (λ (x : ℕ). number (f x)) z
+        )))
+
+    pub column-answered : (value : ℕ → A) → ((i : ℕ) → value (number (f i)) ≡ f i)
+        → map ask (countUp 1 n) ≡ map (λ k. answered (value k)) (answersOf number ask n)
+    column-answered value back =
+        each-next ask 0 n
+        ∙ (each-same (λ v. ask (suc v)) (λ v. answered (value (number (f v)))) 0 n (λ k h. said-back (0 + k) (omega arith))
+        ∙ (sym (map-map (λ k. answered (value k)) (λ v. number (f v)) (countUp 0 n))
+        ∙ ap (map (λ k. answered (value k))) (sym column-is)))
+      where
+        said-back : (v : ℕ) → v < n → ask (suc v) ≡ answered (value (number (f v)))
+        said-back v h =
+            let z : suc v - 1 ≡ v = omega arith in
+            answer (suc v) (record { some = omega arith; upto = omega arith })
+            ∙ (ap (λ (x : ℕ). answered (f x)) z ∙ ap answered (sym (back v)))
 
   -- the cell of a terminal that is answered
   pub cell-told : {v : ℕ} {a : A} → Ranged n v → ask v ≡ answered a → getD (answersOf number ask n) (v - 1) 0 ≡ number a

@@ -48,7 +48,7 @@ module _ {bytes index : List ℕ} (w : Written bytes index) where
   P-at : {u j v : ℕ} → Place g u j v → at 1 u j ≡ parentMark g g F u j
   P-at {u} {j} p = written-bit 1 u j (built-P (w .accepted) (w .start - 1) p)
 
-  B-at : {u j v : ℕ} → Place g u j v → at 2 u j ≡ bridge g u j
+  pub B-at : {u j v : ℕ} → Place g u j v → at 2 u j ≡ bridge g u j
   B-at {u} {j} p = written-bit 2 u j (built-B (w .accepted) (w .start - 1) p)
 
   module _ {u j v : ℕ} (p : Place (blocks bytes) u j v) where

@@ -1,7 +1,8 @@
 -- The loop figure beside an index that Build writes, and beside a table.
 --   loops-marked   it counts the wires that have no mark in E at either end
 --   table-long     a table has a parent for each terminal
---   table-loops    the roots are the zeros among a table's parents, and the figure follows from them
+--   table-roots    the roots are the zeros among a table's parents
+--   table-loops    and the figure follows from them
 --   table-left     what a call of Table leaves that refuses nothing
 use mathlib.Core.Path.{_≡_, sym, _∙_}
 use mathlib.Core.List.{List}
@@ -49,7 +50,7 @@ module _ {bytes index : List ℕ} (w : Written bytes index) where
   unfolding tableOn answersOf
   table-long = length-each _ 0 (terminals bytes)
 
-  table-roots : rootsIn (tableOn bytes index .parents) ≡ roots F
+  pub table-roots : rootsIn (tableOn bytes index .parents) ≡ roots F
   unfolding tableOn
   table-roots =
       let many = as-many (w .accepted) in

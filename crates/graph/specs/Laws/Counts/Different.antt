@@ -1,5 +1,7 @@
--- How many different numbers stand in a list: as many as it mentions. Of the names of the numbers below n, where each
--- group is named by one of its members, as many as numbers that name themselves.
+-- How many different numbers stand in a list.
+--   different-map     as many as values of a function that keeps them apart
+--   different-names   of the names of the numbers below n, where each group is named by one of its members: as many as
+--                     numbers that name themselves
 use Prim.Native.Nat.{ℕ, _+_, _≤_, _<_, min}
 use mathlib.Core.Path.{_≡_, refl, sym, _∙_, ap}
 use mathlib.Core.List.{List, [], _∷_, map}
@@ -15,6 +17,24 @@ use Rattle.graph.specs.Laws.Places.CountUp.{length-each, each-at}
 use Rattle.graph.specs.Laws.Places.Mentions.{mentions-nil, mentions-hit, mentions-miss, mention-at, mention-found}
 use Rattle.graph.specs.Laws.Counts.Sums.{when-yes, when-no, sum-same, sum-zero, sum-add, sum-one}
 use Rattle.graph.specs.Laws.Counts.Names.{Names, named}
+
+-- ---- the values of a function that keeps numbers apart
+
+module _ {f : ℕ → ℕ} (apart : (x y : ℕ) → f x ≡ f y → x ≡ y) where
+  mentions-map : (x : ℕ) (l : List ℕ) → mentions (f x) (map f l) ≡ mentions x l
+  mentions-map x [] = mentions-nil (f x) ∙ sym (mentions-nil x)
+  mentions-map x (y ∷ l) = go (ℕ-discrete x y) (mentions-map x l)
+    where
+      go : Dec (x ≡ y) → mentions (f x) (map f l) ≡ mentions x l → mentions (f x) (map f (y ∷ l)) ≡ mentions x (y ∷ l)
+      go (yes e) h = omega (arith, h, mentions-hit (map f l) (ap f e), mentions-hit l e)
+      go (no d) h = omega (arith, h, mentions-miss (map f l) (λ e. d (apart x y e)), mentions-miss l d)
+
+  pub different-map : (l : List ℕ) → different (map f l) ≡ different l
+  unfolding different
+  different-map [] = refl
+  different-map (x ∷ l) = rw (mentions-map x l, different-map l)
+
+-- ---- as many as the list mentions
 
 -- 1 where the list mentions x, else 0
 abbrev seen : List ℕ → ℕ → ℕ
@@ -52,6 +72,8 @@ different-sum n (x ∷ l) h =
     let d = sum-one n x inside (λ y k n. when-no new (ne-eqb y x n)) in
     let e = when-yes new (eq-eqb x x refl) in
     omega arith
+
+-- ---- names
 
 module _ {n : ℕ} {f : ℕ → ℕ} (na : Names n f) where
   abbrev names : List ℕ

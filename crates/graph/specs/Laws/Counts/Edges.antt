@@ -2,7 +2,7 @@
 --   two-places     a mark at both ends of a wire or at neither stands twice for each wire
 --   all-edges      there are half as many wires as places
 --   neither-twin   a mark is at neither end, as seen from the one end and from the other
---   edges-neither  marks that agree at all places are as often at neither end
+--   edges-same, edges-neither  marks that agree at all places are as often at a wire, and as often at neither end
 use Prim.Native.Nat.{ℕ, _+_, _*_, _≤_, _<_}
 use mathlib.Core.Path.{_≡_, refl, ap}
 use mathlib.Core.Bool.{not, or-comm}
@@ -61,12 +61,16 @@ module _ {g : Blocks} (wf : WellFormed g) where
   -- ---- marks that agree at all places
 
   module _ {mark mark′ : PlaceTest} (same : (u j v : ℕ) → Place g u j v → mark u j ≡ mark′ u j) where
+    pub edges-same : countEdges g mark ≡ countEdges g mark′
+    unfolding countEdges
+    edges-same = over-same g (λ u j l k.
+        ap (λ b. when (ltb u (target g u j)) (when b 1)) (same u j (target g u j) (place-at k)))
+
     neither-same : (u j v : ℕ) → Place g u j v → atNeither g mark u j ≡ atNeither g mark′ u j
     unfolding atNeither
     neither-same u j v p =
         rw (p .leads, same u j v p, same v (twin g u j) u (twin-place wf p))
 
-    pub edges-neither : countEdges g (atNeither g mark) ≡ countEdges g (atNeither g mark′)
-    unfolding countEdges
-    edges-neither = over-same g (λ u j l k.
-        ap (λ b. when (ltb u (target g u j)) (when b 1)) (neither-same u j (target g u j) (place-at k)))
+  pub edges-neither : {mark mark′ : PlaceTest} → ((u j v : ℕ) → Place g u j v → mark u j ≡ mark′ u j)
+      → countEdges g (atNeither g mark) ≡ countEdges g (atNeither g mark′)
+  edges-neither same = edges-same (neither-same same)

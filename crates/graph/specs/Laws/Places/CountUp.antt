@@ -2,7 +2,7 @@
 --   count-length             how many they are
 --   count-more, count-none   those from i on, of n in all
 --   length-each, each-at     the values of a function: how many they are, and the one at a position
---   each-same                functions that agree there
+--   each-same, each-next     functions that agree there; the values from the next number on
 use Prim.Native.Nat.{ℕ, zero, suc, _+_, _-_, _≤_, _<_}
 use mathlib.Core.Path.{_≡_, refl, ap, ap₂, _∙_}
 use mathlib.Core.List.{List, [], _∷_, map}
@@ -43,3 +43,8 @@ each-same {A} f h i (suc n) e =
   where
     step : (k : ℕ) → k < n → f (suc i + k) ≡ h (suc i + k)
     step k l = let c : i + suc k ≡ suc i + k = omega arith in rw c at (e (suc k) (omega arith))
+
+pub each-next : {A : Type 0} (f : ℕ → A) (i n : ℕ) → map f (countUp (suc i) n) ≡ map (λ v. f (suc v)) (countUp i n)
+unfolding countUp
+each-next f i zero = refl
+each-next {A} f i (suc n) = ap (λ (xs : List A). f (suc i) ∷ xs) (each-next f (suc i) n)
