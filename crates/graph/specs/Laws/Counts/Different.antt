@@ -1,7 +1,7 @@
 -- How many different numbers stand in a list.
---   different-map     as many as values of a function that keeps them apart
 --   different-names   of the names of the numbers below n, where each group is named by one of its members: as many as
 --                     numbers that name themselves
+--   different-map     of the values of a function that keeps numbers apart: as many as numbers
 use Prim.Native.Nat.{ℕ, _+_, _≤_, _<_, min}
 use mathlib.Core.Path.{_≡_, refl, sym, _∙_, ap}
 use mathlib.Core.List.{List, [], _∷_, map}
@@ -17,22 +17,6 @@ use Rattle.graph.specs.Laws.Places.CountUp.{length-each, each-at}
 use Rattle.graph.specs.Laws.Places.Mentions.{mentions-nil, mentions-hit, mentions-miss, mention-at, mention-found}
 use Rattle.graph.specs.Laws.Counts.Sums.{when-yes, when-no, sum-same, sum-zero, sum-add, sum-one}
 use Rattle.graph.specs.Laws.Counts.Names.{Names, named}
-
--- ---- the values of a function that keeps numbers apart
-
-module _ {f : ℕ → ℕ} (apart : (x y : ℕ) → f x ≡ f y → x ≡ y) where
-  mentions-map : (x : ℕ) (l : List ℕ) → mentions (f x) (map f l) ≡ mentions x l
-  mentions-map x [] = mentions-nil (f x) ∙ sym (mentions-nil x)
-  mentions-map x (y ∷ l) = go (ℕ-discrete x y) (mentions-map x l)
-    where
-      go : Dec (x ≡ y) → mentions (f x) (map f l) ≡ mentions x l → mentions (f x) (map f (y ∷ l)) ≡ mentions x (y ∷ l)
-      go (yes e) h = omega (arith, h, mentions-hit (map f l) (ap f e), mentions-hit l e)
-      go (no d) h = omega (arith, h, mentions-miss (map f l) (λ e. d (apart x y e)), mentions-miss l d)
-
-  pub different-map : (l : List ℕ) → different (map f l) ≡ different l
-  unfolding different
-  different-map [] = refl
-  different-map (x ∷ l) = rw (mentions-map x l, different-map l)
 
 -- ---- as many as the list mentions
 
@@ -107,3 +91,20 @@ module _ {n : ℕ} {f : ℕ → ℕ} (na : Names n f) where
       one x h (no d) =
           let z : (0 < mentions x names) → ⊥ = λ m. d (mentioned x m .1) in
           rw (ne-eqb (f x) x d) (omega arith)
+
+-- ---- the values of a function that keeps numbers apart
+
+module _ {f : ℕ → ℕ} (apart : (x y : ℕ) → f x ≡ f y → x ≡ y) where
+  mentions-map : (x : ℕ) (l : List ℕ) → mentions (f x) (map f l) ≡ mentions x l
+  mentions-map x [] = mentions-nil (f x) ∙ sym (mentions-nil x)
+  mentions-map x (y ∷ l) = go (ℕ-discrete x y) (mentions-map x l)
+    where
+      go : Dec (x ≡ y) → mentions (f x) (map f l) ≡ mentions x l → mentions (f x) (map f (y ∷ l)) ≡ mentions x (y ∷ l)
+      go (yes e) h = omega (arith, h, mentions-hit (map f l) (ap f e), mentions-hit l e)
+      go (no d) h = omega (arith, h, mentions-miss (map f l) (λ e. d (apart x y e)), mentions-miss l d)
+
+  pub different-map : (l : List ℕ) → different (map f l) ≡ different l
+  unfolding different
+  different-map [] = refl
+  different-map (x ∷ l) =
+      omega (arith, ap (λ (k : ℕ). when (eqb k 0) 1) (mentions-map x l), different-map l)
