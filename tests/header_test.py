@@ -14,8 +14,8 @@ from header import ANSWERS, FUNCTIONS, LISTS, Compared, exported, header_version
 from loops_test import WORKED as WORKED_FIGURES, starts_of
 from packing import WIRE, bits_of, index_layout, index_length, layout, packed, record
 from plain import MOST_ASKED, MOST_TERMINALS, MOST_WIRES, answer, blocks_of, bridges_of, build, built, check, children
-from plain import columns, head, index_by, joined, lookup, order_r, places_of, sections_of, sizes, table, unmarked
-from plain import unpack, visit, wires, without
+from plain import columns, head, index_by, joined, lookup, ones_of_b, order_r, places_of, sections_of, sizes, table
+from plain import unmarked, unpack, visit, wires, without
 from programs import ARCHIVE
 
 LARGE = [65536, 65537, 2**32 + 1, 2**63, 2**64 - 1]
@@ -364,18 +364,22 @@ def indexed(compared, start):
     return bytes(lent["index"].held())
 
 
-def loops(data):
+def counts(data):
     """From every start, or from some, the loop figure is the number of wires without a mark in the E that Build writes,
-    and m − n plus the number of zeros among the table's parents."""
+    and m − n plus the number of zeros among the table's parents. The different heads are as many as those zeros and
+    half the ones of the B that Build writes."""
     compared, (n, m) = Compared(data), sizes(data)
     compared.ask("loop_figure")
     figure = compared.call("loop_figure", *compared.record)
     for start in starts_of(data):
-        left = unmarked(data, indexed(compared, start))
+        index = indexed(compared, start)
+        left, ones = unmarked(data, index), ones_of_b(data, index)
         compared.settle(figure == left, f"the figure is {figure}, and from {start} Build leaves {left} wires unmarked")
-        _, parents, _, _ = tabled(compared, start, n)
-        roots = parents.count(0)
+        _, parents, _, heads = tabled(compared, start, n)
+        roots, different = parents.count(0), len(set(heads))
         compared.settle(figure == m - n + roots, f"the figure is {figure}, and from {start} there are {roots} roots")
+        told = f"from {start} there are {different} different heads, {roots} roots, and B has {ones} ones"
+        compared.settle(2 * different == 2 * roots + ones, told)
     return compared.result()
 
 
@@ -409,7 +413,7 @@ def largest(data):
     results = [alone(data), building(data), tabling(data)]
     if not answer(check, data)[0]:
         indexes = [built(data, start) for start in (1, sizes(data)[0])]
-        results += [asking((data, index), most=8) for index in indexes] + [started(data), loops(data)]
+        results += [asking((data, index), most=8) for index in indexes] + [started(data), counts(data)]
         results += [beside(data, index) for index in indexes]
     return summed(results)
 
@@ -622,7 +626,7 @@ def families():
         "indexes of other lengths": (on_other_lengths, some(rng, small, 40, 60) + rng.sample(damaged, 300)),
         "sections": (sections, some(rng, small, 12, 400) + some(rng, doubled, 12, 100)),
         "starts": (started, every + small + medium),
-        "loops": (loops, every + small + medium[::4]),
+        "loop figures and sections, counted": (counts, every + small + medium[::4]),
         "lengths of Lookup's lists": (on_lengths, small[: len(shapes.FIXED)] + medium[::60]),
         "two refusals in Lookup's list": (in_order, [one_loom(rng) for _ in range(60)] + medium[7::60]),
         "Lookup beside the single calls": (beside_singles, some(rng, small, 40, 40) + medium[::30]),

@@ -1,6 +1,6 @@
 """A plain program for document 01, in its order and from its sentences: bits, record, forest, operations, listing. From
 document 02 are the start of the search, what a wire is where several run between the same two terminals, Lookup, what
-the loop figure counts, and File.
+the loop figure counts, File, and what is counted against the different heads.
 
 It shares no idea with the product: a bit string is a string of characters, the search is a recursion, a wire is its two
 places, and it has its marks in B where taking it out leaves its ends unjoined. An operation returns its answer, or
@@ -493,6 +493,27 @@ def table(data, start, work, *rooms):
     refuse(10, rooms != (n, n, n, n))
     refuse_14(data, start)
     return columns(data, start)
+
+
+# Sections
+
+def different_heads(data, start=1):
+    """How many different heads an accepted record has, on the start's index."""
+    *_, heads = columns(data, start)
+    return len(set(heads))
+
+
+def roots_of(data, start=1):
+    """How many roots: terminals for which Parent answers 0."""
+    _, parents, _, _ = columns(data, start)
+    return parents.count(0)
+
+
+def ones_of_b(data, index):
+    """The ones of the string B of an index."""
+    n, m = sizes(data)
+    _, _, b, _ = sections_of(data, index)
+    return b[: n + 2 * m].count("1")
 
 
 # Listing
