@@ -230,6 +230,32 @@ fn same_answers(index: &Index<'_>, table: &Table) {
     }
 }
 
+/// The sections, the roots and the ones of the index's string B, from this start.
+fn counts(bytes: &[u8], start: Vertex) -> (usize, usize, usize) {
+    let record = Record::new(bytes).unwrap();
+    let table = record.table_from(start).unwrap();
+    let roots = table.rows().filter(|row| row.parent.is_none()).count();
+    let places = record.sizes().terminals() + record.sizes().list_len();
+    let index = record.index_from(start).unwrap();
+    let ones = rank(index.as_bytes(), 2 * 8 * places.div_ceil(8), places, places);
+    (table.sections().count(), roots, ones)
+}
+
+#[test]
+fn the_sections_are_as_many_as_roots_and_half_the_ones_of_b() {
+    assert_eq!(counts(&EMPTY, Vertex(0)), (0, 0, 0));
+    assert_eq!(counts(&SAMPLE, Vertex(1)), (4, 2, 4));
+    assert_eq!(counts(&SAMPLE, Vertex(4)), (4, 2, 4));
+    assert_eq!(counts(&DOUBLED, Vertex(1)), (1, 1, 0));
+    for blocks in shapes() {
+        let bytes = record(&blocks);
+        for start in starts(Record::new(&bytes).unwrap()) {
+            let (sections, roots, ones) = counts(&bytes, start);
+            assert_eq!(2 * sections, 2 * roots + ones);
+        }
+    }
+}
+
 /// The heads and the terminals of the sections.
 fn sections(blocks: &[Vec<u16>]) -> Vec<(usize, Vec<usize>)> {
     Record::new(&record(blocks))
