@@ -182,7 +182,8 @@ def sample_from_4(page):
 
 def starts(page):
     """What the page says of every start holds of its records: the start is visited first, B and the groups of terminals
-    with one head are the same, and the loop figure counts the wires with no mark in E."""
+    with one head are the same, the loop figure counts the wires with no mark in E, and the different heads are as many
+    as roots and half the ones of B."""
     for name, data in small_records(page).items():
         if answer(check, data)[0]:
             continue
@@ -194,6 +195,21 @@ def starts(page):
             same(f"B of {name} from {start}", plain.sections_of(data, first)[2], plain.sections_of(data, index)[2])
             same(f"the groups in {name} from {start}", groups(first), groups(index))
             same(f"the figure of {name} from {start}", plain.unmarked(data, index), plain.loop_figure(data))
+            heads, roots, ones = len(groups(index)), plain.roots_of(data, start), plain.ones_of_b(data, index)
+            same(f"the sections of {name} from {start}", heads, roots + ones / 2)
+
+
+def section_counts(page):
+    """The sums that are told: the roots, the ones of B, and the sections."""
+    records = {"The sample": SAMPLE_RECORD, **{f"`{name}`": data for name, data in small_records(page).items()}}
+    told = sought(r"(The sample|`\w+`)\shas\s(\d+) \+ (\d+) / 2 = (\d+)", page)
+    same("the records whose sections are counted", ["The sample", "`wire`", "`doubled`", "`empty`"], [t[0] for t in told])
+    for name, *numbers in told:
+        data = records[name]
+        start = 1 if sizes(data)[0] else 0
+        ones = plain.ones_of_b(data, built(data, start))
+        expected = [plain.roots_of(data, start), ones, plain.different_heads(data, start)]
+        same(f"the sections of {name}", expected, [int(number) for number in numbers])
 
 
 # Offsets and lengths
@@ -474,7 +490,8 @@ def program(page):
 
 
 TESTS = [definitions, sample_record, sample_index, sample_from_4, starts, record_layout, index_sections, field_formula]
-TESTS += [limits, small_records, refused_records, indexes, refusals, operations, examples, results, figures, program]
+TESTS += [limits, small_records, refused_records, indexes, refusals, operations, section_counts, examples, results]
+TESTS += [figures, program]
 
 
 def main():
