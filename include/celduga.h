@@ -36,7 +36,7 @@ extern "C" {
 /* The header's version. Each part of it is below 256. */
 #define CELDUGA_VERSION_MAJOR 0
 #define CELDUGA_VERSION_MINOR 7
-#define CELDUGA_VERSION_PATCH 0
+#define CELDUGA_VERSION_PATCH 1
 #define CELDUGA_VERSION (CELDUGA_VERSION_MAJOR * 65536 + CELDUGA_VERSION_MINOR * 256 + CELDUGA_VERSION_PATCH)
 
 /* The archive's version, as CELDUGA_VERSION is the header's: a plain number. It refuses nothing. */

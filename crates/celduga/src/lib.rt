@@ -198,11 +198,11 @@ const MAJOR: u32 = 0;
 
 const MINOR: u32 = 7;
 
-const PATCH: u32 = 0;
+const PATCH: u32 = 1;
 
 #[no_mangle]
 pub extern "C" fn celduga_version() -> u32
-    ensures { λ r. ⌜ r ≡ version 0 7 0 ⌝ }
+    ensures { λ r. ⌜ r ≡ version 0 7 1 ⌝ }
 {
     65536 * MAJOR + 256 * MINOR + PATCH
 }
