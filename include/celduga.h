@@ -226,8 +226,8 @@ uint32_t celduga_parent(const uint8_t *record, size_t record_len, const uint8_t 
 
 /*
  * The head of terminal v: the first terminal, from v upward, that is a root or whose wire to its parent is a bridge. On
- * a built index two terminals have one head exactly when they are joined and stay so whichever one wire is taken out.
- * Refuses 1 to 4, 10, 11, 12.
+ * a built index two terminals have one head exactly when they are joined and stay so whichever one wire is taken out,
+ * and there are as many different heads as roots and bridges together. Refuses 1 to 4, 10, 11, 12.
  */
 uint32_t celduga_head(const uint8_t *record, size_t record_len, const uint8_t *index, size_t index_len, size_t v);
 

@@ -202,8 +202,9 @@ impl<'a> Record<'a> {
     }
 
     /// The sections: the classes of terminals that stay joined whichever one wire is taken out, in order of the least
-    /// terminal of each. Each terminal is in one section. This is [`Table::sections`], and takes linear time. The
-    /// terminals of each are the same for every start of the search; the heads are those of [`table`](Record::table).
+    /// terminal of each. Each terminal is in one section, and there are as many sections as looms and bridges together.
+    /// This is [`Table::sections`], and takes linear time. The terminals of each are the same for every start of the
+    /// search; the heads are those of [`table`](Record::table).
     ///
     /// # Examples
     ///
@@ -211,10 +212,13 @@ impl<'a> Record<'a> {
     /// use celduga::{Record, Refusal, Vertex};
     ///
     /// // 1: 2 3; 2: 1 3; 3: 1 2 4; 4: 3
-    /// let bytes = [0x00, 0x20, 0x00, 0x49, 0x22, 0x00, 0x10, 0x02, 0x00, 0x00, 0x02, 0x00, 0x00, 0x01, 0x00, 0x30,
-    /// 0x02]; let record = Record::new(&bytes)?; assert_eq!(record.sections().len(), 2); let terminals:
-    /// Vec<Vec<Vertex>> = record.sections().map(|section| section.terminals).collect(); assert_eq!(terminals,
-    /// [vec![Vertex(1), Vertex(2), Vertex(3)], vec![Vertex(4)]]);
+    /// let bytes =
+    ///     [0x00, 0x20, 0x00, 0x49, 0x22, 0x00, 0x10, 0x02, 0x00, 0x00, 0x02, 0x00, 0x00, 0x01, 0x00, 0x30, 0x02];
+    /// let record = Record::new(&bytes)?;
+    /// // one loom, and one bridge
+    /// assert_eq!(record.sections().len(), 2);
+    /// let terminals: Vec<Vec<Vertex>> = record.sections().map(|section| section.terminals).collect();
+    /// assert_eq!(terminals, [vec![Vertex(1), Vertex(2), Vertex(3)], vec![Vertex(4)]]);
     /// # Ok::<(), Refusal>(())
     /// ```
     pub fn sections(self) -> Sections {

@@ -193,7 +193,8 @@ impl Table {
     }
 
     /// The sections: the terminals by their heads, in order of the least terminal of each. Each terminal is in one
-    /// section. It takes time linear in the number of terminals.
+    /// section, and there are as many sections as roots and bridges together. It takes time linear in the number of
+    /// terminals.
     ///
     /// # Examples
     ///
