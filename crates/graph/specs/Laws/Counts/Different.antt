@@ -31,20 +31,15 @@ seen-cons x l y = go (ℕ-discrete y x) (ℕ-discrete (mentions x l) 0)
   where
     go : Dec (y ≡ x) → Dec (mentions x l ≡ 0)
         → seen (x ∷ l) y ≡ when (eqb y x) (when (eqb (mentions x l) 0) 1) + seen l y
-    go (yes e) (yes z) =
-        rw (eq-eqb y x e, eq-eqb _ 0 z) (omega (arith, mentions-hit l e, z, ap (λ v. mentions v l) e))
-    go (yes e) (no n) =
-        rw (eq-eqb y x e, ne-eqb _ 0 n) (omega (arith, mentions-hit l e, n, ap (λ v. mentions v l) e))
+    go (yes e) (yes z) = rw (eq-eqb y x e, eq-eqb _ 0 z) (omega (arith, mentions-hit l e, ap (λ v. mentions v l) e))
+    go (yes e) (no n) = rw (eq-eqb y x e, ne-eqb _ 0 n) (omega (arith, mentions-hit l e, ap (λ v. mentions v l) e))
     go (no d) z = rw (ne-eqb y x d) (omega (arith, mentions-miss l d))
 
 mentions-more : (x : ℕ) (l : List ℕ) (y : ℕ) → mentions y l ≤ mentions y (x ∷ l)
-mentions-more x l y = elim (ℕ-discrete y x) [
-  | yes e ↦ omega (arith, mentions-hit l e)
-  | no d ↦ omega (arith, mentions-miss l d)
-]
+mentions-more x l y =
+    elim (ℕ-discrete y x) [ yes e ↦ omega (arith, mentions-hit l e) | no d ↦ omega (arith, mentions-miss l d) ]
 
-different-sum : (n : ℕ) (l : List ℕ) → ((x : ℕ) → 0 < mentions x l → x < n)
-    → different l ≡ sum n (seen l)
+different-sum : (n : ℕ) (l : List ℕ) → ((x : ℕ) → 0 < mentions x l → x < n) → different l ≡ sum n (seen l)
 unfolding different
 different-sum n [] h = sym (sum-zero n (λ x k. omega (arith, mentions-nil x)))
 different-sum n (x ∷ l) h =
