@@ -36,7 +36,7 @@ use Rattle.record.specs.Laws.Sounded.{accepted-sound, sound-all}
 use Rattle.forest.specs.Operations.{build, built, firstStart, loops, loopFigure, rootsIn}
 use Rattle.forest.specs.Laws.Figures.{roots-from, loops-whole, loops-few, figure-told}
 use Rattle.forest.specs.Laws.Taken.{first-index}
-use Rattle.queries.specs.View.{sectionBit, numberBit, placeOf, Alike}
+use Rattle.queries.specs.View.{sectionBit, onesOfB, numberBit, placeOf, Alike}
 use Rattle.queries.specs.Answers.{unlessZero}
 use Rattle.queries.specs.Operations.{besideRules, parent, head, ancestor, children, child, visit, visited}
 use Rattle.queries.specs.Written.{Written, forestFrom, Terminal, VisitNumber, Once, HeadsTell, SameAnswers}
@@ -52,8 +52,7 @@ use Rattle.queries.specs.Laws.Looked as Looked
 use Rattle.queries.specs.Laws.Looked.{lookup-cells, lookup-refuses-head, lookup-refuses-visit, lookup-none}
 use Rattle.queries.specs.Laws.Looked.{lookup-built, head-gives, visit-gives}
 use Rattle.queries.specs.Lookup.{Lists, lists, badList, lookup, lookedUp, BothAnswer, LookupCells}
-use Rattle.queries.specs.Table.{tableOn, tableOf, Tabled}
-use Rattle.queries.specs.Sections.{headsOn, parentsOn, onesOfB}
+use Rattle.queries.specs.Table.{parentsOn, headsOn, tableOn, tableOf, Tabled}
 use Rattle.queries.specs.Given.{NeverGiven}
 
 -- where Build refuses nothing, it has written the index, with the start that it was given
@@ -353,7 +352,7 @@ module _ {bytes index : List ℕ} (w : Written bytes index) where
 
   -- ---- The number of sections: terminals that share a head are one section
 
-  -- Head and Parent answer for the terminals 1 to n: a head each, and 0, which stands for none, or a parent
+  -- Head and Parent answer for every terminal, 1 to n, and these are their answers; a root's parent is 0
   pub heads-answered : map (head bytes index) (countUp 1 (terminals bytes)) ≡ map answered (headsOn bytes index)
   heads-answered = Sectioned.heads-listed w
 

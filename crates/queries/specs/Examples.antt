@@ -22,11 +22,10 @@ use Rattle.record.specs.Filing.{byDegrees, recordFrom, badLists, fileRules, fil
 use Rattle.forest.specs.Index.{marksFrom, section, sectionE, sectionP, sectionB, numbers, indexBy, indexOf}
 use Rattle.forest.specs.Index.{markBytes, numberBytes, indexLength}
 use Rattle.forest.specs.Operations.{loops, loopFigure, rootsIn}
-use Rattle.queries.specs.View.{blockMarks, sectionOf, numberOf}
+use Rattle.queries.specs.View.{blockMarks, sectionOf, numberOf, onesOfB}
 use Rattle.queries.specs.Queries.{stepBy, stepUp, headOf, parentOf, childCount, visitOf}
 use Rattle.queries.specs.Operations.{besideRules, orderQ, head, parent, children, visit}
-use Rattle.queries.specs.Table.{Columns, columns, answersOf, tableOn, tableOf}
-use Rattle.queries.specs.Sections.{headsOn, parentsOn, onesOfB}
+use Rattle.queries.specs.Table.{Columns, columns, answersOf, parentsOn, headsOn, tableOn, tableOf}
 use Rattle.queries.specs.Lookup.{Lists, lists, both, headAndVisit, refusedBy, badList, lookupRules, lookup}
 use Rattle.queries.specs.Lookup.{lookupLists, lookedUp}
 
@@ -207,5 +206,5 @@ unfolding toBits bits string count onesAt select value field packed pack mention
     numbers indexBy markBytes numberBytes indexLength blockMarks sectionOf numberOf stepBy stepUp headOf besideRules
     orderQ head flatten visit visitOf parent parentOf children childCount said answersOf tableOn bufferAfter both
     headAndVisit refusedBy badList lookupRules lookup lookupLists lookedUp loopFigure loops roots
-    byDegrees recordFrom badLists fileRules file filed sum headsOn parentsOn onesOfB different rootsIn addUp
+    byDegrees recordFrom badLists fileRules file filed sum different rootsIn addUp
 as-stated a b c = refl

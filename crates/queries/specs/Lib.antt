@@ -6,7 +6,6 @@ pub mod Answers
 pub mod Steps
 pub mod Written
 pub mod Table
-pub mod Sections
 pub mod Lookup
 pub mod Given
 pub mod Filling

@@ -1,6 +1,8 @@
 -- Table: what Visit, Parent, Children and Head answer for every terminal, on the index that Build writes.
 --   Columns      four lists, in which cell v - 1 is terminal v's
 --   answersOf    a query's answers for the terminals 1 to n, as numbers
+--   parentsOn    what Parent answers on an index, 0 for a root
+--   headsOn      what Head answers
 --   tableOn      the four lists of a record and an index
 --   tableOf      those of the index that Build writes with a start
 --   tableRules   Check's rules, 9, 10 for the four lists that are lent, and 14
@@ -40,14 +42,19 @@ columns v p c h = record { visits = v; parents = p; counts = c; heads = h }
 unfoldable pub answersOf : {A : Type 0} → (A → ℕ) → (ℕ → Answer A) → ℕ → List ℕ
 answersOf number ask n = map (λ v. said number (ask (suc v))) (countUp 0 n)
 
--- a root's parent is 0
+abbrev pub parentsOn : List ℕ → List ℕ → List ℕ
+parentsOn bytes index = answersOf orZero (parent bytes index) (terminals bytes)
+
+abbrev pub headsOn : List ℕ → List ℕ → List ℕ
+headsOn bytes index = answersOf (λ v. v) (head bytes index) (terminals bytes)
+
 unfoldable pub tableOn : List ℕ → List ℕ → Columns
 tableOn bytes index =
     columns
     (answersOf (λ i. i) (visit bytes index) (terminals bytes))
-    (answersOf orZero (parent bytes index) (terminals bytes))
+    (parentsOn bytes index)
     (answersOf (λ k. k) (children bytes index) (terminals bytes))
-    (answersOf (λ v. v) (head bytes index) (terminals bytes))
+    (headsOn bytes index)
 
 abbrev pub tableOf : List ℕ → ℕ → Columns
 tableOf bytes start = tableOn bytes (indexOf (blocks bytes) (start - 1))

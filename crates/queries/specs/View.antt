@@ -5,7 +5,7 @@ use mathlib.Core.Bool.{Bool, false}
 use mathlib.Core.List.{List}
 use Prim.Native.Nat.{ℕ, suc, _+_, _*_, _<_}
 use lib.ListN.{length, take, drop, getD}
-use Rattle.bits.specs.Bits.{bits, string, select}
+use Rattle.bits.specs.Bits.{bits, string, count, select}
 use Rattle.graph.specs.Graph.{Blocks, block}
 use Rattle.record.specs.Record.{terminals, wires, unary, fieldsFrom, blocks}
 use Rattle.forest.specs.Index.{markBytes, indexLength}
@@ -48,6 +48,10 @@ viewOf bytes index = viewBy (terminals bytes) (wires bytes) bytes index
 -- bit p, from 0, of section k: 0 is E, 1 is P and 2 is B. The bits from n + 2·m on are the section's fill
 abbrev pub sectionBit : List ℕ → List ℕ → ℕ → ℕ → Bool
 sectionBit bytes index k p = getD (bits index) (8 * (k * markBytes (terminals bytes) (wires bytes)) + p) false
+
+-- how many ones the string B has
+abbrev pub onesOfB : List ℕ → List ℕ → ℕ
+onesOfB bytes index = count (sectionOf (terminals bytes) (wires bytes) index 2)
 
 -- bit i, from 0, of the stored numbers
 abbrev pub numberBit : List ℕ → List ℕ → ℕ → Bool

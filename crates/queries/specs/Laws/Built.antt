@@ -27,7 +27,8 @@ use Rattle.forest.specs.Laws.Ones.{count-section}
 use Rattle.forest.specs.Laws.Bytes.{length-index, string-E, string-P, string-B, number-stored, fill-E, fill-P, fill-B}
 use Rattle.forest.specs.Laws.Bytes.{fill-numbers}
 use Rattle.forest.specs.Laws.Starts.{start-block}
-use Rattle.queries.specs.View.{blockMarks, sectionOf, numberOf, viewOf, sectionBit, numberBit, placeOf}
+use Rattle.queries.specs.View.{blockMarks, sectionOf, numberOf, viewOf, sectionBit, onesOfB, numberBit}
+use Rattle.queries.specs.View.{placeOf}
 use Rattle.queries.specs.Laws.Framed.{section-bit}
 use Rattle.queries.specs.Laws.Marks.{set-inside, one-of, block-part}
 use Rattle.queries.specs.Laws.Shown.{Shows}
@@ -111,8 +112,7 @@ module _ {bytes : List ℕ} (a : Accepted bytes) where
         ap₂ (string index) z same-places ∙ string-B g F m as-many-places
     section-is (suc (suc (suc k))) h = absurd (omega arith)
 
-    pub built-ones : count (sectionOf (terminals bytes) (wires bytes) (indexOf (blocks bytes) s) 2)
-        ≡ countPlaces (blocks bytes) (bridge (blocks bytes))
+    pub built-ones : onesOfB bytes (indexOf (blocks bytes) s) ≡ countPlaces (blocks bytes) (bridge (blocks bytes))
     built-ones = ap count (section-is 2 (omega arith)) ∙ count-section (bridge g) g
 
     stored-is : Startable (blocks bytes) s → (u : ℕ) → u < length (blocks bytes)

@@ -19,12 +19,11 @@ use Rattle.graph.specs.Laws.Counts.Different.{different-map}
 use Rattle.record.specs.Record.{terminals, blocks}
 use Rattle.record.specs.Answers.{answered}
 use Rattle.forest.specs.Operations.{rootsIn}
-use Rattle.queries.specs.View.{sectionBit, placeOf}
+use Rattle.queries.specs.View.{sectionBit, onesOfB, placeOf}
 use Rattle.queries.specs.Answers.{orZero, unlessZero}
 use Rattle.queries.specs.Operations.{parent, head}
 use Rattle.queries.specs.Written.{Written, forestFrom}
-use Rattle.queries.specs.Table.{tableOn}
-use Rattle.queries.specs.Sections.{headsOn, parentsOn, onesOfB}
+use Rattle.queries.specs.Table.{parentsOn, headsOn, tableOn}
 use Rattle.queries.specs.Laws.Answered.{formed, covered, parent-answer, head-answer}
 use Rattle.queries.specs.Laws.Built.{as-many, built-ones}
 use Rattle.queries.specs.Laws.Columns.{column-is, column-answered, or-unless}
@@ -39,21 +38,19 @@ module _ {bytes index : List ℕ} (w : Written bytes index) where
   F = forestFrom bytes (w .start)
 
   pub heads-listed : map (head bytes index) (countUp 1 (terminals bytes)) ≡ map answered (headsOn bytes index)
-  unfolding headsOn
   heads-listed =
       column-answered (λ v. v) (head bytes index) (terminals bytes) (λ v. suc (headIn g F v)) (λ v t. head-answer w t)
       (λ v. v) (λ i. refl)
 
   pub parents-listed : map (parent bytes index) (countUp 1 (terminals bytes))
       ≡ map (λ k. answered (unlessZero k)) (parentsOn bytes index)
-  unfolding parentsOn
   parents-listed =
       column-answered orZero (parent bytes index) (terminals bytes) (λ v. unlessZero (parentIn F v))
       (λ v t. parent-answer w t) unlessZero (λ i. ap unlessZero (or-unless (parentIn F i)))
 
   -- the different heads are the sections of the graph: they count from 1 here, and from 0 there
   heads-differ : different (headsOn bytes index) ≡ sections g F
-  unfolding headsOn sections
+  unfolding sections
   heads-differ =
       ap different
       (column-is (λ v. v) (head bytes index) (terminals bytes) (λ v. suc (headIn g F v)) (λ v t. head-answer w t)
@@ -62,11 +59,10 @@ module _ {bytes index : List ℕ} (w : Written bytes index) where
       ∙ different-map (λ x y e. omega arith) (map (headIn g F) (countUp 0 (length g)))
 
   parents-roots : rootsIn (parentsOn bytes index) ≡ roots F
-  unfolding parentsOn tableOn
+  unfolding tableOn
   parents-roots = table-roots w
 
   ones-places : onesOfB bytes index ≡ countPlaces g (bridge g)
-  unfolding onesOfB
   ones-places = ap (λ (x : List ℕ). onesOfB bytes x) (w .is) ∙ built-ones (w .accepted) (w .start - 1)
 
   pub ones-edges : onesOfB bytes index ≡ 2 * countEdges g (λ u j. sectionBit bytes index 2 (placeOf bytes u j))
