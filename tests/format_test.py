@@ -203,7 +203,7 @@ def section_counts(page):
     """The sums that are told: the roots, the ones of B, and the sections."""
     records = {"The sample": SAMPLE_RECORD, **{f"`{name}`": data for name, data in small_records(page).items()}}
     told = sought(r"(The sample|`\w+`)\shas\s(\d+) \+ (\d+) / 2 = (\d+)", page)
-    same("the records whose sections are counted", ["The sample", "`wire`", "`doubled`", "`empty`"], [t[0] for t in told])
+    same("the records", ["The sample", "`wire`", "`doubled`", "`empty`"], [name for name, *_ in told])
     for name, *numbers in told:
         data = records[name]
         start = 1 if sizes(data)[0] else 0

@@ -54,12 +54,15 @@ module _ {A : Type 0} (number : A → ℕ) (ask : ℕ → Answer A) (n : ℕ) wh
         → map ask (countUp 1 n) ≡ map (λ k. answered (value k)) (answersOf number ask n)
     column-answered value back =
         each-next ask 0 n
-        ∙ (each-same (λ v. ask (suc v)) (λ v. answered (value (number (f v)))) 0 n (λ k h. said-back (0 + k) (omega arith))
-        ∙ (sym (map-map (λ k. answered (value k)) (λ v. number (f v)) (countUp 0 n))
-        ∙ ap (map (λ k. answered (value k))) (sym column-is)))
+        ∙ (each-same (λ v. ask (suc v)) (λ v. given (number (f v))) 0 n (λ k h. next (0 + k) (omega arith))
+        ∙ (sym (map-map given (λ v. number (f v)) (countUp 0 n))
+        ∙ ap (map given) (sym column-is)))
       where
-        said-back : (v : ℕ) → v < n → ask (suc v) ≡ answered (value (number (f v)))
-        said-back v h =
+        given : ℕ → Answer A
+        given k = answered (value k)
+
+        next : (v : ℕ) → v < n → ask (suc v) ≡ given (number (f v))
+        next v h =
             let z : suc v - 1 ≡ v = omega arith in
             answer (suc v) (record { some = omega arith; upto = omega arith })
             ∙ (ap (λ (x : ℕ). answered (f x)) z ∙ ap answered (sym (back v)))
