@@ -29,7 +29,7 @@ use Rattle.graph.specs.Laws.Joined.Starts.{Startable, starts-cover, star
 use Rattle.graph.specs.Laws.Joined.Roots.{same-root-joined}
 use Rattle.graph.specs.Laws.Edges.Marks.{child-mark, child-mark-entry, child-mark-first, mark-paired}
 use Rattle.graph.specs.Laws.Edges.Marks.{marked-back, back-once, root-unmarked, parent-mark-first}
-use Rattle.graph.specs.Laws.Edges.Children.{marked, marks, marked-length, children-marked}
+use Rattle.graph.specs.Laws.Edges.Children.{marked, children-marked}
 use Rattle.graph.specs.Laws.Bridges.Crossings.{bridge-joined, bridge-twin, doubled-no-bridge, outside-no-bridge}
 use Rattle.graph.specs.Laws.Bridges.Crossings.{Crossing, bridge-crossing}
 use Rattle.graph.specs.Laws.Bridges.Stores.{Stored}
@@ -41,6 +41,7 @@ use Rattle.graph.specs.Laws.Loop.Arrays.{Cells, Kept, Enters}
 use Rattle.graph.specs.Laws.Loop.Invariant.{Loop, loop-begin, loop-pass-start, loop-enter-start, Visited}
 use Rattle.graph.specs.Laws.Loop.Invariant.{loop-enter-at, loop-leave, loop-full, loop-end}
 use Rattle.graph.specs.Laws.Heads.Walks.{HeadSteps, walk-head, rise-head, AncestorSteps, walk-ancestor}
+use Rattle.graph.specs.Laws.Counts.Places.{marked-length}
 use Rattle.graph.specs.Laws.Counts.Edges.{two-places, neither-twin, all-edges}
 use Rattle.graph.specs.Laws.Counts.Roots.{roots-parentless, roots-fewer}
 use Rattle.graph.specs.Laws.Counts.Looms.{lowest-joined, lowest-least, lowest-told, roots-looms}
@@ -110,8 +111,9 @@ module _ {g : Blocks} (r : InRange g) {starts : List ℕ} (cov : Covers g starts
   children-as-listed = children-marked (spans .built) (spans .order)
 
   pub children-counted : (u : ℕ)
-      → length (children (search g all starts) u) ≡ marks (childMark (search g all starts) u) 0 (length (block g u))
-  children-counted u = rw (children-as-listed u) (marked-length (childMark (search g all starts) u) 0 (block g u))
+      → length (children (search g all starts) u)
+      ≡ sum (length (block g u)) (λ j. when (childMark (search g all starts) u j) 1)
+  children-counted u = rw (children-as-listed u) (marked-length (childMark (search g all starts) u) (block g u))
 
   module _ {h : Blocks} (bal : Balanced g h) where
     -- paired places have the marks together

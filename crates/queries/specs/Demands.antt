@@ -352,13 +352,15 @@ module _ {bytes index : List ℕ} (w : Written bytes index) where
 
   -- ---- The number of sections: terminals that share a head are one section
 
-  -- Head and Parent answer for every terminal, 1 to n, and these are their answers; a root's parent is 0
-  pub heads-answered : map (head bytes index) (countUp 1 (terminals bytes)) ≡ map answered (headsOn bytes index)
-  heads-answered = Sectioned.heads-listed w
+  -- the lists of what Head and Parent answer are Table's: each cell is an answer, 0 for a root's parent
+  pub heads-answered : {v : ℕ} → Terminal bytes v → head bytes index v ≡ answered (getD (headsOn bytes index) (v - 1) 0)
+  unfolding tableOn
+  heads-answered = table-cells w .heads-are
 
-  pub parents-answered : map (parent bytes index) (countUp 1 (terminals bytes))
-      ≡ map (λ k. answered (unlessZero k)) (parentsOn bytes index)
-  parents-answered = Sectioned.parents-listed w
+  pub parents-answered : {v : ℕ} → Terminal bytes v
+      → parent bytes index v ≡ answered (unlessZero (getD (parentsOn bytes index) (v - 1) 0))
+  unfolding tableOn
+  parents-answered = table-cells w .parents-are
 
   -- the number of ones of B is even: half of it is that of the wires that B marks
   pub ones-even : onesOfB bytes index ≡ 2 * (onesOfB bytes index / 2)
@@ -404,7 +406,7 @@ same-groups w x t r =
     let q = heads-tell x t r .equal-exactly in
     (λ e. q .1 (p .0 e), λ e. p .1 (q .0 e))
 
--- and as many
+-- and as many different heads
 pub same-sections : {bytes a b : List ℕ} → Written bytes a → Written bytes b
     → different (headsOn bytes a) ≡ different (headsOn bytes b)
 same-sections w x = Sectioned.heads-looms w ∙ sym (Sectioned.heads-looms x)

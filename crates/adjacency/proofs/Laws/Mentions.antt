@@ -8,9 +8,8 @@ use native.Mathlib.Omega.{arith}
 use lib.Dec.{eqb}
 use lib.ListN.{length, take, drop, length-append}
 use lib.Seq.{split-at}
-use borrow.Author.Tests.{eq-eqb, ne-eqb}
 use Rattle.graph.specs.Graph.{mentions, position}
-use Rattle.graph.specs.Laws.Places.Mentions.{mention-at}
+use Rattle.graph.specs.Laws.Places.Mentions.{mentions-nil, mentions-hit, mentions-miss, mention-at}
 
 pub mentions-append : (v : ℕ) (l m : List ℕ) → mentions v (l ++ m) ≡ mentions v l + mentions v m
 unfolding mentions
@@ -24,12 +23,10 @@ mentions-append v (x ∷ l) m = go (eqb v x) (mentions-append v l m)
     go false e = e
 
 pub one-hit : (v x : ℕ) → v ≡ x → mentions v (x ∷ []) ≡ 1
-unfolding mentions
-one-hit v x e = rw (eq-eqb v x e, mentions)
+one-hit v x e = mentions-hit [] e ∙ ap suc (mentions-nil v)
 
 pub one-miss : (v x : ℕ) → (v ≡ x → ⊥) → mentions v (x ∷ []) ≡ 0
-unfolding mentions
-one-miss v x h = rw (ne-eqb v x h, mentions)
+one-miss v x h = mentions-miss [] h ∙ mentions-nil v
 
 -- each number of a is taken out of b
 pub fewer : (a b : List ℕ) → ((w : ℕ) → mentions w a ≤ mentions w b) → length a ≤ length b

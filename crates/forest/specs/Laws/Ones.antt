@@ -1,4 +1,4 @@
--- The ones of a section: as many as places that its test marks.
+-- The ones of a row of marks, and of a section: as many as places that its test marks.
 use mathlib.Core.Path.{_≡_, refl, ap}
 use mathlib.Core.Bool.{Bool, true, false}
 use mathlib.Core.List.{List, [], _∷_, map}
@@ -22,7 +22,7 @@ bit-when true = refl
 bit-when false = refl
 
 -- of one block
-count-row : (f : ℕ → Bool) (n : ℕ) → count (map f (countUp 0 n)) ≡ sum n (λ j. when (f j) 1)
+pub count-row : (f : ℕ → Bool) (n : ℕ) → count (map f (countUp 0 n)) ≡ sum n (λ j. when (f j) 1)
 unfolding count countUp sum
 count-row f zero = refl
 count-row f (suc n) =

@@ -9,7 +9,7 @@ use lib.Seq.{getD-append-add}
 use Rattle.graph.specs.Graph.{Blocks, block}
 use Rattle.graph.specs.Search.{Forest, PlaceTest, countUp}
 use Rattle.graph.specs.Forest.{number}
-use Rattle.graph.specs.Laws.Places.CountUp.{length-each, each-at, each-same}
+use Rattle.graph.specs.Laws.Places.CountUp.{length-each, each-is, each-same}
 use Rattle.record.specs.Record.{layOut}
 use Rattle.forest.specs.Index.{marksFrom, section, numbers}
 
@@ -110,10 +110,9 @@ mark-from test t [] u j h k = absurd (omega arith)
 mark-from test t (b ∷ g) zero j h k =
     let e : 1 + j ≡ suc j = omega arith in
     let l : j < length (marksOf test t b) = rw (length-each (test t) 0 (length b)) k in
-    let z : 0 + j ≡ j = omega arith in
     let y : t + 0 ≡ t = omega arith in
     rw (e, y) (List·getD-append (marksOf test t b) (laidFrom test (suc t) g) false j l
-    ∙ rw z at (each-at (test t) false 0 (length b) j k))
+    ∙ each-is (test t) false (length b) j k)
 mark-from test t (b ∷ g) (suc u) j h k =
     let e : length (b ++ flatten (take u g)) + suc u + 1 + j ≡ suc (length b + (blockStart g u + u + 1 + j)) =
     omega (arith, length-append b (flatten (take u g))) in
@@ -140,4 +139,4 @@ length-numbers g F = length-each (number F) 0 (length g)
 
 pub number-at : (g : Blocks) (F : Forest) (v : ℕ) → v < length g → getD (numbers g F) v 0 ≡ number F v
 unfolding numbers
-number-at g F v h = let z : 0 + v ≡ v = omega arith in rw z at (each-at (number F) 0 0 (length g) v h)
+number-at g F v h = each-is (number F) 0 (length g) v h

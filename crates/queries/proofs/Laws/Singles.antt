@@ -26,7 +26,7 @@ use Rattle.bits.specs.Bits.{bit, count, select}
 use Rattle.bits.specs.Laws.Select.{select-none, select-bounds, select-le}
 use Rattle.graph.specs.Graph.{target}
 use Rattle.graph.specs.Search.{countUp}
-use Rattle.graph.specs.Laws.Places.CountUp.{length-each, each-at}
+use Rattle.graph.specs.Laws.Places.CountUp.{length-each, each-is}
 use Rattle.record.specs.Record.{unary, fields, blocks}
 use Rattle.record.specs.Rules.{firstBroken}
 use Rattle.record.specs.Starts.{startsOf}
@@ -117,9 +117,7 @@ module _ (w : View) where
 
     hit-at : (u : ℕ) → u < length (w .graph) → getD hits u false ≡ eqb (w .stored u) k
     unfolding hits
-    hit-at u h =
-        let z : 0 + u ≡ u = omega arith in
-        each-at (λ u. eqb (w .stored u) k) false 0 (length (w .graph)) u h ∙ ap (λ (x : ℕ). eqb (w .stored x) k) z
+    hit-at u h = each-is (λ u. eqb (w .stored u) k) false (length (w .graph)) u h
 
     hits-next : (u : ℕ) → u < length (w .graph)
         → count (take (u + 1) hits) ≡ count (take u hits) + bit (eqb (w .stored u) k)

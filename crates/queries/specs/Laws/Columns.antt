@@ -1,13 +1,17 @@
 -- The lists of a table, cell by cell.
+--   column-is, column-told   a list of answers, by what is answered
+--   cell-told                one cell of it
+--   or-unless                0 for none, and back
+--   table-cells              each cell of a table is what its query answers
 use mathlib.Core.Path.{_≡_, refl, sym, ap, _∙_}
-use mathlib.Core.List.{List, map, map-map}
+use mathlib.Core.List.{List, map}
 use Prim.Native.Nat.{ℕ, zero, suc, _+_, _-_, _<_}
 use native.Mathlib.Omega.{arith}
 use lib.ListN.{length, getD}
 use lib.Seq.{ext-getD}
 use Rattle.graph.specs.Search.{countUp}
 use Rattle.graph.specs.Forest.{parent as parentIn}
-use Rattle.graph.specs.Laws.Places.CountUp.{length-each, each-at, each-same, each-next}
+use Rattle.graph.specs.Laws.Places.CountUp.{length-each, each-is, each-same}
 use Rattle.record.specs.Record.{terminals}
 use Rattle.record.specs.Answers.{Answer, answered, said}
 use Rattle.queries.specs.Steps.{Ranged}
@@ -18,54 +22,27 @@ use Rattle.queries.specs.Table.{answersOf, tableOn, Tabled}
 use Rattle.queries.specs.Laws.Answered.{visit-answer, parent-answer, children-answer, head-answer}
 
 module _ {A : Type 0} (number : A → ℕ) (ask : ℕ → Answer A) (n : ℕ) where
-  -- a list that holds every answer
-  column-filled : {l : List ℕ} → length l ≡ n → ((i : ℕ) → i < n → getD l i 0 ≡ said number (ask (suc i)))
-      → l ≡ answersOf number ask n
-  unfolding answersOf
-  column-filled {l} e h =
-      let each : ℕ → ℕ = λ v. said number (ask (suc v)) in
-      ext-getD 0 l (answersOf number ask n) (e ∙ sym (length-each each 0 n))
-      (λ i k. (
-      let z : 0 + i ≡ i = omega arith in
-      h i (omega arith) ∙ ap each (sym z) ∙ sym (each-at each 0 0 n i (omega arith))
-      ))
-
-  -- where every terminal is answered, by a number of its vertex
-  pub column-told : (f : ℕ → A) → ((v : ℕ) → Ranged n v → ask v ≡ answered (f (v - 1))) → {l : List ℕ}
-      → length l ≡ n → ((i : ℕ) → i < n → getD l i 0 ≡ number (f i)) → l ≡ answersOf number ask n
-  unfolding said
-  column-told f answer e h =
-      column-filled e (λ i k. (
-      let z : suc i - 1 ≡ i = omega arith in
-      let a = answer (suc i) (record { some = omega arith; upto = omega arith }) in
-      h i k ∙ sym (ap (said number) (a ∙ ap (λ (x : ℕ). answered (f x)) z))
-      ))
-
-  -- then it is this list, and each answer is a value of its cell
+  -- where every terminal is answered, by a value of its vertex
   module _ (f : ℕ → A) (answer : (v : ℕ) → Ranged n v → ask v ≡ answered (f (v - 1))) where
+    answer-at : (i : ℕ) → i < n → said number (ask (suc i)) ≡ number (f i)
+    unfolding said
+    answer-at i h =
+        let z : suc i - 1 ≡ i = omega arith in
+        let a = answer (suc i) (record { some = omega arith; upto = omega arith }) in
+        ap (said number) (a ∙ ap (λ (x : ℕ). answered (f x)) z)
+
     pub column-is : answersOf number ask n ≡ map (λ v. number (f v)) (countUp 0 n)
+    unfolding answersOf
     column-is =
-        sym (column-told f answer (length-each (λ v. number (f v)) 0 n) (λ i h. (
-        let z : 0 + i ≡ i = omega arith in
-        each-at (λ v. number (f v)) 0 0 n i h ∙ ap (λ (x : ℕ). number (f x)) z
-        )))
+        each-same (λ v. said number (ask (suc v))) (λ v. number (f v)) 0 n (λ k h. answer-at (0 + k) (omega arith))
 
-    pub column-answered : (value : ℕ → A) → ((i : ℕ) → value (number (f i)) ≡ f i)
-        → map ask (countUp 1 n) ≡ map (λ k. answered (value k)) (answersOf number ask n)
-    column-answered value back =
-        each-next ask 0 n
-        ∙ (each-same (λ v. ask (suc v)) (λ v. given (number (f v))) 0 n (λ k h. next (0 + k) (omega arith))
-        ∙ (sym (map-map given (λ v. number (f v)) (countUp 0 n))
-        ∙ ap (map given) (sym column-is)))
-      where
-        given : ℕ → Answer A
-        given k = answered (value k)
-
-        next : (v : ℕ) → v < n → ask (suc v) ≡ given (number (f v))
-        next v h =
-            let z : suc v - 1 ≡ v = omega arith in
-            answer (suc v) (record { some = omega arith; upto = omega arith })
-            ∙ (ap (λ (x : ℕ). answered (f x)) z ∙ ap answered (sym (back v)))
+    pub column-told : {l : List ℕ} → length l ≡ n → ((i : ℕ) → i < n → getD l i 0 ≡ number (f i))
+        → l ≡ answersOf number ask n
+    column-told {l} e h =
+        let each : ℕ → ℕ = λ v. number (f v) in
+        ext-getD 0 l (map each (countUp 0 n)) (e ∙ sym (length-each each 0 n))
+        (λ i k. h i (omega arith) ∙ sym (each-is each 0 n i (omega arith)))
+        ∙ sym column-is
 
   -- the cell of a terminal that is answered
   pub cell-told : {v : ℕ} {a : A} → Ranged n v → ask v ≡ answered a → getD (answersOf number ask n) (v - 1) 0 ≡ number a
@@ -73,8 +50,8 @@ module _ {A : Type 0} (number : A → ℕ) (ask : ℕ → Answer A) (n : ℕ) wh
   cell-told {v} r e =
       let s = r .some in
       let u = r .upto in
-      let z : suc (0 + (v - 1)) ≡ v = omega arith in
-      each-at (λ v. said number (ask (suc v))) 0 0 n (v - 1) (omega arith)
+      let z : suc (v - 1) ≡ v = omega arith in
+      each-is (λ v. said number (ask (suc v))) 0 n (v - 1) (omega arith)
       ∙ ap (λ (k : ℕ). said number (ask k)) z
       ∙ ap (said number) e
 

@@ -1,8 +1,8 @@
 -- The loop figure beside an index that Build writes, and beside a table.
 --   loops-marked   it counts the wires that have no mark in E at either end
 --   table-long     a table has a parent for each terminal
---   table-roots    the roots are the zeros among a table's parents
---   table-loops    and the figure follows from them
+--   parents-roots  the roots are the zeros among what Parent answers
+--   table-loops    so the figure follows from a table's parents
 --   table-left     what a call of Table leaves that refuses nothing
 use mathlib.Core.Path.{_≡_, sym, _∙_}
 use mathlib.Core.List.{List}
@@ -28,7 +28,7 @@ use Rattle.queries.specs.View.{sectionBit, placeOf}
 use Rattle.queries.specs.Answers.{orZero}
 use Rattle.queries.specs.Operations.{parent}
 use Rattle.queries.specs.Written.{Written, forestFrom, Terminal}
-use Rattle.queries.specs.Table.{Columns, answersOf, tableOn, tableOf, tableRules, table, tabled, TableDone}
+use Rattle.queries.specs.Table.{Columns, answersOf, parentsOn, tableOn, tableOf, tableRules, table, tabled, TableDone}
 use Rattle.queries.specs.Laws.Answered.{formed, covered, parent-answer}
 use Rattle.queries.specs.Laws.Built.{as-many}
 use Rattle.queries.specs.Laws.Columns.{cell-told, or-unless}
@@ -50,15 +50,14 @@ module _ {bytes index : List ℕ} (w : Written bytes index) where
   unfolding tableOn answersOf
   table-long = length-each _ 0 (terminals bytes)
 
-  pub table-roots : rootsIn (tableOn bytes index .parents) ≡ roots F
+  pub parents-roots : rootsIn (parentsOn bytes index) ≡ roots F
   unfolding tableOn
-  table-roots =
+  parents-roots =
       let many = as-many (w .accepted) in
-      roots-in (search-spans (formed w .in-range) (covered w)) (tableOn bytes index .parents) (table-long ∙ sym many)
+      roots-in (search-spans (formed w .in-range) (covered w)) (parentsOn bytes index) (table-long ∙ sym many)
       (λ v h. cell v (omega arith))
     where
-      cell : (v : ℕ) → v < terminals bytes
-          → getD (answersOf orZero (parent bytes index) (terminals bytes)) v 0 ≡ parentIn F v
+      cell : (v : ℕ) → v < terminals bytes → getD (parentsOn bytes index) v 0 ≡ parentIn F v
       cell v h =
           let t : Terminal bytes (suc v) = record { some = omega arith; upto = omega arith } in
           let z : suc v - 1 ≡ v = omega arith in
@@ -66,10 +65,11 @@ module _ {bytes index : List ℕ} (w : Written bytes index) where
           ∙ or-unless (parentIn F v)
 
   pub table-loops : terminals bytes + loops bytes ≡ wires bytes + rootsIn (tableOn bytes index .parents)
+  unfolding tableOn
   table-loops =
       let r = roots-from (w .accepted) (w .start) (w .taken) in
       let l = loops-whole (w .accepted) in
-      let t = table-roots in
+      let t = parents-roots in
       omega arith
 
 -- where Table refuses nothing, the record is accepted, and the lists are those of its start

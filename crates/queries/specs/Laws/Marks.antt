@@ -11,9 +11,9 @@ use Rattle.bits.specs.Bits.{count, rank, onesAt, select}
 use Rattle.bits.specs.Laws.Select.{select-zero, select-none, select-bounds, select-one, rank-select, select-rank}
 use Rattle.graph.specs.Graph.{Blocks, block}
 use Rattle.graph.specs.Search.{PlaceTest, countUp}
-use Rattle.graph.specs.Laws.Places.Basics.{Told, pass, fail, told, clash}
-use Rattle.graph.specs.Laws.Places.CountUp.{length-each, each-at}
-use Rattle.graph.specs.Laws.Edges.Children.{marks, marked}
+use Rattle.graph.specs.Laws.Places.Basics.{clash}
+use Rattle.graph.specs.Laws.Places.CountUp.{length-each, each-is}
+use Rattle.graph.specs.Laws.Edges.Children.{marked}
 use Rattle.forest.specs.Index.{section}
 use Rattle.forest.specs.Laws.Sections.{placeBit, start-more, start-most, length-section, mark-bit}
 
@@ -85,19 +85,8 @@ module _ (t : List Bool) (i : ℕ) (h : getD t i false ≡ true) (only : (j : �
           absurd (omega arith)
       go (no l) = let s = some in omega arith
 
--- ---- as many as a test passes
+-- ---- the k-th one stands at the k-th neighbour that passes
 
-pub count-each : (f : ℕ → Bool) (i n : ℕ) → count (map f (countUp i n)) ≡ marks f i n
-unfolding countUp count marks
-count-each f i zero = refl
-count-each f i (suc n) = go (told (f i)) (count-each f (suc i) n)
-  where
-    go : Told (f i) → count (map f (countUp (suc i) n)) ≡ marks f (suc i) n
-        → count (map f (countUp i (suc n))) ≡ marks f i (suc n)
-    go (pass e) r = rw (countUp, e, marks) (ap suc r)
-    go (fail e) r = rw (countUp, e, marks) r
-
--- the k-th one stands at the k-th neighbour that passes
 ones-least : (p : ℕ) (t : List Bool) (k : ℕ) → k < count t → p ≤ getD (onesAt p t) k 0
 unfolding count onesAt
 ones-least p [] k h = absurd (omega arith)
@@ -154,10 +143,9 @@ block-part test g u h =
     ext-getD false (take k (drop (placeBit g u 0) (section test g))) (map (test u) (countUp 0 k)) (l ∙ sym m) (λ i c. (
     let j : i < k = omega arith in
     let z : placeBit g u 0 + i ≡ placeBit g u i = omega arith in
-    let y : 0 + i ≡ i = omega arith in
     getD-take k (drop (placeBit g u 0) (section test g)) i false j
     ∙ getD-drop (placeBit g u 0) (section test g) i false
     ∙ ap (λ (x : ℕ). getD (section test g) x false) z
     ∙ mark-bit test g u i h j
-    ∙ sym (each-at (test u) false 0 k i j ∙ ap (test u) y)
+    ∙ sym (each-is (test u) false k i j)
     ))

@@ -1,9 +1,8 @@
 -- The count of sections on an index that Build writes.
---   heads-listed, parents-listed   Head and Parent answer for every terminal
---   ones-edges                     B has two ones for each wire that it marks
---   heads-roots                    as many different heads as roots and half the ones of B
---   heads-looms                    as many as looms and bridges, which no start changes
-use mathlib.Core.Path.{_≡_, refl, sym, ap, _∙_}
+--   ones-edges    B has two ones for each wire that it marks
+--   heads-roots   as many different heads as roots and half the ones of B
+--   heads-looms   as many as looms and bridges, which no start changes
+use mathlib.Core.Path.{_≡_, sym, ap, _∙_}
 use mathlib.Core.List.{List, map, map-map}
 use Prim.Native.Nat.{ℕ, suc, _+_, _-_, _*_, _/_}
 use native.Mathlib.Omega.{arith}
@@ -11,24 +10,22 @@ use lib.ListN.{length}
 use Rattle.graph.specs.Graph.{Blocks}
 use Rattle.graph.specs.Search.{Forest, countUp}
 use Rattle.graph.specs.Joined.{bridge}
-use Rattle.graph.specs.Forest.{parent as parentIn, roots, head as headIn}
+use Rattle.graph.specs.Forest.{head as headIn}
 use Rattle.graph.specs.Counts.{countPlaces, countEdges, looms, different, sections}
 use Rattle.graph.specs.Theorems.{bridges-counted, sections-counted, as-many-sections}
 use Rattle.graph.specs.Laws.Counts.Edges.{edges-same}
 use Rattle.graph.specs.Laws.Counts.Different.{different-map}
 use Rattle.record.specs.Record.{terminals, blocks}
-use Rattle.record.specs.Answers.{answered}
 use Rattle.forest.specs.Operations.{rootsIn}
 use Rattle.queries.specs.View.{sectionBit, onesOfB, placeOf}
-use Rattle.queries.specs.Answers.{orZero, unlessZero}
-use Rattle.queries.specs.Operations.{parent, head}
+use Rattle.queries.specs.Operations.{head}
 use Rattle.queries.specs.Written.{Written, forestFrom}
-use Rattle.queries.specs.Table.{parentsOn, headsOn, tableOn}
-use Rattle.queries.specs.Laws.Answered.{formed, covered, parent-answer, head-answer}
+use Rattle.queries.specs.Table.{parentsOn, headsOn}
+use Rattle.queries.specs.Laws.Answered.{formed, covered, head-answer}
 use Rattle.queries.specs.Laws.Built.{as-many, built-ones}
-use Rattle.queries.specs.Laws.Columns.{column-is, column-answered, or-unless}
+use Rattle.queries.specs.Laws.Columns.{column-is}
 use Rattle.queries.specs.Laws.Edges.{B-at}
-use Rattle.queries.specs.Laws.Figured.{table-roots}
+use Rattle.queries.specs.Laws.Figured.{parents-roots}
 
 module _ {bytes index : List ℕ} (w : Written bytes index) where
   abbrev g : Blocks
@@ -36,17 +33,6 @@ module _ {bytes index : List ℕ} (w : Written bytes index) where
 
   abbrev F : Forest
   F = forestFrom bytes (w .start)
-
-  pub heads-listed : map (head bytes index) (countUp 1 (terminals bytes)) ≡ map answered (headsOn bytes index)
-  heads-listed =
-      column-answered (λ v. v) (head bytes index) (terminals bytes) (λ v. suc (headIn g F v)) (λ v t. head-answer w t)
-      (λ v. v) (λ i. refl)
-
-  pub parents-listed : map (parent bytes index) (countUp 1 (terminals bytes))
-      ≡ map (λ k. answered (unlessZero k)) (parentsOn bytes index)
-  parents-listed =
-      column-answered orZero (parent bytes index) (terminals bytes) (λ v. unlessZero (parentIn F v))
-      (λ v t. parent-answer w t) unlessZero (λ i. ap unlessZero (or-unless (parentIn F i)))
 
   -- the different heads are the sections of the graph: they count from 1 here, and from 0 there
   heads-differ : different (headsOn bytes index) ≡ sections g F
@@ -58,10 +44,6 @@ module _ {bytes index : List ℕ} (w : Written bytes index) where
       ∙ sym (map-map suc (headIn g F) (countUp 0 (length g)))))
       ∙ different-map (λ x y e. omega arith) (map (headIn g F) (countUp 0 (length g)))
 
-  parents-roots : rootsIn (parentsOn bytes index) ≡ roots F
-  unfolding tableOn
-  parents-roots = table-roots w
-
   ones-places : onesOfB bytes index ≡ countPlaces g (bridge g)
   ones-places = ap (λ (x : List ℕ). onesOfB bytes x) (w .is) ∙ built-ones (w .accepted) (w .start - 1)
 
@@ -69,7 +51,7 @@ module _ {bytes index : List ℕ} (w : Written bytes index) where
   ones-edges = omega (arith, ones-places, bridges-counted (formed w), edges-same (formed w) (λ u j v p. B-at w p))
 
   pub heads-roots : different (headsOn bytes index) ≡ rootsIn (parentsOn bytes index) + onesOfB bytes index / 2
-  heads-roots = omega (arith, heads-differ, parents-roots, ones-places, sections-counted (formed w) (covered w))
+  heads-roots = omega (arith, heads-differ, parents-roots w, ones-places, sections-counted (formed w) (covered w))
 
   pub heads-looms : different (headsOn bytes index) ≡ looms g + countEdges g (bridge g)
   heads-looms = heads-differ ∙ as-many-sections (formed w) (covered w)

@@ -3,7 +3,7 @@ use mathlib.Core.Path.{_≡_, refl, sym, ap, ap₂, _∙_}
 use mathlib.Core.Logic.{inl, inr}
 use mathlib.Core.Bool.{Bool, true, false}
 use mathlib.Core.List.{List, map}
-use Prim.Native.Nat.{ℕ, zero, suc, _+_, _-_, _<_}
+use Prim.Native.Nat.{ℕ, zero, suc, _-_, _<_}
 use native.Mathlib.Numerals.{add-one}
 use native.Mathlib.Omega.{arith}
 use borrow.Author.Tests.{eq-eqb, ne-eqb, eqb-true, lt-ltb}
@@ -19,19 +19,20 @@ use Rattle.graph.specs.Theorems.{wires-balance, number-in-range, vertex-in-rang
 use Rattle.graph.specs.Theorems.{children-as-listed, children-counted, parent-mark-once, parent-mark-none}
 use Rattle.graph.specs.Theorems.{ancestor-by-steps, head-by-steps, head-of-step}
 use Rattle.graph.specs.Laws.Places.Basics.{clash}
-use Rattle.graph.specs.Laws.Places.CountUp.{length-each, each-at}
+use Rattle.graph.specs.Laws.Places.CountUp.{length-each, each-is}
 use Rattle.graph.specs.Laws.Places.Pairing.{place-at, source}
 use Rattle.graph.specs.Laws.Tree.Ancestors.{ancestor}
 use Rattle.graph.specs.Laws.Joined.Spanning.{Covers, search-spans}
 use Rattle.graph.specs.Laws.Edges.Marks.{back-place, back-marked, back-parent, first-back}
 use Rattle.graph.specs.Laws.Heads.Walks.{walk-stop, HeadSteps, AncestorSteps}
 use Rattle.record.specs.Answers.{Answer, refused, answered}
+use Rattle.forest.specs.Laws.Ones.{count-row}
 use Rattle.queries.specs.View.{View}
 use Rattle.queries.specs.Queries.{top, rise, stepBy, stepUp, parentBy, parentOf, headBy, headNext}
 use Rattle.queries.specs.Answers.{unlessZero}
 use Rattle.queries.specs.Queries.{headOf, ancestorBy, ancestorNext, ancestorOf, childCount, vertexOr, childOf}
 use Rattle.queries.specs.Queries.{visitOf, found, visitedOf}
-use Rattle.queries.specs.Laws.Marks.{set-inside, none-set, first-set, one-set, count-each, select-each}
+use Rattle.queries.specs.Laws.Marks.{set-inside, none-set, first-set, one-set, select-each}
 
 -- the marks of each block and the stored numbers are the forest's
 pub record Shows (w : View) (F : Forest) : Type 0 where
@@ -49,11 +50,7 @@ each-set f n i e =
     let l = length-each f 0 n in
     let s = set-inside (map f (countUp 0 n)) i e in
     let h : i < n = omega arith in
-    let z : i ≡ 0 + i = omega arith in
-    (h, ap f z ∙ sym (each-at f false 0 n i h) ∙ e)
-
-pub each-is : (f : ℕ → Bool) (n i : ℕ) → i < n → getD (map f (countUp 0 n)) i false ≡ f i
-each-is f n i h = let z : 0 + i ≡ i = omega arith in each-at f false 0 n i h ∙ ap f z
+    (h, sym (each-is f false n i h) ∙ e)
 
 module _ {w : View} {starts : List ℕ} (wf : WellFormed (w .graph)) (cov : Covers (w .graph) starts)
     (s : Shows w (search (w .graph) all starts)) where
@@ -81,7 +78,7 @@ module _ {w : View} {starts : List ℕ} (wf : WellFormed (w .graph)) (cov : Cove
       let k : ℕ = length (block (w .graph) u) in
       let t : List Bool = map f (countUp 0 k) in
       let h : u < length (w .graph) = source (place-at {g = w .graph} {u = u} l) in
-      let at : getD t i false ≡ true = each-is f k i l ∙ m in
+      let at : getD t i false ≡ true = each-is f false k i l ∙ m in
       let only : (j : ℕ) → getD t j false ≡ true → j ≡ i = λ j q. (
       let (a, b) = each-set f k j q in
       parent-mark-once (wf .in-range) cov (wires-balance wf) (place-at a) (place-at l) b m
@@ -116,7 +113,7 @@ module _ {w : View} {starts : List ℕ} (wf : WellFormed (w .graph)) (cov : Cove
   bridge-bit u i l =
       let h : u < length (w .graph) = source (place-at {g = w .graph} {u = u} l) in
       ap (λ (t : List Bool). getD t i false) (s .shows-B u h)
-      ∙ each-is (bridge (w .graph) u) (length (block (w .graph) u)) i l
+      ∙ each-is (bridge (w .graph) u) false (length (block (w .graph) u)) i l
 
   head-steps : HeadSteps (w .graph) F (λ v. answered (suc v)) (headNext w)
   head-steps = record {
@@ -173,7 +170,7 @@ module _ {w : View} {starts : List ℕ} (wf : WellFormed (w .graph)) (cov : Cove
   pub count-shown : (u : ℕ) → u < length (w .graph) → childCount w u ≡ length (children F u)
   unfolding childCount
   count-shown u h =
-      ap count (s .shows-E u h) ∙ count-each (childMark F u) 0 (length (block (w .graph) u))
+      ap count (s .shows-E u h) ∙ count-row (childMark F u) (length (block (w .graph) u))
       ∙ sym (children-counted (wf .in-range) cov u)
 
   pub child-shown : (u k : ℕ) → u < length (w .graph) → k < length (children F u)
@@ -215,7 +212,7 @@ module _ {w : View} {starts : List ℕ} (wf : WellFormed (w .graph)) (cov : Cove
       let v : ℕ = vertexAt F k in
       let l : v < n = vertex-in-range (wf .in-range) cov k h in
       let at : getD (map f (countUp 0 n)) v false ≡ true =
-      each-is f n v l ∙ eq-eqb (w .stored v) k (s .shows-numbers v l ∙ number-of-vertex (wf .in-range) cov k h) in
+      each-is f false n v l ∙ eq-eqb (w .stored v) k (s .shows-numbers v l ∙ number-of-vertex (wf .in-range) cov k h) in
       let only : (j : ℕ) → getD (map f (countUp 0 n)) j false ≡ true → j ≡ v = λ j q. (
       let (a, b) = each-set f n j q in
       let e : number F j ≡ k = sym (s .shows-numbers j a) ∙ eqb-true (w .stored j) k b in

@@ -1,19 +1,18 @@
 -- How many different numbers stand in a list.
 --   different-names   of the names of the numbers below n, where each group is named by one of its members: as many as
 --                     numbers that name themselves
---   different-map     of the values of a function that keeps numbers apart: as many as numbers
-use Prim.Native.Nat.{ℕ, _+_, _≤_, _<_, min}
+--   different-map     of the values of a function that keeps numbers apart: as many as in the list itself
+use Prim.Native.Nat.{ℕ, _+_, _<_, min}
 use mathlib.Core.Path.{_≡_, refl, sym, _∙_, ap}
 use mathlib.Core.List.{List, [], _∷_, map}
 use native.Mathlib.Omega.{arith}
 use native.Mathlib.Decide.{ℕ-discrete}
 use lib.Dec.{eqb}
-use lib.ListN.{getD}
 use borrow.Author.Tests.{eq-eqb, ne-eqb}
 use Rattle.graph.specs.Graph.{mentions, position}
 use Rattle.graph.specs.Search.{countUp}
 use Rattle.graph.specs.Counts.{when, sum, different}
-use Rattle.graph.specs.Laws.Places.CountUp.{length-each, each-at}
+use Rattle.graph.specs.Laws.Places.CountUp.{length-each, each-is}
 use Rattle.graph.specs.Laws.Places.Mentions.{mentions-nil, mentions-hit, mentions-miss, mention-at, mention-found}
 use Rattle.graph.specs.Laws.Counts.Sums.{when-yes, when-no, sum-same, sum-zero, sum-add, sum-one}
 use Rattle.graph.specs.Laws.Counts.Names.{Names, named}
@@ -35,17 +34,13 @@ seen-cons x l y = go (ℕ-discrete y x) (ℕ-discrete (mentions x l) 0)
     go (yes e) (no n) = rw (eq-eqb y x e, ne-eqb _ 0 n) (omega (arith, mentions-hit l e, ap (λ v. mentions v l) e))
     go (no d) z = rw (ne-eqb y x d) (omega (arith, mentions-miss l d))
 
-mentions-more : (x : ℕ) (l : List ℕ) (y : ℕ) → mentions y l ≤ mentions y (x ∷ l)
-mentions-more x l y =
-    elim (ℕ-discrete y x) [ yes e ↦ omega (arith, mentions-hit l e) | no d ↦ omega (arith, mentions-miss l d) ]
-
 different-sum : (n : ℕ) (l : List ℕ) → ((x : ℕ) → 0 < mentions x l → x < n) → different l ≡ sum n (seen l)
 unfolding different
 different-sum n [] h = sym (sum-zero n (λ x k. omega (arith, mentions-nil x)))
 different-sum n (x ∷ l) h =
     let new : ℕ = when (eqb (mentions x l) 0) 1 in
     let inside : x < n = h x (omega (arith, mentions-hit l (refl {a = x}))) in
-    let a = different-sum n l (λ y k. h y (omega (arith, mentions-more x l y))) in
+    let a = different-sum n l (λ y k. h y (omega (arith, seen-cons x l y))) in
     let b = sum-same n (λ y k. seen-cons x l y) in
     let c = sum-add n (λ y. when (eqb y x) new) (seen l) in
     let d = sum-one n x inside (λ y k n. when-no new (ne-eqb y x n)) in
@@ -58,22 +53,19 @@ module _ {n : ℕ} {f : ℕ → ℕ} (na : Names n f) where
   abbrev names : List ℕ
   names = map f (countUp 0 n)
 
-  name-at : (v : ℕ) → v < n → getD names v 0 ≡ f v
-  name-at v h = let z : 0 + v ≡ v = omega arith in each-at f 0 0 n v h ∙ ap f z
-
   -- a name that is mentioned is below n, and names itself
   mentioned : (x : ℕ) → 0 < mentions x names → (x < n) × (f x ≡ x)
   mentioned x h =
       let m = mention-at x names 0 h in
       let v : ℕ = position x names 0 in
       let l : v < n = omega (arith, m .inside, length-each f 0 n) in
-      let e : f v ≡ x = sym (name-at v l) ∙ m .there in
+      let e : f v ≡ x = sym (each-is f 0 n v l) ∙ m .there in
       (omega (arith, na .inside v l, e), ap f (sym e) ∙ (na .settled v l ∙ e))
 
   -- and one that names itself is mentioned
   self-mentioned : (x : ℕ) → x < n → f x ≡ x → 0 < mentions x names
   self-mentioned x h e =
-      omega (arith, mention-found x names x (omega (arith, length-each f 0 n)) (name-at x h ∙ e) .counted)
+      omega (arith, mention-found x names x (omega (arith, length-each f 0 n)) (each-is f 0 n x h ∙ e) .counted)
 
   pub different-names : different (map f (countUp 0 n)) ≡ named n f
   unfolding named

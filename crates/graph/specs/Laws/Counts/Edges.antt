@@ -2,7 +2,8 @@
 --   two-places     a mark at both ends of a wire or at neither stands twice for each wire
 --   all-edges      there are half as many wires as places
 --   neither-twin   a mark is at neither end, as seen from the one end and from the other
---   edges-same, edges-neither  marks that agree at all places are as often at a wire, and as often at neither end
+--   edges-same     marks that agree at all places are at as many wires
+--   edges-neither  and at neither end of as many
 use Prim.Native.Nat.{ℕ, _+_, _*_, _≤_, _<_}
 use mathlib.Core.Path.{_≡_, refl, ap}
 use mathlib.Core.Bool.{not, or-comm}

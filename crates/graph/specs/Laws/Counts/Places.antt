@@ -3,9 +3,10 @@
 --   over-same, over-zero, over-add, over-one   as over the numbers below n
 --   over-pair, over-twin                       the sum over the places is the sum over their pairs
 --   over-cons, over-places                     one more vertex in front; as many terms as places
+--   marked-length                              the neighbours at the marked positions of a block
 use Prim.Native.Nat.{ℕ, zero, suc, _+_, _<_}
-use mathlib.Core.Path.{_≡_, refl, sym, _∙_}
-use mathlib.Core.Bool.{Bool, _&&_}
+use mathlib.Core.Path.{_≡_, refl, sym, _∙_, ap}
+use mathlib.Core.Bool.{Bool, true, false, _&&_}
 use mathlib.Core.List.{List, [], _∷_, flatten}
 use native.Mathlib.Omega.{arith}
 use native.Mathlib.Decide.{ℕ-discrete}
@@ -14,8 +15,10 @@ use lib.ListN.{length, length-append}
 use borrow.Author.Tests.{eq-eqb, ne-eqb}
 use Rattle.graph.specs.Graph.{Blocks, block, target, Place, pair, twin, WellFormed}
 use Rattle.graph.specs.Counts.{when, sum, over}
+use Rattle.graph.specs.Laws.Places.Basics.{Told, pass, fail, told}
 use Rattle.graph.specs.Laws.Places.Pairing.{Balanced, balanced-sym, source, place-at, pair-place, pair-pair}
 use Rattle.graph.specs.Laws.Places.Pairing.{both-ends}
+use Rattle.graph.specs.Laws.Edges.Children.{marked}
 use Rattle.graph.specs.Laws.Counts.Sums.{sum-same, sum-zero, sum-ones, sum-add, sum-one, sum-first}
 
 -- ---- the place (a, b) alone
@@ -137,3 +140,27 @@ over-places (l ∷ g) =
     let c = length-append l (flatten g) in
     let d = sum-ones (length l) in
     omega arith
+
+-- ---- the neighbours at the marked positions of a block
+
+marked-next : (f : ℕ → Bool) (i : ℕ) (l : List ℕ) → marked f (suc i) l ≡ marked (λ j. f (suc j)) i l
+unfolding marked
+marked-next f i [] = refl
+marked-next f i (v ∷ l) =
+    ap (λ (r : List ℕ). elim (f (suc i)) [ true ↦ v ∷ r | false ↦ r ]) (marked-next f (suc i) l)
+
+pub marked-length : (f : ℕ → Bool) (l : List ℕ) → length (marked f 0 l) ≡ sum (length l) (λ j. when (f j) 1)
+unfolding marked sum
+marked-length f [] = refl
+marked-length f (v ∷ l) =
+    omega (
+      arith,
+      one (told (f 0)),
+      ap length (marked-next f 0 l),
+      marked-length (λ j. f (suc j)) l,
+      sum-first (length l) (λ j. when (f j) 1),
+    )
+  where
+    one : Told (f 0) → length (marked f 0 (v ∷ l)) ≡ when (f 0) 1 + length (marked f 1 l)
+    one (pass e) = rw (e, marked) (omega arith)
+    one (fail e) = rw (e, marked) (omega arith)

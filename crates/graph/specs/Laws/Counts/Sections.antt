@@ -39,7 +39,7 @@ module _ {g : Blocks} (wf : WellFormed g) {F : Forest} (span : Spanning g F) whe
   abbrev single : ℕ → ℕ → ℕ
   single u j = when (bridge g u j) 1
 
-  -- a wire with a child mark at neither end is none
+  -- a wire with a child mark at neither end is no bridge
   outside-single : (u j : ℕ) → Place g u j (target g u j) → when (atNeither g (childMark F) u j) (single u j) ≡ 0
   unfolding atNeither parentMark
   outside-single u j p = go (told (childMark F u j)) (told (childMark F (target g u j) (twin g u j)))

@@ -23,11 +23,6 @@ unfoldable pub marked : (ℕ → Bool) → ℕ → List ℕ → List ℕ
 marked f i [] = []
 marked f i (v ∷ l) = elim (f i) [ true ↦ v ∷ marked f (suc i) l | false ↦ marked f (suc i) l ]
 
--- how many of n positions, from i on, f marks
-unfoldable pub marks : (ℕ → Bool) → ℕ → ℕ → ℕ
-marks f i zero = 0
-marks f i (suc n) = elim (f i) [ true ↦ suc (marks f (suc i) n) | false ↦ marks f (suc i) n ]
-
 marked-yes : (f : ℕ → Bool) (i v : ℕ) (l : List ℕ) → f i ≡ true → marked f i (v ∷ l) ≡ v ∷ marked f (suc i) l
 unfolding marked
 marked-yes f i v l e = rw (e, marked)
@@ -35,16 +30,6 @@ marked-yes f i v l e = rw (e, marked)
 marked-no : (f : ℕ → Bool) (i v : ℕ) (l : List ℕ) → f i ≡ false → marked f i (v ∷ l) ≡ marked f (suc i) l
 unfolding marked
 marked-no f i v l e = rw (e, marked)
-
-pub marked-length : (f : ℕ → Bool) (i : ℕ) (l : List ℕ) → length (marked f i l) ≡ marks f i (length l)
-unfolding marked marks
-marked-length f i [] = refl
-marked-length f i (v ∷ l) = go (told (f i)) (marked-length f (suc i) l)
-  where
-    go : Told (f i) → length (marked f (suc i) l) ≡ marks f (suc i) (length l)
-        → length (marked f i (v ∷ l)) ≡ marks f i (suc (length l))
-    go (pass e) h = rw (e, marked, marks) (ap suc h)
-    go (fail e) h = rw (e, marked, marks) h
 
 -- tests that agree mark alike
 marked-same : (f f′ : ℕ → Bool) (i : ℕ) (l : List ℕ) → ((k : ℕ) → i ≤ k → f k ≡ f′ k) → marked f i l ≡ marked f′ i l

@@ -1,4 +1,8 @@
 -- Theorem 6: heads are equal exactly where two vertices are joined and stay joined whichever one wire is taken out.
+--   head-root, head-bridge, head-parent  the climb, step by step
+--   Top, top-entered, top-head           where a head stands: it is entered, and its own head
+--   head-top                             each head stands so
+--   same-head                            the theorem
 use Prim.Native.Nat.{ℕ, _<_}
 use mathlib.Core.Path.{_≡_, refl, _∙_, ap}
 use mathlib.Core.Logic.{inl, inr, _↔_}

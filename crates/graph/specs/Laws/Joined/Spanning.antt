@@ -1,14 +1,15 @@
 -- A forest of the whole graph: the few facts that everything above rests on, and the search's forest has them.
-use Prim.Native.Nat.{ℕ, zero, suc, _+_, _≤_, _<_}
+use Prim.Native.Nat.{ℕ, _<_}
 use mathlib.Core.Path.{_≡_, refl}
 use mathlib.Core.Logic.{_⊎_, inl, inr}
-use mathlib.Core.List.{List, List·Memᴰ, List·Memᴰ·head, List·Memᴰ·tail}
+use mathlib.Core.List.{List, List·Memᴰ}
 use native.Mathlib.Omega.{arith}
-use native.Mathlib.Decide.{decLt, ℕ-discrete}
+use native.Mathlib.Decide.{decLt}
 use lib.ListN.{length, take}
 use Rattle.graph.specs.Graph.{Blocks, block, target, Place, mentions, position, pair, twin, WellFormed}
 use Rattle.graph.specs.Search.{via, Forest, all, search, countUp}
 use Rattle.graph.specs.Forest.{number, Ancestor}
+use Rattle.graph.specs.Laws.Places.CountUp.{count-every, count-inside}
 use Rattle.graph.specs.Laws.Places.Mentions.{mention-found, none-before}
 use Rattle.graph.specs.Laws.Places.Pairing.{InRange, source, twin-place, pair-first}
 use Rattle.graph.specs.Laws.Tree.Entries.{Entered, Built, built-map, entry-allowed, forest-ind}
@@ -22,22 +23,6 @@ use Rattle.graph.specs.Laws.Joined.Reach.{searched-built, searched-start
 pub record Covers (g : Blocks) (starts : List ℕ) : Type 0 where
   pub every : (v : ℕ) → v < length g → List·Memᴰ v starts
   pub inside : (v : ℕ) → List·Memᴰ v starts → v < length g
-
-count-every : (i n v : ℕ) → i ≤ v → v < i + n → List·Memᴰ v (countUp i n)
-unfolding countUp
-count-every i zero v h l = absurd (omega arith)
-count-every i (suc n) v h l =
-    elim (ℕ-discrete v i) [
-      | yes e ↦ List·Memᴰ·head e
-      | no d ↦ List·Memᴰ·tail
-          (count-every (suc i) n v (omega arith) (omega arith))
-    ]
-
-count-inside : (i n v : ℕ) → List·Memᴰ v (countUp i n) → v < i + n
-unfolding countUp
-count-inside i zero v m = elim m [ ]
-count-inside i (suc n) v (List·Memᴰ·head e) = omega arith
-count-inside i (suc n) v (List·Memᴰ·tail m) = let a = count-inside (suc i) n v m in omega arith
 
 -- the vertices in order
 pub covers-vertices : (g : Blocks) → Covers g (countUp 0 (length g))

@@ -1,14 +1,32 @@
 -- The numbers i, i + 1, .. (`countUp`), and a function at each of them.
---   count-length             how many they are
---   count-more, count-none   those from i on, of n in all
---   length-each, each-at     the values of a function: how many they are, and the one at a position
---   each-same, each-next     functions that agree there; the values from the next number on
+--   count-every, count-inside      which they are
+--   count-length                   how many they are
+--   count-more, count-none         those from i on, of n in all
+--   length-each, each-at, each-is  the values of a function: how many they are, and the one at a position
+--   each-same, each-next           functions that agree there; the values from the next number on
 use Prim.Native.Nat.{ℕ, zero, suc, _+_, _-_, _≤_, _<_}
 use mathlib.Core.Path.{_≡_, refl, ap, ap₂, _∙_}
-use mathlib.Core.List.{List, [], _∷_, map}
+use mathlib.Core.List.{List, [], _∷_, map, List·Memᴰ, List·Memᴰ·head, List·Memᴰ·tail}
 use native.Mathlib.Omega.{arith}
+use native.Mathlib.Decide.{ℕ-discrete}
 use lib.ListN.{length, getD, length-map}
 use Rattle.graph.specs.Search.{countUp}
+
+pub count-every : (i n v : ℕ) → i ≤ v → v < i + n → List·Memᴰ v (countUp i n)
+unfolding countUp
+count-every i zero v h l = absurd (omega arith)
+count-every i (suc n) v h l =
+    elim (ℕ-discrete v i) [
+      | yes e ↦ List·Memᴰ·head e
+      | no d ↦ List·Memᴰ·tail
+          (count-every (suc i) n v (omega arith) (omega arith))
+    ]
+
+pub count-inside : (i n v : ℕ) → List·Memᴰ v (countUp i n) → v < i + n
+unfolding countUp
+count-inside i zero v m = elim m [ ]
+count-inside i (suc n) v (List·Memᴰ·head e) = omega arith
+count-inside i (suc n) v (List·Memᴰ·tail m) = let a = count-inside (suc i) n v m in omega arith
 
 pub count-length : (i n : ℕ) → length (countUp i n) ≡ n
 unfolding countUp
@@ -31,6 +49,9 @@ unfolding countUp
 each-at f d i zero k h = absurd (omega arith)
 each-at f d i (suc n) zero h = ap f (omega arith)
 each-at f d i (suc n) (suc k) h = each-at f d (suc i) n k (omega arith) ∙ ap f (omega arith)
+
+pub each-is : {A : Type 0} (f : ℕ → A) (d : A) (n k : ℕ) → k < n → getD (map f (countUp 0 n)) k d ≡ f k
+each-is f d n k h = let z : 0 + k ≡ k = omega arith in each-at f d 0 n k h ∙ ap f z
 
 pub each-same : {A : Type 0} (f h : ℕ → A) (i n : ℕ) → ((k : ℕ) → k < n → f (i + k) ≡ h (i + k))
     → map f (countUp i n) ≡ map h (countUp i n)

@@ -1,4 +1,8 @@
 -- Mentions in one block: `position` finds the mention before which k others stand, and each mention is found.
+--   mentions-nil, mentions-hit, mentions-miss   the clauses of `mentions` as equations
+--   Mention, mention-at                         the mention before which k others stand
+--   Found, mention-found                        a position, by the mentions before it
+--   first-mention, none-before, first-position  the first mention
 use Prim.Native.Nat.{ℕ, zero, suc, _<_}
 use mathlib.Core.Path.{_≡_, refl, sym, _∙_, ap}
 use mathlib.Core.Logic.{_↔_}
