@@ -196,7 +196,7 @@ def starts(page):
             same(f"the groups in {name} from {start}", groups(first), groups(index))
             same(f"the figure of {name} from {start}", plain.unmarked(data, index), plain.loop_figure(data))
             heads, roots, ones = len(groups(index)), plain.roots_of(data, start), plain.ones_of_b(data, index)
-            same(f"the sections of {name} from {start}", heads, roots + ones / 2)
+            same(f"the sections of {name} from {start}", 2 * heads, 2 * roots + ones)
 
 
 def section_counts(page):

@@ -254,12 +254,8 @@ def families():
     tree = record(shapes.shuffled(rng, shapes.renamed(rng, shapes.binary_tree(4096))))
     return {
         "sample": (exact, [(record(SAMPLE), SAMPLE_LISTING)]),
-        "largest": (compare, large),
+        **{name: (compare, cases) for name, cases in shapes.all_accepted().items()},
         "largest damaged": (compare, damaged),
-        "every record of at most 4 terminals without a doubled wire": (compare, shapes.every(4)),
-        "every small record with a doubled wire": (compare, shapes.every_doubled()),
-        **{name: (compare, cases) for name, cases in shapes.small().items()},
-        **{f"medium {name}": (compare, cases) for name, cases in shapes.medium().items()},
         **{name: (compare, cases) for name, cases in shapes.damaged().items()},
         "too long": (compare, too_long()),
         "in pieces": (in_pieces, pieces()),

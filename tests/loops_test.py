@@ -78,14 +78,8 @@ def worked(case):
 
 
 def families():
-    return {
-        "worked by hand": (worked, WORKED),
-        "largest": (compare, shapes.largest()),
-        "every record of at most 4 terminals without a doubled wire": (compare, shapes.every(4)),
-        "every small record with a doubled wire": (compare, shapes.every_doubled()),
-        **{name: (compare, cases) for name, cases in shapes.small().items()},
-        **{f"medium {name}": (compare, cases) for name, cases in shapes.medium().items()},
-    }
+    records = {name: (compare, cases) for name, cases in shapes.all_accepted().items()}
+    return {"worked by hand": (worked, WORKED), **records}
 
 
 if __name__ == "__main__":

@@ -497,13 +497,13 @@ def table(data, start, work, *rooms):
 
 # Sections
 
-def different_heads(data, start=1):
+def different_heads(data, start):
     """How many different heads an accepted record has, on the start's index."""
     *_, heads = columns(data, start)
     return len(set(heads))
 
 
-def roots_of(data, start=1):
+def roots_of(data, start):
     """How many roots: terminals for which Parent answers 0."""
     _, parents, _, _ = columns(data, start)
     return parents.count(0)

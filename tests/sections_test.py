@@ -41,16 +41,16 @@ def apart(data):
     return [[w for j, w in enumerate(block) if (v, j) not in out] for v, block in enumerate(blocks, 1)]
 
 
-def compare(case, most=12):
+def compare(case):
     """From each start the ones of B are even, and the different heads are as many as the roots and half of them."""
     _, data = case
     left, found = looms(apart(data)), []
-    for start in starts_of(data, most):
+    for start in starts_of(data):
         heads, roots, ones = different_heads(data, start), roots_of(data, start), ones_of_b(data, built(data, start))
         if 2 * heads != 2 * roots + ones or heads != left:
             told = f"{heads} different heads, {roots} roots, {ones} ones in B"
             found.append(f"from {start} {told}, and {left} looms without bridges; record {shown(data)}")
-    return len(starts_of(data, most)), found
+    return len(starts_of(data)), found
 
 
 def worked(case):
@@ -65,14 +65,8 @@ def worked(case):
 
 
 def families():
-    return {
-        "worked by hand": (worked, WORKED),
-        "largest": (compare, shapes.largest()),
-        "every record of at most 4 terminals without a doubled wire": (compare, shapes.every(4)),
-        "every small record with a doubled wire": (compare, shapes.every_doubled()),
-        **{name: (compare, cases) for name, cases in shapes.small().items()},
-        **{f"medium {name}": (compare, cases) for name, cases in shapes.medium().items()},
-    }
+    records = {name: (compare, cases) for name, cases in shapes.all_accepted().items()}
+    return {"worked by hand": (worked, WORKED), **records}
 
 
 if __name__ == "__main__":

@@ -340,6 +340,17 @@ def largest():
     return [(0, record(shuffled(rng, graph))) for graph in graphs]
 
 
+def all_accepted():
+    """By name, every family of accepted records."""
+    return {
+        "largest": largest(),
+        "every record of at most 4 terminals without a doubled wire": every(4),
+        "every small record with a doubled wire": every_doubled(),
+        **small(),
+        **{f"medium {name}": cases for name, cases in medium().items()},
+    }
+
+
 # Damaged records
 
 def changed(blocks, v, j, *neighbours):
