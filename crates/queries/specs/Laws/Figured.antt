@@ -28,7 +28,8 @@ use Rattle.queries.specs.View.{sectionBit, placeOf}
 use Rattle.queries.specs.Answers.{orZero}
 use Rattle.queries.specs.Operations.{parent}
 use Rattle.queries.specs.Written.{Written, forestFrom, Terminal}
-use Rattle.queries.specs.Table.{Columns, answersOf, parentsOn, tableOn, tableOf, tableRules, table, tabled, TableDone}
+use Rattle.queries.specs.Table.{Columns, answersOf, parentsOn, tableOn, tableOf, tableRules, table, tabled}
+use Rattle.queries.specs.Table.{TableDone}
 use Rattle.queries.specs.Laws.Answered.{formed, covered, parent-answer}
 use Rattle.queries.specs.Laws.Built.{as-many}
 use Rattle.queries.specs.Laws.Columns.{cell-told, or-unless}
