@@ -48,7 +48,7 @@ module _ {bytes index : List ℕ} (w : Written bytes index) where
   ones-places = ap (λ (x : List ℕ). onesOfB bytes x) (w .is) ∙ built-ones (w .accepted) (w .start - 1)
 
   pub ones-edges : onesOfB bytes index ≡ 2 * countEdges g (λ u j. sectionBit bytes index 2 (placeOf bytes u j))
-  ones-edges = omega (arith, ones-places, bridges-counted (formed w), edges-same (formed w) (λ u j v p. B-at w p))
+  ones-edges = omega (arith, ones-places, bridges-counted (formed w), edges-same (λ u j v p. B-at w p))
 
   pub heads-roots : different (headsOn bytes index) ≡ rootsIn (parentsOn bytes index) + onesOfB bytes index / 2
   heads-roots = omega (arith, heads-differ, parents-roots w, ones-places, sections-counted (formed w) (covered w))

@@ -1,9 +1,9 @@
 -- Wires, counted at their lower end.
+--   edges-same     marks that agree at all places are at as many wires
 --   two-places     a mark at both ends of a wire or at neither stands twice for each wire
 --   all-edges      there are half as many wires as places
 --   neither-twin   a mark is at neither end, as seen from the one end and from the other
---   edges-same     marks that agree at all places are at as many wires
---   edges-neither  and at neither end of as many
+--   edges-neither  marks that agree at all places are at neither end of as many wires
 use Prim.Native.Nat.{ℕ, _+_, _*_, _≤_, _<_}
 use mathlib.Core.Path.{_≡_, refl, ap}
 use mathlib.Core.Bool.{not, or-comm}
@@ -18,6 +18,12 @@ use Rattle.graph.specs.Search.{PlaceTest, all}
 use Rattle.graph.specs.Counts.{when, countPlaces, countEdges, atNeither}
 use Rattle.graph.specs.Laws.Places.Pairing.{place-at, twin-place, twin-twin}
 use Rattle.graph.specs.Laws.Counts.Places.{over-same, over-add, over-twin, over-places}
+
+pub edges-same : {g : Blocks} {mark mark′ : PlaceTest} → ((u j v : ℕ) → Place g u j v → mark u j ≡ mark′ u j)
+    → countEdges g mark ≡ countEdges g mark′
+unfolding countEdges
+edges-same {g} same = over-same g (λ u j l k.
+    ap (λ b. when (ltb u (target g u j)) (when b 1)) (same u j (target g u j) (place-at k)))
 
 module _ {g : Blocks} (wf : WellFormed g) where
   pub two-places : (q : PlaceTest) → ((u j v : ℕ) → Place g u j v → q v (twin g u j) ≡ q u j)
@@ -62,11 +68,6 @@ module _ {g : Blocks} (wf : WellFormed g) where
   -- ---- marks that agree at all places
 
   module _ {mark mark′ : PlaceTest} (same : (u j v : ℕ) → Place g u j v → mark u j ≡ mark′ u j) where
-    pub edges-same : countEdges g mark ≡ countEdges g mark′
-    unfolding countEdges
-    edges-same = over-same g (λ u j l k.
-        ap (λ b. when (ltb u (target g u j)) (when b 1)) (same u j (target g u j) (place-at k)))
-
     neither-same : (u j v : ℕ) → Place g u j v → atNeither g mark u j ≡ atNeither g mark′ u j
     unfolding atNeither
     neither-same u j v p =

@@ -61,7 +61,7 @@ pub top-head : {Ok : ℕ → ℕ → ℕ → Type 0} {g : Blocks} {F : Forest} {
 top-head {g = g} b (top-root m) = head-root g b m
 top-head {g = g} b (top-bridge p j m e) = head-bridge g b m e
 
-module _ {g : Blocks} (wf : WellFormed g) {F : Forest} (span : Spanning g F) where
+module _ {g : Blocks} {F : Forest} (span : Spanning g F) where
   pub head-top : (v : ℕ) → Entered v F → Top g F (head g F v)
   head-top = forest-ind (λ v. Top g F (head g F v)) (span .built)
       (λ v m. rw (head-root g (span .built) m) (top-root m))
@@ -71,6 +71,7 @@ module _ {g : Blocks} (wf : WellFormed g) {F : Forest} (span : Spanning g F) whe
       go u j v m t (pass e) = rw (head-bridge g (span .built) m e) (top-bridge u j m e)
       go u j v m t (fail e) = rw (head-parent g (span .built) m e) t
 
+module _ {g : Blocks} (wf : WellFormed g) {F : Forest} (span : Spanning g F) where
   -- from the head down, where each place that is no bridge can be replaced
   head-chain : (ok : PlaceTest) → ((u j v : ℕ) → Place g u j v → bridge g u j ≡ false → Chain g ok u v) → (v : ℕ)
       → Entered v F
@@ -132,7 +133,7 @@ module _ {g : Blocks} (wf : WellFormed g) {F : Forest} (span : Spanning g F) whe
   pub same-head : (u v : ℕ) → u < length g → v < length g → (head g F u ≡ head g F v) ↔ DoublyJoined g u v
   same-head u v hu hv = (
     λ e. doubly-trans (doubly-sym wf (at u hu)) (rw e (at v hv)),
-    λ d. same-top (head-top u (span .whole u hu)) (head-top v (span .whole v hv))
+    λ d. same-top (head-top span u (span .whole u hu)) (head-top span v (span .whole v hv))
         (doubly-trans (at u hu) (doubly-trans d (doubly-sym wf (at v hv)))),
   )
     where
