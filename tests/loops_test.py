@@ -77,10 +77,11 @@ def worked(case):
     return 1 + count, found
 
 
-def families():
-    records = {name: (compare, cases) for name, cases in shapes.all_accepted().items()}
-    return {"worked by hand": (worked, WORKED), **records}
+def counted(worked, cases, compare):
+    """The exit status of a test that compares counts: of these cases, and of every family of accepted records."""
+    records = {name: (compare, family) for name, family in shapes.all_accepted().items()}
+    return tally({"worked by hand": (worked, cases), **records}, "comparisons")
 
 
 if __name__ == "__main__":
-    sys.exit(tally(families(), "comparisons"))
+    sys.exit(counted(worked, WORKED, compare))

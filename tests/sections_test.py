@@ -6,9 +6,8 @@ The records are accepted ones of every shape.
 """
 import sys
 
-import shapes
-from families import shown, tally
-from loops_test import starts_of
+from families import shown
+from loops_test import counted, starts_of
 from packing import SAMPLE, WIRE, record
 from plain import MOST_TERMINALS, MOST_WIRES, blocks_of, bridges_of, built, different_heads, looms, ones_of_b, roots_of
 
@@ -64,10 +63,5 @@ def worked(case):
     return 1 + count, found
 
 
-def families():
-    records = {name: (compare, cases) for name, cases in shapes.all_accepted().items()}
-    return {"worked by hand": (worked, WORKED), **records}
-
-
 if __name__ == "__main__":
-    sys.exit(tally(families(), "comparisons"))
+    sys.exit(counted(worked, WORKED, compare))
