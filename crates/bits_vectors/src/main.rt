@@ -1,5 +1,6 @@
 // Asks `bits` on fixed bytes and prints the answers, a line for each bit string, field and write. The file stdout has
 // what they must be.
+#![tactic(auto)]
 ghost use Rattle.std.specs.Prelude.{◌<◌, ◌≤◌, length};
 
 use print::{label, number, show_bytes, text, value};

@@ -1,5 +1,6 @@
 // Has `forest` build the indexes of fixed records and tell their loop figures, and prints the answers, a line for each
 // call. The file stdout has what they must be.
+#![tactic(auto)]
 ghost use Rattle.std.specs.Prelude.{◌+◌, ◌*◌, ◌≤◌};
 
 use print::{digest, label, number, refused, show_bytes, text, value};

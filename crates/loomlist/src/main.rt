@@ -1,5 +1,6 @@
 // The listing of the record on standard input (document 01, `loomlist`): what the search forest says of each terminal,
 // or `refused` and the refusal's number. An error of a read or a write is told on standard error.
+#![tactic(auto)]
 ghost use Rattle.std.specs.Prelude.{◌≡◌};
 ghost use Rattle.record.specs.Answers.{answered};
 ghost use Rattle.record.specs.Operations.{Accepted};

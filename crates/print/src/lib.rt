@@ -1,4 +1,5 @@
 // What programs print: words, numbers, lists, bytes and digests. It rests on none of the crates that they ask.
+#![tactic(auto)]
 ghost use Rattle.std.specs.Prelude.{◌<◌};
 
 use libc::STDOUT_FILENO;

@@ -1,6 +1,7 @@
 // The queries on a record and its index (document 01, "Operations and their answers"), and their answers for a list of
 // terminals and for all terminals at once. No operation of this file has a precondition: each answers for every record
 // and index, built or not, and every number.
+#![tactic(auto)]
 ghost use Rattle.std.specs.Prelude.{◌≡◌};
 ghost use Rattle.record.specs.Answers.{counted, verdict};
 ghost use Rattle.queries.specs.Answers.{above, terminal, related, numbered};

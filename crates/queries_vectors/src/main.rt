@@ -1,5 +1,6 @@
 // Asks `queries` about fixed records and indexes and prints the answers: a line for each query, of Child and Ancestor
 // one for each terminal; and then Table, and Lookup. The file stdout has what they must be.
+#![tactic(auto)]
 ghost use Rattle.std.specs.Prelude.{◌≤◌};
 
 use answers::{above, counted, found, numbered, related};

@@ -1,5 +1,6 @@
 // Asks `record` about fixed records and prints the answers, a line for each call. The file stdout has what they must
 // be.
+#![tactic(auto)]
 ghost use Rattle.std.specs.Prelude.{◌≤◌};
 
 use print::{label, number, refused, show_bytes, show_numbers, text, value};
