@@ -26,7 +26,7 @@ tally_zero [] = refl
 tally_zero (root v ∷ F) = tally_zero F
 tally_zero (via u j v ∷ F) = let e = tally_zero F in omega arith
 
-tally_some : {F : Forest} {u j v : ℕ} → Memᴰ (via u j v) F → 0 < tally (λ u j. 1) F
+tally_some : {u j v : ℕ} {F : Forest} → Memᴰ (via u j v) F → 0 < tally (λ u j. 1) F
 unfolding tally
 tally_some {F = []} m = elim m [ ]
 tally_some {F = root v ∷ F} (Memᴰ.head e) = absurd (via_root e)

@@ -36,15 +36,16 @@ mark_child (via p i v ∷ F) u j e = go (λ h. mark_child F u j h) (or_cases (eq
         record { vertex = v; entry_at = Memᴰ.head z }
     go rec (inr h) = let c = rec h in record { vertex = c.vertex; entry_at = Memᴰ.tail c.entry_at }
 
-pub child_mark_lem : {F : Forest} {u j v : ℕ} → Memᴰ (via u j v) F → child_mark F u j ≡ true
+pub child_mark_lem : {u j v : ℕ} {F : Forest} → Memᴰ (via u j v) F → child_mark F u j ≡ true
 unfolding child_mark
+child_mark_lem {F = []} m = elim m [ ]
 child_mark_lem {F = root w ∷ F} (Memᴰ.head e) = absurd (via_root e)
 child_mark_lem {F = root w ∷ F} (Memᴰ.tail m) = child_mark_lem m
-child_mark_lem {F = via p i w ∷ F} {u = u} {j = j} (Memᴰ.head e) =
+child_mark_lem {u = u} {j = j} {F = via p i w ∷ F} (Memᴰ.head e) =
     let x : u ≡ p = cc in
     let y : j ≡ i = cc in
     or_left (child_mark F u j) (and_both (eq-eqb u p x) (eq-eqb j i y))
-child_mark_lem {F = via p i w ∷ F} {u = u} {j = j} (Memᴰ.tail m) = or_right (eqb u p && eqb j i) (child_mark_lem m)
+child_mark_lem {u = u} {j = j} {F = via p i w ∷ F} (Memᴰ.tail m) = or_right (eqb u p && eqb j i) (child_mark_lem m)
 
 module _ {g : Blocks} {F : Forest} (b : Built (Place g) F) where
   pub child_mark_entry : {u j v : ℕ} → Place g u j v → (child_mark F u j ≡ true) ↔ Memᴰ (via u j v) F

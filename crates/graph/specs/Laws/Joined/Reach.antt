@@ -14,12 +14,12 @@ use Rattle.graph.specs.Laws.Tree.Climbs.{root_itself, root_parent, root_is_root}
 use Rattle.graph.specs.Laws.Run.Arcs.{Step, arc_arcs}
 use Rattle.graph.specs.Laws.Run.Segments.{Segment, segment_aims, segment_closed, Start, start, start_goal}
 use Rattle.graph.specs.Laws.Run.Segments.{goal_start, search_segment}
-use Rattle.graph.specs.Laws.Run.Descent.{fit_start, segment_built, segment_roots, segment_down}
+use Rattle.graph.specs.Laws.Run.Descent.{start_fits, segment_built, segment_roots, segment_down}
 use Rattle.graph.specs.Laws.Joined.Chains.{chain_trans, chain_one}
 
 module _ {g : Blocks} {ok : PlaceTest} (starts : List ℕ) {F : Forest} (s : Segment g ok [] (map root starts) F) where
   pub searched_built : Built (Step g ok) F
-  searched_built = segment_built s (λ a m. elim (start_goal starts m) [ start k ↦ fit_start ]) built_nil
+  searched_built = segment_built s (λ a m. start_fits (start_goal starts m)) built_nil
 
   pub searched_start : {v : ℕ} → Memᴰ v starts → Entered v F
   searched_start m = segment_aims s (goal_start m)

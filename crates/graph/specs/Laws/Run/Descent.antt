@@ -13,12 +13,15 @@ use Rattle.graph.specs.Laws.Tree.Numbers.{number_hit, number_bound, number_stays
 use Rattle.graph.specs.Laws.Tree.Ancestors.{ancestor_grows, ancestor_same}
 use Rattle.graph.specs.Laws.Run.Arcs.{arcs_of, Step, Arc, arc, arcs_arc, arc_arcs}
 use Rattle.graph.specs.Laws.Run.Segments.{Segment, done, skip, enter, segment_grows, segment_aims, segment_closed}
-use Rattle.graph.specs.Laws.Run.Segments.{Added, at_once, below, after, added}
+use Rattle.graph.specs.Laws.Run.Segments.{Added, at_once, below, after, added, Start, start}
 
 -- a goal that may be taken up: a start, or an allowed place of an entered vertex
 pub data Fit (g : Blocks) (ok : PlaceTest) (F : Forest) : Goal → Type 0 where
   fit_start : {v : ℕ} → Fit g ok F (root v)
   fit_arc : {u j v : ℕ} → Entered u F → Step g ok u j v → Fit g ok F (via u j v)
+
+pub start_fits : {g : Blocks} {ok : PlaceTest} {F : Forest} {starts : List ℕ} {a : Goal} → Start starts a → Fit g ok F a
+start_fits (start k) = fit_start
 
 -- a place of a descendant of c
 data Hangs (F : Forest) (c : ℕ) : Goal → Type 0 where

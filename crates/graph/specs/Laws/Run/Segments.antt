@@ -180,12 +180,18 @@ coming_most g ok =
 pub data Start (starts : List ℕ) : Goal → Type 0 where
   start : {v : ℕ} → Memᴰ v starts → Start starts (root v)
 
+start_further : (w : ℕ) {starts : List ℕ} {a : Goal} → Start starts a → Start (w ∷ starts) a
+start_further w (start k) = start (Memᴰ.tail k)
+
 pub start_goal : (starts : List ℕ) {a : Goal} → Memᴰ a (map root starts) → Start starts a
 start_goal [] m = elim m [ ]
 start_goal (v ∷ starts) (Memᴰ.head e) = subst (λ x. Start (v ∷ starts) x) (sym e) (start (Memᴰ.head refl))
-start_goal (v ∷ starts) (Memᴰ.tail m) = elim (start_goal starts m) [ start k ↦ start (Memᴰ.tail k) ]
+start_goal (v ∷ starts) (Memᴰ.tail m) = start_further v (start_goal starts m)
 
-pub goal_start : {starts : List ℕ} {v : ℕ} → Memᴰ v starts → Memᴰ (root v) (map root starts)
+pub start_place : {starts : List ℕ} {a : Goal} → Start starts a → Memᴰ (aim a) starts
+start_place (start k) = k
+
+pub goal_start : {v : ℕ} {starts : List ℕ} → Memᴰ v starts → Memᴰ (root v) (map root starts)
 goal_start (Memᴰ.head e) = Memᴰ.head (ap root e)
 goal_start (Memᴰ.tail m) = Memᴰ.tail (goal_start m)
 
@@ -197,7 +203,7 @@ search_segment g ok r starts h =
     run_segment g ok r (length starts + length (flatten g)) [] (map root starts) inside enough
   where
     inside : (a : Goal) → Memᴰ a (map root starts) → aim a < length g
-    inside a m = elim (start_goal starts m) [ start {v = v} k ↦ h v k ]
+    inside a m = h (aim a) (start_place (start_goal starts m))
 
     enough : length (map root starts) + coming g ok [] ≤ length starts + length (flatten g)
     enough = omega (arith, length-map starts root, coming_most g ok)

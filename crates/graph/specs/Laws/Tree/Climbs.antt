@@ -25,19 +25,19 @@ module _ {A : Type 0} (r : ℕ → A) (s : ℕ → ℕ → ℕ → A → A) wher
   climb_new_child u j v F = rw (eq-eqb v v refl, climb)
 
   module _ {Ok : ℕ → ℕ → ℕ → Type 0} where
-    pub climb_root : {F : Forest} {v : ℕ} → Built Ok F → Memᴰ (root v) F → climb r s F v ≡ r v
+    pub climb_root : {v : ℕ} {F : Forest} → Built Ok F → Memᴰ (root v) F → climb r s F v ≡ r v
     climb_root {F = []} b m = elim m [ ]
-    climb_root {F = a ∷ F} {v = v} b (Memᴰ.head e) = rw (← e) (climb_new_root v F)
-    climb_root {F = a ∷ F} {v = v} b (Memᴰ.tail m) =
+    climb_root {v = v} {F = a ∷ F} b (Memᴰ.head e) = rw (← e) (climb_new_root v F)
+    climb_root {v = v} {F = a ∷ F} b (Memᴰ.tail m) =
         climb_miss a F v (apart (entry_entered m) (fresh b)) ∙ climb_root (before b) m
 
-    pub climb_child : {F : Forest} {u j v : ℕ} → Built Ok F → Memᴰ (via u j v) F
+    pub climb_child : {u j v : ℕ} {F : Forest} → Built Ok F → Memᴰ (via u j v) F
         → climb r s F v ≡ s u j v (climb r s F u)
     climb_child {F = []} b m = elim m [ ]
-    climb_child {F = a ∷ F} {u = u} {j = j} {v = v} b (Memᴰ.head e) =
+    climb_child {u = u} {j = j} {v = v} {F = a ∷ F} b (Memᴰ.head e) =
         let d : u ≡ v → ⊥ = parent_apart b (Memᴰ.head e) in
         rw (← e) (climb_new_child u j v F ∙ ap (s u j v) (sym (climb_miss (via u j v) F u d)))
-    climb_child {F = a ∷ F} {u = u} {j = j} {v = v} b (Memᴰ.tail m) =
+    climb_child {u = u} {j = j} {v = v} {F = a ∷ F} b (Memᴰ.tail m) =
         climb_miss a F v (apart (entry_entered m) (fresh b))
         ∙ (climb_child (before b) m
         ∙ ap (s u j v) (sym (climb_miss a F u (apart (parent_entered (before b) m) (fresh b)))))

@@ -65,7 +65,7 @@ pub data Entry (F : Forest) (v : ℕ) : Type 0 where
   as_root : Memᴰ (root v) F → Entry F v
   as_child : (u j : ℕ) → Memᴰ (via u j v) F → Entry F v
 
-pub entry : {F : Forest} {v : ℕ} → Entered v F → Entry F v
+pub entry : {v : ℕ} {F : Forest} → Entered v F → Entry F v
 entry (now {a = root w} e) = as_root (Memᴰ.head (ap root e))
 entry (now {a = via u j w} e) = as_child u j (Memᴰ.head (ap (via u j) e))
 entry (old m) =
@@ -129,7 +129,8 @@ module _ {Ok : ℕ → ℕ → ℕ → Type 0} where
   built_grows (more e) b = built_grows e (before b)
 
   -- one entry for each vertex
-  pub entry_once : {F : Forest} {a c : Goal} → Built Ok F → Memᴰ a F → Memᴰ c F → aim a ≡ aim c → a ≡ c
+  pub entry_once : {a c : Goal} {F : Forest} → Built Ok F → Memᴰ a F → Memᴰ c F → aim a ≡ aim c → a ≡ c
+  entry_once {F = []} b m k e = elim m [ ]
   entry_once {F = x ∷ F} b (Memᴰ.head p) (Memᴰ.head q) e = p ∙ sym q
   entry_once {F = x ∷ F} b (Memᴰ.head p) (Memᴰ.tail q) e =
       absurd (fresh b (entered_cast (ap aim (sym p) ∙ e) (entry_entered q)))

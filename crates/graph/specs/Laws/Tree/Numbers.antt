@@ -84,15 +84,15 @@ module _ {Ok : ℕ → ℕ → ℕ → Type 0} where
   number_stays e b m = stays number (λ a F x h. number_miss a F h) e b m
 
   -- a parent is visited before its child
-  pub parent_first : {F : Forest} {u j v : ℕ} → Built Ok F → Memᴰ (via u j v) F → number F u < number F v
+  pub parent_first : {u j v : ℕ} {F : Forest} → Built Ok F → Memᴰ (via u j v) F → number F u < number F v
   parent_first {F = []} b m = elim m [ ]
-  parent_first {F = a ∷ F} {u = u} {j = j} {v = v} b (Memᴰ.tail m) =
+  parent_first {u = u} {j = j} {v = v} {F = a ∷ F} b (Memᴰ.tail m) =
       rw (
         number_miss a F (apart (parent_entered (before b) m) (fresh b)),
         number_miss a F
             (apart (entry_entered m) (fresh b)),
       ) (parent_first (before b) m)
-  parent_first {F = a ∷ F} {u = u} {j = j} {v = v} b (Memᴰ.head e) =
+  parent_first {u = u} {j = j} {v = v} {F = a ∷ F} b (Memᴰ.head e) =
       let k = above b e in
       rw (number_miss a F (apart k (fresh b)), number_hit a F (ap aim e)) (number_bound k)
     where
