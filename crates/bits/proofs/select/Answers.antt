@@ -1,0 +1,50 @@
+-- `select` meets its contract: of a string that its bytes hold, the place of the k-th one.
+use mathlib.Core.Path.{◌≡◌, ◌∙◌, ap, sym}
+use mathlib.Core.Bool.{Bool, true}
+use Prim.Native.Nat.{ℕ, ◌+◌, ◌*◌, ◌≤◌}
+use native.Mathlib.Omega.{arith}
+use borrow.Author.Rules.{rules}
+use borrow.Author.Tests.{leb-true}
+use lib.Dec.{leb}
+use lib.ListN.{length}
+use Rattle.bits.specs.Bits.{string, select}
+use Rattle.bits.specs.Laws.Select.{select_zero, select_empty, select_held, select_not_held}
+use Rattle.bits.proofs.select.Goals as goal
+use Rattle.bits.proofs.select.Goals.{After-holds}
+
+pub returns-then-k-eq0 : goal.returns-then-k-eq0
+returns-then-k-eq0 c =
+    let a = c.args in
+    let s = string a.bytes.now a.start a.places in
+    sym (ap (select s) c.if-k-eq0.true ∙ select_zero s)
+
+pub returns-then-places-eq0 : goal.returns-then-places-eq0
+returns-then-places-eq0 c =
+    let a = c.args in
+    let bytes = a.bytes.now in
+    let e = select_empty bytes a.start a.k in
+    sym (ap (λ (n : ℕ). select (string bytes a.start n) a.k) c.if-places-eq0.true ∙ e)
+
+told : (c : After-holds) {t : Bool} → c.holds.result ≡ t
+    → leb (c.before.before.before.before.args.start + c.before.before.before.before.args.places) (8 * length c.before.before.before.before.args.bytes.now) ≡ t
+told c e = sym c.holds.ensures ∙ e
+
+held : (c : After-holds) → c.holds.result ≡ true
+    → c.args.start + c.args.places ≤ 8 * length c.args.bytes.now
+held c e = leb-true _ _ (told c e)
+
+pub place_from-requires : goal.place_from-requires
+place_from-requires c =
+    let h = held (goal.at.place_from-requires c).After-holds c.if-holds.true in
+    omega arith
+
+pub returns-then-holds : goal.returns-then-holds
+returns-then-holds c =
+    let a = c.args in
+    c.place_from.ensures
+    ∙ sym (select_held a.bytes.now a.start a.places a.k (told (goal.at.returns-then-holds c).After-holds c.if-holds.true))
+
+pub returns-else-holds : goal.returns-else-holds
+returns-else-holds c =
+    let a = c.args in
+    sym (select_not_held a.bytes.now a.start a.places a.k (told (goal.at.returns-else-holds c).After-holds c.if-holds.false))

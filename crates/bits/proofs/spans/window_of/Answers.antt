@@ -1,0 +1,50 @@
+-- `spans::window_of` meets its contract: the one stands in the first part, or in the word that was reached.
+use Prim.Native.Nat.{◌*◌, ◌<◌}
+use native.Mathlib.Omega.{arith}
+use lib.ListN.{length}
+use Rattle.bits.specs.Bits.{bits}
+use Rattle.bits.proofs.Windows.{Opened, window_some, window_here, window_before, window-there}
+use borrow.Author.Rules.{rules}
+use Rattle.bits.proofs.spans.window_of.Goals as goal
+use Rattle.bits.proofs.spans.window_of.Goals.{After-ones_of-c, After-skip_from-reached}
+
+-- the first part, read
+opened : (c : After-ones_of-c)
+    → Opened (bits c.args.bytes.now) c.args.start c.args.end c.args.k
+    (length c.args.bytes.now) c.part_from-first.result.width c.part_from-first.result.bits
+    c.ones_of-c.result
+opened c =
+    let pre = c.requires in
+    record {
+      some = pre.0;
+      all = pre.1;
+      between = pre.2;
+      held = pre.3;
+      part = c.part_from-first.ensures;
+      count = c.ones_of-c.ensures.0;
+    }
+
+-- the word that was reached begins before the end
+before : (c : After-skip_from-reached) → 8 * c.skip_from-reached.result.at < c.args.end
+before c = window_before (let it : Opened (bits c.args.bytes.now) c.args.start c.args.end c.args.k (length c.args.bytes.now) c.part_from-first.result.width c.part_from-first.result.bits c.ones_of-c.result = let pre = c.requires in record { some = pre.0; all = pre.1; between = pre.2; held = pre.3; part = c.part_from-first.ensures; count = c.ones_of-c.ensures.0; } in it) c.if-k-c.false c.skip_from-reached.ensures
+
+pub part_from-first-requires : goal.part_from-first-requires
+part_from-first-requires c =
+    let a = c.args in
+    let pre = c.requires in
+    let l = window_some (bits a.bytes.now) a.start a.end pre.2 pre.0 pre.1 in
+    omega arith
+
+pub returns-then-k-c : goal.returns-then-k-c
+returns-then-k-c c = window_here (opened (goal.at.returns-then-k-c c).After-ones_of-c) c.if-k-c.true
+
+pub part_at-part-requires : goal.part_at-part-requires
+part_at-part-requires c = let l = before (goal.at.part_at-part-requires c).After-skip_from-reached in omega arith
+
+pub overflow_mul-result : goal.overflow_mul-result
+overflow_mul-result c = let l = before (goal.at.overflow_mul-result c).After-skip_from-reached in omega arith
+
+pub returns : goal.returns
+returns c =
+    let o = opened (goal.at.returns c).After-ones_of-c in
+    window-there o c.if-k-c.false c.skip_from-reached.ensures c.part_at-part.ensures

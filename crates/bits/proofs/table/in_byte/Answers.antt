@@ -1,0 +1,12 @@
+-- `table::in_byte` meets its contract: the table's rule at one entry.
+use mathlib.Core.Path.{◌∙◌}
+use borrow.Author.Rules.{rules}
+use Rattle.bits.proofs.Entries.{entries, entry_rule}
+use Rattle.bits.proofs.table.in_byte.Goals as goal
+
+pub returns : goal.returns
+unfolding entries
+returns c =
+    let a = c.args in
+    let pre = c.requires in
+    c.wide.ensures.0 ∙ entry_rule a.b a.k pre.0 pre.1 pre.2
