@@ -149,11 +149,9 @@ fn match_all(starts: &[u16], reverse: &[u16], next: &mut [u16]) -> bool
 
 // Both passes, with room for the second row and for the places that come next.
 pub fn all_mutual(starts: &[u16], nbrs: &[u16], reverse: &mut [u16], next: &mut [u16]) -> bool
-    ghost g: { Blocks }
-    requires nbrs_value { cut starts.now nbrs.now ≡ g }
     requires divided { Divided starts.now nbrs.now }
     requires reverse_len { (length reverse.old ≡ length nbrs.now) × (length next.old + 1 ≡ length starts.now) }
-    ensures { Tells (Kept g) (Kept g) result }
+    ensures { let g : Blocks = cut starts.now nbrs.now in Tells (Kept g) (Kept g) result }
 {
     rewind(starts, next);
     if !turn_all(starts, nbrs, reverse, next) {

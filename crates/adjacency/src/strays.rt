@@ -30,10 +30,8 @@ fn stray_in(starts: &[u16], nbrs: &[u16], u: usize) -> bool
 
 // Whether one stands anywhere.
 pub fn some_stray(starts: &[u16], nbrs: &[u16]) -> bool
-    ghost g: { Blocks }
-    requires nbrs_value { cut starts.now nbrs.now ≡ g }
-    requires divided { Divided starts.now nbrs.now }
-    ensures { result ≡ any_place (stray g) g }
+    requires { Divided starts.now nbrs.now }
+    ensures { let g : Blocks = cut starts.now nbrs.now in result ≡ any_place (stray g) g }
 {
     let n = starts.len() - 1;
     let mut u = 0;

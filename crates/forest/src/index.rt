@@ -20,10 +20,8 @@ fn write_e(
     index: &mut [u8],
     k: usize,
 )
-    ghost g: { Blocks }
-    requires nbrs_value { cut starts.now nbrs.now ≡ g }
-    requires ready { (Ready g n m s work.now k) × (Begins n k [] index.old) }
-    ensures { Reaches up_to_e g n s work.now k index.new }
+    requires { let g : Blocks = cut starts.now nbrs.now in (Ready g n m s work.now k) × (Begins n k [] index.old) }
+    ensures { let g : Blocks = cut starts.now nbrs.now in Reaches up_to_e g n s work.now k index.new }
 {
     let from = 4 * s;
     let to = from + n;
@@ -41,10 +39,8 @@ fn write_p(
     index: &mut [u8],
     k: usize,
 )
-    ghost g: { Blocks }
-    requires nbrs_value { cut starts.now nbrs.now ≡ g }
-    requires ready { (Ready g n m s work.now k) × (Reaches up_to_e g n s work.now k index.old) }
-    ensures { Reaches up_to_p g n s work.now k index.new }
+    requires { let g : Blocks = cut starts.now nbrs.now in (Ready g n m s work.now k) × (Reaches up_to_e g n s work.now k index.old) }
+    ensures { let g : Blocks = cut starts.now nbrs.now in Reaches up_to_p g n s work.now k index.new }
 {
     mark_listed(&work[..n], &mut index[k..2 * k]);
 }
@@ -60,10 +56,8 @@ fn write_b(
     index: &mut [u8],
     k: usize,
 )
-    ghost g: { Blocks }
-    requires nbrs_value { cut starts.now nbrs.now ≡ g }
-    requires ready { (Ready g n m s work.now k) × (Reaches up_to_p g n s work.now k index.old) }
-    ensures { Reaches up_to_b g n s work.now k index.new }
+    requires { let g : Blocks = cut starts.now nbrs.now in (Ready g n m s work.now k) × (Reaches up_to_p g n s work.now k index.old) }
+    ensures { let g : Blocks = cut starts.now nbrs.now in Reaches up_to_b g n s work.now k index.new }
 {
     mark_bridges(starts, nbrs, n, m, s, work, &mut index[2 * k..3 * k]);
 }
@@ -79,10 +73,8 @@ fn write_rest(
     index: &mut [u8],
     k: usize,
 )
-    ghost g: { Blocks }
-    requires nbrs_value { cut starts.now nbrs.now ≡ g }
-    requires ready { (Ready g n m s work.now k) × (Reaches up_to_b g n s work.now k index.old) }
-    ensures { Holds g n s work.now index.new }
+    requires { let g : Blocks = cut starts.now nbrs.now in (Ready g n m s work.now k) × (Reaches up_to_b g n s work.now k index.old) }
+    ensures { let g : Blocks = cut starts.now nbrs.now in Holds g n s work.now index.new }
 {
     let from = 2 * s;
     let to = from + n;
@@ -99,11 +91,9 @@ fn write_sections(
     work: &[u16],
     index: &mut [u8],
 )
-    ghost g: { Blocks }
-    requires nbrs_value { cut starts.now nbrs.now ≡ g }
     requires divided { (Divided starts.now nbrs.now) × (n + 1 ≡ length starts.now) × (length nbrs.now ≡ 2 * m) }
-    requires well_formed { (WellFormed g) × (Lifts g n s work.now 0) × (length index.old ≡ index_length n m) }
-    ensures { Holds g n s work.now index.new }
+    requires well_formed { let g : Blocks = cut starts.now nbrs.now in (WellFormed g) × (Lifts g n s work.now 0) × (length index.old ≡ index_length n m) }
+    ensures { let g : Blocks = cut starts.now nbrs.now in Holds g n s work.now index.new }
 {
     let k = super::lengths::mark_bytes(n, m);
     write_e(starts, nbrs, n, m, s, work, index, k);
@@ -123,11 +113,9 @@ pub fn write_index(
     work: &mut [u16],
     index: &mut [u8],
 )
-    ghost g: { Blocks }
-    requires nbrs_value { cut starts.now nbrs.now ≡ g }
     requires arrays { (Arrays starts.now nbrs.now) × (n + 1 ≡ length starts.now) × (length nbrs.now ≡ 2 * m) }
-    requires well_formed { (WellFormed g) × (first < n) × (8 * n ≤ length work.old) × (length index.old ≡ index_length n m) }
-    ensures { index.new ≡ index_of g first }
+    requires well_formed { let g : Blocks = cut starts.now nbrs.now in (WellFormed g) × (first < n) × (8 * n ≤ length work.old) × (length index.old ≡ index_length n m) }
+    ensures { let g : Blocks = cut starts.now nbrs.now in index.new ≡ index_of g first }
 {
     let s = super::search::stride(n);
     super::search::search(starts, nbrs, n, s, first, work);

@@ -56,11 +56,9 @@ fn next_low(
 
 // 1 + the least number over all places of vertex c, and its way back.
 fn own_low(starts: &[u16], nbrs: &[u16], n: usize, s: usize, work: &[u16], c: usize) -> Low
-    ghost g: { Blocks }
-    requires nbrs_value { cut starts.now nbrs.now ≡ g }
-    requires arrays { (Arrays starts.now nbrs.now) × (WellFormed g) × (n + 1 ≡ length starts.now) × (c < n) }
+    requires arrays { let g : Blocks = cut starts.now nbrs.now in (Arrays starts.now nbrs.now) × (WellFormed g) × (n + 1 ≡ length starts.now) × (c < n) }
     requires room { Room n s work.now }
-    ensures own_low { OwnLow g n s work.now c result.low result.back }
+    ensures own_low { let g : Blocks = cut starts.now nbrs.now in OwnLow g n s work.now c result.low result.back }
     ensures low_bound { (result.low < 65536) × (result.back < 65536) }
 {
     let end = get(starts, c + 1);
@@ -79,11 +77,9 @@ fn own_low(starts: &[u16], nbrs: &[u16], n: usize, s: usize, work: &[u16], c: us
 
 // The least number over its own places, and the way back, for every vertex.
 fn own_lows(starts: &[u16], nbrs: &[u16], n: usize, s: usize, work: &mut [u16])
-    ghost g: { Blocks }
-    requires nbrs_value { cut starts.now nbrs.now ≡ g }
-    requires arrays { (Arrays starts.now nbrs.now) × (WellFormed g) × (n + 1 ≡ length starts.now) }
+    requires arrays { let g : Blocks = cut starts.now nbrs.now in (Arrays starts.now nbrs.now) × (WellFormed g) × (n + 1 ≡ length starts.now) }
     requires room { Room n s work.old }
-    ensures lowers { Lowers g n s work.old work.new n }
+    ensures lowers { let g : Blocks = cut starts.now nbrs.now in Lowers g n s work.old work.new n }
     ensures work_len_unchanged { length work.new ≡ length work.old }
 {
     let mut c = 0;
@@ -97,10 +93,8 @@ fn own_lows(starts: &[u16], nbrs: &[u16], n: usize, s: usize, work: &mut [u16])
 
 // The number of the vertex of visit number k goes into its parent's. The arrays stand here for the contract only.
 fn lift(starts: &[u16], nbrs: &[u16], n: usize, s: usize, work: &mut [u16], k: usize)
-    ghost g: { Blocks }
-    requires nbrs_value { cut starts.now nbrs.now ≡ g }
-    requires g_len { (length g ≡ n) × (k < n) × (Lifts g n s work.old (k + 1)) }
-    ensures lifts_one { LiftsOne g n s work.old work.new k }
+    requires { let g : Blocks = cut starts.now nbrs.now in (length g ≡ n) × (k < n) × (Lifts g n s work.old (k + 1)) }
+    ensures lifts_one { let g : Blocks = cut starts.now nbrs.now in LiftsOne g n s work.old work.new k }
     ensures work_len_unchanged { length work.new ≡ length work.old }
 {
     let v = get(work, 3 * s + k);
@@ -114,11 +108,9 @@ fn lift(starts: &[u16], nbrs: &[u16], n: usize, s: usize, work: &mut [u16], k: u
 
 // The lowpoints, from the last visited vertex back.
 pub fn lowpoints(starts: &[u16], nbrs: &[u16], n: usize, s: usize, work: &mut [u16])
-    ghost g: { Blocks }
-    requires nbrs_value { cut starts.now nbrs.now ≡ g }
-    requires arrays { (Arrays starts.now nbrs.now) × (WellFormed g) × (n + 1 ≡ length starts.now) }
-    requires searches { Searches g n s work.old }
-    ensures { Lowers g n s work.old work.new 0 }
+    requires arrays { let g : Blocks = cut starts.now nbrs.now in (Arrays starts.now nbrs.now) × (WellFormed g) × (n + 1 ≡ length starts.now) }
+    requires searches { let g : Blocks = cut starts.now nbrs.now in Searches g n s work.old }
+    ensures { let g : Blocks = cut starts.now nbrs.now in Lowers g n s work.old work.new 0 }
 {
     own_lows(starts, nbrs, n, s, work);
     let mut k = n;

@@ -59,10 +59,8 @@ pub fn mark_bridges(
     work: &[u16],
     section: &mut [u8],
 )
-    ghost g: { Blocks }
-    requires nbrs_value { cut starts.now nbrs.now ≡ g }
-    requires sized { (Sized g n m (length section.old)) × (WellFormed g) × (Lifts g n s work.now 0) }
-    ensures { section.new ≡ marked g (bridge g) }
+    requires { let g : Blocks = cut starts.now nbrs.now in (Sized g n m (length section.old)) × (WellFormed g) × (Lifts g n s work.now 0) }
+    ensures { let g : Blocks = cut starts.now nbrs.now in section.new ≡ marked g (bridge g) }
 {
     clear(section);
     let mut c = 0;

@@ -54,11 +54,9 @@ fn try_start(
     v: usize,
     k: usize,
 ) -> Hand
-    ghost g: { Blocks }
-    requires nbrs_value { cut starts.now nbrs.now ≡ g }
     requires arrays { (Arrays starts.now nbrs.now) × (n + 1 ≡ length starts.now) × (v < n) }
-    requires underway { Underway g starts.now n s work.old left 0 k }
-    ensures { StartTried g starts.now n s work.old work.new left v k result.cur result.k }
+    requires underway { let g : Blocks = cut starts.now nbrs.now in Underway g starts.now n s work.old left 0 k }
+    ensures { let g : Blocks = cut starts.now nbrs.now in StartTried g starts.now n s work.old work.new left v k result.cur result.k }
 {
     if get(work, 2 * s + v) == 0 {
         enter(work, n, s, v, k, 0, 0);
@@ -97,11 +95,9 @@ fn try_next(
     cur: usize,
     k: usize,
 ) -> Hand
-    ghost g: { Blocks }
-    requires nbrs_value { cut starts.now nbrs.now ≡ g }
     requires arrays { (Arrays starts.now nbrs.now) × (n + 1 ≡ length starts.now) × (0 < cur) × (cur ≤ n) }
-    requires underway { Underway g starts.now n s work.old left cur k }
-    ensures { NextTried g starts.now n s work.old work.new left cur k result.cur result.k }
+    requires underway { let g : Blocks = cut starts.now nbrs.now in Underway g starts.now n s work.old left cur k }
+    ensures { let g : Blocks = cut starts.now nbrs.now in NextTried g starts.now n s work.old work.new left cur k result.cur result.k }
 {
     let u = cur - 1;
     let end = get(starts, cur);
@@ -133,11 +129,9 @@ fn step(
     cur: usize,
     k: usize,
 ) -> At
-    ghost g: { Blocks }
-    requires nbrs_value { cut starts.now nbrs.now ≡ g }
     requires arrays { (Arrays starts.now nbrs.now) × (n + 1 ≡ length starts.now) × ((ltb 0 cur || ltb i n) ≡ true) }
-    requires underway { Underway g starts.now n s work.old left cur k }
-    ensures { StepTaken g starts.now n s work.old work.new left i cur k result.i result.cur result.k }
+    requires underway { let g : Blocks = cut starts.now nbrs.now in Underway g starts.now n s work.old left cur k }
+    ensures { let g : Blocks = cut starts.now nbrs.now in StepTaken g starts.now n s work.old work.new left i cur k result.i result.cur result.k }
 {
     if 0 < cur {
         let h = try_next(starts, nbrs, n, s, work, left, cur, k);
@@ -171,10 +165,8 @@ fn begin(starts: &[u16], n: usize, s: usize, work: &mut [u16])
 // The search that begins at the vertex `first` and then takes all vertices in order. It ends once all are entered: what
 // is left to try then leads to none. What the work slice held before does not matter.
 pub fn search(starts: &[u16], nbrs: &[u16], n: usize, s: usize, first: usize, work: &mut [u16])
-    ghost g: { Blocks }
-    requires nbrs_value { cut starts.now nbrs.now ≡ g }
-    requires arrays { (Arrays starts.now nbrs.now) × (n + 1 ≡ length starts.now) × (Room n s work.old) × (first < n) }
-    ensures { Searched g (search_of g all (starts_from n first)) n s work.new }
+    requires { (Arrays starts.now nbrs.now) × (n + 1 ≡ length starts.now) × (Room n s work.old) × (first < n) }
+    ensures { let g : Blocks = cut starts.now nbrs.now in Searched g (search_of g all (starts_from n first)) n s work.new }
 {
     begin(starts, n, s, work);
     let steps = 2 * n + 2 * nbrs.len() + 2;

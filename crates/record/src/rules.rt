@@ -12,11 +12,9 @@ use adjacency::strays::some_stray;
 // Both at once; after a no, the first broken one. The last two slices are room: a number for each place, and for each
 // terminal.
 pub fn try_rules(starts: &[u16], nbrs: &[u16], reverse: &mut [u16], next: &mut [u16]) -> Verdict
-    ghost g: { Blocks }
-    requires nbrs_value { cut starts.now nbrs.now ≡ g }
     requires divided { Divided starts.now nbrs.now }
     requires reverse_len { (length reverse.old ≡ length nbrs.now) × (length next.old + 1 ≡ length starts.now) }
-    ensures { verdict result ≡ check_graph g }
+    ensures { let g : Blocks = cut starts.now nbrs.now in verdict result ≡ check_graph g }
 {
     if all_mutual(starts, nbrs, reverse, next) {
         return Verdict::Accepted;

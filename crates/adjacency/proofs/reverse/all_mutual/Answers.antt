@@ -1,0 +1,23 @@
+-- `reverse::all_mutual` meets its contract: turned round, and found again.
+use borrow.Author.Tests.{not-false, not-true}
+use Rattle.adjacency.specs.Tally.{nay}
+use Rattle.adjacency.specs.Laws.Tells.{told_yes, told_no, told_on}
+use Rattle.adjacency.proofs.Laws.Turned.{turned_divided}
+use Rattle.adjacency.proofs.Laws.Mutual.{mutual_kept}
+use Rattle.adjacency.proofs.Laws.Reversed.{reversed}
+use Rattle.adjacency.proofs.Laws.Orderly.{orderly}
+use borrow.Author.Rules.{rules}
+use Rattle.adjacency.proofs.reverse.all_mutual.Goals as goal
+
+pub returns-then-not-turn_all : goal.returns-then-not-turn_all
+returns-then-not-turn_all c = nay (told_no c.turn_all.ensures c.if-not-turn_all.true)
+
+pub match_all-requires : goal.match_all-requires
+match_all-requires c =
+    let turned = told_yes c.turn_all.ensures c.if-not-turn_all.false in
+    (turned_divided turned.turned, c.rewind-2.ensures, reversed turned)
+
+pub returns : goal.returns
+returns c =
+    let turned = told_yes c.turn_all.ensures c.if-not-turn_all.false in
+    told_on c.match_all.ensures (mutual_kept turned) (orderly turned)
