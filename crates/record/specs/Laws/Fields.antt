@@ -49,7 +49,7 @@ field_bits_from s start (suc k) h =
 -- fields that were written, between other bits, read back
 pub from_field_bits : (xs : List ℕ) (s t : List Bool) (start : ℕ) → length s ≡ start → ((p : ℕ) → get_or xs p 0 < 4096)
     → fields_from (s ++ (field_bits xs ++ t)) start (length xs) ≡ xs
-unfolding field_bits fields_from
+unfolding field_bits fields_from to_bits
 from_field_bits [] s t start e h = refl
 from_field_bits (x ∷ xs) s t start e h =
     let f : length (s ++ to_bits 12 x) ≡ start + 12 =

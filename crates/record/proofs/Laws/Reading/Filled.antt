@@ -76,10 +76,10 @@ module _ {d : List Bool} {starts : List ℕ} {i k : ℕ} (f : Filling d starts i
       ∙ sym (ap (λ (x : List Bool). take k starts ++ starts_from (i - k) x) m) ∙ f.filled
 
 -- past j zeros
-filling_zeros : {d : List Bool} {starts : List ℕ} {i k : ℕ} (j : ℕ) → Filling d starts i k → i + j ≤ length d
+filling_zeros : {d : List Bool} {starts : List ℕ} {k : ℕ} (j : ℕ) {i : ℕ} → Filling d starts i k → i + j ≤ length d
     → field j d i ≡ 0 → Filling d starts (i + j) k
-filling_zeros {i} zero f h z = let n : i + 0 ≡ i = omega arith in rw n f
-filling_zeros {d} {i} (suc j) f h z =
+filling_zeros zero {i} f h z = let n : i + 0 ≡ i = omega arith in rw n f
+filling_zeros {d} (suc j) {i} f h z =
     let o : suc j ≡ 1 + j = omega arith in
     let y : field (1 + j) d i ≡ 0 = rw o at z in
     let e : i + 1 + j ≡ i + suc j = omega arith in

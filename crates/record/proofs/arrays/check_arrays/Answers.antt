@@ -1,0 +1,33 @@
+-- `arrays::check_arrays` meets its contract: rules 6 and 8 are those of the record's graph.
+use native.Mathlib.Omega.{arith}
+use mathlib.Core.Path.{◌≡◌}
+use mathlib.Core.List.{List}
+use Prim.Native.Nat.{ℕ, ◌+◌}
+use lib.ListN.{length}
+use Rattle.adjacency.specs.Arrays.{Divided}
+use Rattle.record.specs.Steps.{ArraysOf, Lent}
+use Rattle.record.specs.Laws.Unpacked.{divided_of, starts_of_lem, nbrs_of, check_told}
+use borrow.Author.Rules.{rules}
+use Rattle.record.proofs.arrays.check_arrays.Goals as goal
+
+-- the room is as long as the arrays ask
+tried-by : {bytes starts nbrs reverse next starts' nbrs' : List ℕ} {n m : ℕ} → Lent n m starts nbrs reverse next
+    → ArraysOf bytes starts' nbrs' n m
+    → (Divided starts' nbrs') × ((length reverse ≡ length nbrs') × (length next + 1 ≡ length starts'))
+tried-by l r =
+    let s = starts_of_lem r in
+    let p = nbrs_of r in
+    let a = l.all_reverse in
+    let b = l.all_next in
+    (divided_of r, (omega arith, omega arith))
+
+pub try_rules-requires : goal.try_rules-requires
+try_rules-requires c =
+    let (d, l) = tried-by c.requires.lent c.fill_arrays.ensures in record { divided = d; reverse_len = l }
+
+pub returns : goal.returns
+returns c =
+    (
+      check_told c.requires.laid c.fill_arrays.ensures c.try_rules.ensures,
+      c.fill_arrays.ensures,
+    )

@@ -1,0 +1,12 @@
+-- `fields::field` meets its contract.
+use mathlib.Core.Path.{◌∙◌}
+use borrow.Author.Rules.{rules}
+use Rattle.record.specs.Laws.Sounded.{sound_field}
+use Rattle.record.proofs.fields.field.Goals as goal
+
+pub returns : goal.returns
+returns c = (
+  c.read12.ensures.0 ∙ sound_field c.requires.0 c.args.p
+      c.requires.1,
+  c.read12.ensures.1,
+)

@@ -1,0 +1,73 @@
+-- `header::order_r` meets its contract: each return tells the first broken rule.
+use mathlib.Core.Path.{◌∙◌, ap₂, sym}
+use Prim.Native.Nat.{ℕ}
+use native.Mathlib.Omega.{arith}
+use borrow.Author.Rules.{rules}
+use Rattle.record.specs.Answers.{Answer, answered, sizes_of}
+use Rattle.record.specs.Record.{terminals, wires, record_length}
+use Rattle.record.specs.declared.Sizes.{Sizes}
+use Rattle.record.proofs.Laws.Reading.Headers.{rule_1, rule_2_n, rule_2_m, rule-3, rule-4, rules-kept}
+use Rattle.record.specs.Laws.Told.{told, untold}
+use Rattle.record.proofs.header.order_r.Goals as goal
+
+pub returns-then-bytes-lt4 : goal.returns-then-bytes-lt4
+returns-then-bytes-lt4 c =
+    told (sizes_of c.args.bytes.now) (rule_1 c.args.bytes.now c.if-bytes-lt4.true)
+
+pub returns-then-n-gt4096 : goal.returns-then-n-gt4096
+unfolding terminals wires
+returns-then-n-gt4096 c =
+    let bytes = c.args.bytes.now in
+    told (sizes_of bytes) (rule_2_n bytes c.if-bytes-lt4.false (omega arith))
+
+pub returns-then-m-gt16384 : goal.returns-then-m-gt16384
+unfolding terminals wires
+returns-then-m-gt16384 c =
+    let bytes = c.args.bytes.now in
+    told (sizes_of bytes) (rule_2_m bytes c.if-bytes-lt4.false (omega arith) (omega arith))
+
+pub returns-then-bytes-record_length : goal.returns-then-bytes-record_length
+unfolding terminals wires
+returns-then-bytes-record_length c =
+    let bytes = c.args.bytes.now in
+    let e = c.record_length.ensures
+    ∙ ap₂ record_length c.read13-n.ensures.0
+    c.read15-m.ensures.0 in
+    told (sizes_of bytes) (rule-3 bytes (omega arith) (omega arith) (omega arith) (λ z. c.if-bytes-record_length.true (z ∙ sym e)))
+
+pub bad_unary-requires : goal.bad_unary-requires
+unfolding terminals wires
+bad_unary-requires c =
+    record {
+      is_n = c.read13-n.ensures.0;
+      is_m = c.read15-m.ensures.0;
+      n_fits = c.if-n-gt4096.false;
+      m_fits = c.if-m-gt16384.false;
+      sized = c.if-bytes-record_length.false ∙ c.record_length.ensures;
+    }
+
+pub returns-then-bad_unary : goal.returns-then-bad_unary
+unfolding terminals wires
+returns-then-bad_unary c =
+    let bytes = c.args.bytes.now in
+    let read13 = c.read13-n in
+    let e = c.record_length.ensures
+    ∙ ap₂ record_length read13.ensures.0
+    c.read15-m.ensures.0 in
+    told (sizes_of bytes)
+    (rule-4 bytes (omega arith) (omega arith) (omega arith) (c.if-bytes-record_length.false ∙ e)
+    c.bad_unary.ensures c.if-bad_unary.true)
+
+pub returns : goal.returns
+unfolding terminals wires
+returns c =
+    let bytes = c.args.bytes.now in
+    let read13 = c.read13-n in
+    let read15 = c.read15-m in
+    let e = c.record_length.ensures
+    ∙ ap₂ record_length read13.ensures.0 read15.ensures.0 in
+    let sized : ℕ → ℕ → Answer Sizes = λ x y. answered (record { n = x; m = y }) in
+    ap₂ sized read13.ensures.0 read15.ensures.0
+    ∙ untold (sizes_of bytes)
+    (rules-kept bytes (omega arith) (omega arith) (omega arith) (c.if-bytes-record_length.false ∙ e)
+    c.bad_unary.ensures c.if-bad_unary.false)

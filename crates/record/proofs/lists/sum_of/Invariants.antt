@@ -1,0 +1,12 @@
+-- `lists::sum_of` meets its contract: the degrees are added up one after the other.
+use Prim.Native.Nat.{◌-◌}
+use native.Mathlib.Omega.{arith}
+use lib.ListN.{length}
+use Rattle.record.proofs.Laws.Reading.Summing.{Summing, summing_start, summing_more, summing_end}
+use Rattle.record.proofs.lists.sum_of.Given as goal
+
+abbrev pub invariant-loop-v : goal.invariant-loop-v
+invariant-loop-v l = Summing l.degrees l.sum l.v
+
+abbrev pub decreases-loop-v : goal.decreases-loop-v
+decreases-loop-v l = length l.degrees - l.v

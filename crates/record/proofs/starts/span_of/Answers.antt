@@ -1,0 +1,14 @@
+-- `starts::span_of` meets its contract: the v-th one of D stands after the zeros of the blocks before it.
+use native.Mathlib.Omega.{arith}
+use Rattle.record.specs.Laws.Sounded.{sound_one, sound_span}
+use Rattle.record.proofs.starts.span_of.Goals as goal
+
+pub span_from-requires : goal.span_from-requires
+span_from-requires c =
+    let pre = c.requires in
+    (omega arith, sound_one pre.0 pre.1, omega arith, omega arith)
+
+pub returns : goal.returns
+returns c =
+    let pre = c.requires in
+    sound_span pre.0 pre.1 c.span_from.ensures
