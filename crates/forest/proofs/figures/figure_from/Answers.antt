@@ -1,0 +1,21 @@
+-- `figures::figure_from` meets its contract: the search, and the roots among the parents.
+use mathlib.Core.Path.{◌∙◌}
+use borrow.Author.Rules.{rules}
+use Rattle.forest.proofs.Laws.Figuring.{figure_none, search_asked, parents_asked, figure_shown}
+use Rattle.forest.proofs.figures.figure_from.Goals as goal
+
+pub returns : goal.returns
+returns c =
+    c.loops_by.ensures ∙ figure_shown c.requires.accepted.0 c.requires.accepted.1 c.search.ensures
+
+pub returns-then-n-eq0 : goal.returns-then-n-eq0
+returns-then-n-eq0 c =
+    figure_none c.requires.accepted.0 c.requires.accepted.1 c.if-n-eq0.true
+
+pub search-requires : goal.search-requires
+search-requires c =
+    search_asked c.requires.accepted.0 c.requires.accepted.1 c.stride-s.ensures c.if-n-eq0.false c.requires.n_in_bounds
+
+pub loops_by-requires : goal.loops_by-requires
+loops_by-requires c =
+    parents_asked c.requires.accepted.0 c.requires.accepted.1 c.search.ensures

@@ -1,0 +1,49 @@
+-- `rooms::build_from` meets its contract.
+use native.Mathlib.Omega.{arith}
+use mathlib.Core.Path.{sym, ◌∙◌}
+use Rattle.forest.specs.Laws.Taken.{taken_range, taken_inside}
+use Rattle.forest.proofs.Laws.Building.{done_short, done_misfit, done-unstarted, done-empty, done-written}
+use Rattle.forest.proofs.Laws.Building.{write_asked}
+use borrow.Author.Rules.{rules}
+use Rattle.forest.proofs.rooms.build_from.Goals as goal
+
+pub returns-then-work-n : goal.returns-then-work-n
+returns-then-work-n c =
+    done_short c.requires.0 c.requires.1 c.if-work-n.true
+
+pub returns-then-index-index_length : goal.returns-then-index-index_length
+returns-then-index-index_length c =
+    done_misfit c.requires.0 c.requires.1 c.if-work-n.false
+    (λ e. c.if-index-index_length.true (e ∙ sym c.index_length.ensures))
+
+pub returns-then-no_start : goal.returns-then-no_start
+returns-then-no_start c =
+    done-unstarted c.requires.0 c.requires.1 c.if-work-n.false
+    (c.if-index-index_length.false ∙ c.index_length.ensures)
+    (sym c.no_start.ensures ∙ c.if-no_start.true)
+
+pub returns-then-n-eq0 : goal.returns-then-n-eq0
+returns-then-n-eq0 c =
+    done-empty c.requires.0 c.requires.1 c.if-work-n.false
+    (c.if-index-index_length.false ∙ c.index_length.ensures)
+    (sym c.no_start.ensures ∙ c.if-no_start.false) c.if-n-eq0.true
+
+pub overflow_sub-start : goal.overflow_sub-start
+overflow_sub-start c =
+    let n = c.args.n in
+    let some = c.if-n-eq0.false in
+    (taken_range n _ (sym c.no_start.ensures ∙ c.if-no_start.false) (omega arith)).0
+
+pub write_index-requires : goal.write_index-requires
+write_index-requires c =
+    let (a, w) = write_asked c.requires.0 c.requires.1 in
+    let some = c.if-n-eq0.false in
+    let taken = sym c.no_start.ensures ∙ c.if-no_start.false in
+    let first = taken_inside c.args.n c.args.start.0 taken (omega arith) in
+    record { arrays = a; well_formed = (w, first, c.if-work-n.false, c.if-index-index_length.false ∙ c.index_length.ensures) }
+
+pub returns : goal.returns
+returns c =
+    done-written c.requires.0 c.requires.1 c.if-work-n.false
+    (c.if-index-index_length.false ∙ c.index_length.ensures)
+    (sym c.no_start.ensures ∙ c.if-no_start.false) c.write_index.ensures
