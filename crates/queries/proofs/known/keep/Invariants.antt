@@ -1,0 +1,14 @@
+-- `known::keep` meets its contract: the first i vertices of the way have the head.
+use mathlib.Core.Path.{◌≡◌, ap, subst, ◌∙◌}
+use Prim.Native.Nat.{ℕ, ◌-◌, ◌≤◌}
+use native.Mathlib.Omega.{arith}
+use lib.ListN.{set}
+use Rattle.queries.specs.Looking.{Kept}
+use Rattle.queries.proofs.Laws.Knowing.{keep_none, keep_one}
+use Rattle.queries.proofs.known.keep.Given as goal
+
+abbrev pub invariant-loop-i : goal.invariant-loop-i
+invariant-loop-i l = (l.i ≤ l.k) × Kept l.way l.i l.h l.initial.known l.known
+
+abbrev pub decreases-loop-i : goal.decreases-loop-i
+decreases-loop-i l = l.k - l.i

@@ -1,0 +1,22 @@
+-- `marks::stored_four` meets its contract: stored numbers are fields of the index, and a word lies in five of them.
+use native.Mathlib.Omega.{arith}
+use borrow.Author.Rules.{rules}
+use Rattle.queries.specs.Laws.Framed.{numbers_fit, number_at}
+use Rattle.queries.proofs.marks.stored_four.Goals as goal
+
+pub read_four-requires : goal.read_four-requires
+read_four-requires c =
+    let pre = c.requires in
+    omega (arith, c.mark_bytes.ensures.0, numbers_fit pre.0)
+
+pub returns : goal.returns
+returns c =
+    let pre = c.requires in
+    let b = c.mark_bytes.ensures.0 in
+    let four = c.read_four.ensures in
+    record {
+      first = number_at pre.0 (omega arith) (omega (arith, b)) four.first;
+      second = number_at pre.0 (omega arith) (omega (arith, b)) four.second;
+      third = number_at pre.0 (omega arith) (omega (arith, b)) four.third;
+      fourth = number_at pre.0 (omega arith) (omega (arith, b)) four.fourth;
+    }

@@ -1,0 +1,13 @@
+-- `visits::pass_fours` meets its contract: the numbers that were read are others.
+use mathlib.Core.Path.{refl}
+use Prim.Native.Nat.{ℕ, ◌+◌, ◌-◌, ◌≤◌}
+use native.Mathlib.Omega.{arith}
+use Rattle.queries.specs.Steps.{Passed}
+use Rattle.queries.proofs.Laws.Visiting.{passed_none, passed_one}
+use Rattle.queries.proofs.visits.pass_fours.Given as goal
+
+abbrev pub invariant-loop-u : goal.invariant-loop-u
+invariant-loop-u l = Passed l.index l.n l.m l.k l.u
+
+abbrev pub decreases-loop-u : goal.decreases-loop-u
+decreases-loop-u l = l.n - l.u

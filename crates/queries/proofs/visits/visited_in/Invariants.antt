@@ -1,0 +1,14 @@
+-- `visits::visited_in` meets its contract: the numbers that were read are others, up to the first that is not.
+use mathlib.Core.Path.{refl}
+use Prim.Native.Nat.{◌+◌, ◌-◌}
+use native.Mathlib.Omega.{arith}
+use borrow.Author.Rules.{rules}
+use Rattle.queries.specs.Steps.{Passed}
+use Rattle.queries.proofs.Laws.Visiting.{passed_one, next_told, none_told}
+use Rattle.queries.proofs.visits.visited_in.Given as goal
+
+abbrev pub invariant-loop-u : goal.invariant-loop-u
+invariant-loop-u l = Passed l.index l.n l.m l.k l.u
+
+abbrev pub decreases-loop-u : goal.decreases-loop-u
+decreases-loop-u l = l.n - l.u
