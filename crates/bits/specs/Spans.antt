@@ -15,7 +15,6 @@ use Rattle.std.specs.Prelude.{◌≡◌, Bool, true, false, List, ℕ, suc, ◌+
 use Rattle.std.specs.Int.Count.{ones}
 use Rattle.bits.specs.Bits.{to_bits, count, select, field}
 use Rattle.bits.specs.declared.spans.Lone.{Lone}
-use Rattle.bits.specs.declared.spans.Lone.TheVariants as Lone
 
 -- how many bits of the string stand before the one after the k-th, or its length where there is none
 unfoldable pub next_one : List Bool → ℕ → ℕ

@@ -1,6 +1,7 @@
 // Bit strings over bytes, most significant bit first (document 01, "Bits"): rank and select, open to every caller, and
 // the bits and fields that the crates above read and write.
 #![tactic(auto)]
+
 ghost use Rattle.std.specs.Prelude.{◌≡◌, ◌+◌, ◌*◌, leb};
 ghost use Rattle.bits.specs.Bits.{string, rank as rank_of, select as select_of};
 

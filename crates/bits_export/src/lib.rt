@@ -1,6 +1,7 @@
 // The reader of 12-bit fields as a function for C, so that tests can look at its instructions and call it, and the
 // benchmark can time it. It is in no archive for users: it has a precondition, which nothing tests at run time.
 #![tactic(auto)]
+
 ghost use Rattle.std.specs.Prelude.{◌≡◌, ◌+◌, ◌*◌, ◌≤◌, length};
 ghost use Rattle.bits.specs.Bits.{bits as bits_of, field};
 

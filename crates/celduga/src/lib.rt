@@ -1,6 +1,7 @@
 // The C interface. A slice is a pointer and a length; a result has the refusal's number in its high half, or else the
 // value in its low half (specs/Code.antt). No function has a precondition. `include/celduga.h` declares them.
 #![tactic(auto)]
+
 ghost use Rattle.std.specs.Prelude.{◌≡◌};
 ghost use Rattle.bits.specs.Bits.{bit, string, rank, select};
 ghost use Rattle.record.specs.Operations.{check, degree, unpack, unpacked};

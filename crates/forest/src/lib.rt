@@ -1,6 +1,7 @@
 // What the search of a record gives: its index (document 01, "Forest"; the start is document 02's) and the loop figure.
 // The two operations have no precondition; most functions of the modules have one.
 #![tactic(auto)]
+
 ghost use Rattle.std.specs.Prelude.{◌≡◌};
 ghost use Rattle.record.specs.Answers.{verdict, counted};
 ghost use Rattle.forest.specs.Operations.{build as build_of, built, loop_figure as loop_figure_of};

@@ -3,13 +3,9 @@ use Rattle.std.specs.Prelude.{Bool, true, false, ℕ, zero, suc}
 use Rattle.std.proofs.Math.Option.{Option, none, some}
 use Rattle.record.specs.Answers.{Answer, refused, answered, number}
 use Rattle.queries.specs.declared.Above.{Above}
-use Rattle.queries.specs.declared.Above.TheVariants as Above
 use Rattle.queries.specs.declared.Found.{Found}
-use Rattle.queries.specs.declared.Found.TheVariants as Found
 use Rattle.queries.specs.declared.Related.{Related}
-use Rattle.queries.specs.declared.Related.TheVariants as Related
 use Rattle.queries.specs.declared.Numbered.{Numbered}
-use Rattle.queries.specs.declared.Numbered.TheVariants as Numbered
 
 -- a parent, or none for a root, so that no parent's number stands for it
 abbrev pub above : Above → Answer (Option ℕ)

@@ -13,7 +13,6 @@ use Rattle.queries.specs.View.{View}
 use Rattle.queries.specs.Queries.{head_next}
 use Rattle.queries.specs.Lookup.{Lists, head_and_visit, asks, lookup_lists}
 use Rattle.queries.specs.declared.lookups.Looked.{Looked}
-use Rattle.queries.specs.declared.lookups.Looked.TheVariants as Looked
 
 -- ---- heads that are known
 

@@ -10,11 +10,8 @@ use Rattle.forest.specs.Index.{index_length}
 use Rattle.queries.specs.View.{number_of}
 use Rattle.queries.specs.Queries as Queries
 use Rattle.queries.specs.declared.climbs.Step.{Step}
-use Rattle.queries.specs.declared.climbs.Step.TheVariants as Step
 use Rattle.queries.specs.declared.climbs.Move.{Move}
-use Rattle.queries.specs.declared.climbs.Move.TheVariants as Move
 use Rattle.queries.specs.declared.climbs.Turn.{Turn}
-use Rattle.queries.specs.declared.climbs.Turn.TheVariants as Turn
 
 -- the index has the length that n and m give
 pub record Framed (index : List ℕ) (n m : ℕ) : Type 0 where

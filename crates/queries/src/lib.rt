@@ -2,6 +2,7 @@
 // terminals and for all terminals at once. No operation of this file has a precondition: each answers for every record
 // and index, built or not, and every number.
 #![tactic(auto)]
+
 ghost use Rattle.std.specs.Prelude.{◌≡◌};
 ghost use Rattle.record.specs.Answers.{counted, verdict};
 ghost use Rattle.queries.specs.Answers.{above, terminal, related, numbered};

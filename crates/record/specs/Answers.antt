@@ -4,16 +4,13 @@ use Rattle.record.specs.Record.{terminals, wires}
 use Rattle.record.specs.Rules.{Rule, first_broken}
 use Rattle.record.specs.declared.Sizes.{Sizes}
 use Rattle.record.specs.declared.Shape.{Shape}
-use Rattle.record.specs.declared.Shape.TheVariants as Shape
 use Rattle.record.specs.declared.Refusal.{Refusal}
 use Rattle.record.specs.declared.Refusal.TheVariants.{TooShort, OverLimit, WrongLength, BadUnary, SpareSet}
 use Rattle.record.specs.declared.Refusal.TheVariants.{StrayNeighbour, DoubledNeighbour, OneSidedWire, ShortWork}
 use Rattle.record.specs.declared.Refusal.TheVariants.{WrongBuffer, NoTerminal, BadIndex, NoChild, NoStart}
 use Rattle.record.specs.declared.Refusal.TheVariants.{BadList, BadLists, WrongRecordBuffer}
 use Rattle.record.specs.declared.Verdict.{Verdict}
-use Rattle.record.specs.declared.Verdict.TheVariants as Verdict
 use Rattle.record.specs.declared.Counted.{Counted}
-use Rattle.record.specs.declared.Counted.TheVariants as Counted
 
 -- a refusal with its number and no value, or a value
 pub data Answer (A : Type 0) : Type 0 where

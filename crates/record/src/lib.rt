@@ -2,6 +2,7 @@
 // No function of this file has a precondition; most functions of the public modules, which are for the crates above,
 // have one.
 #![tactic(auto)]
+
 ghost use Rattle.std.specs.Prelude.{◌≡◌};
 ghost use Rattle.record.specs.Rules.{check_rules};
 ghost use Rattle.record.specs.Answers.{number, verdict, counted, shape, tried, sizes_of};

@@ -1,7 +1,6 @@
 -- `celduga_ancestor` meets its contract.
 use Rattle.celduga.proofs.Laws.Coded.{code_call}
 use Rattle.bits.specs.Bits.{bit}
-use borrow.Author.Rules.{rules}
 use Rattle.celduga.proofs.celduga_ancestor.Goals as goal
 
 pub returns : goal.returns

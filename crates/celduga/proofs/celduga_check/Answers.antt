@@ -1,7 +1,6 @@
 -- `celduga_check` meets its contract.
 use Rattle.celduga.proofs.Laws.Coded.{code_call}
 use Rattle.celduga.specs.Code.{nothing}
-use borrow.Author.Rules.{rules}
 use Rattle.celduga.proofs.celduga_check.Goals as goal
 
 pub returns : goal.returns

@@ -2,7 +2,6 @@
 use Rattle.celduga.proofs.Laws.Coded.{valued_call, code_call}
 use Rattle.celduga.specs.Code.{itself}
 use Rattle.celduga.specs.Laws.Small.{figure_small}
-use borrow.Author.Rules.{rules}
 use Rattle.celduga.proofs.celduga_loop_figure.Goals as goal
 
 pub of_counted-requires : goal.of_counted-requires

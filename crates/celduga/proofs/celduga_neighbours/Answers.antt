@@ -1,6 +1,5 @@
 -- `celduga_neighbours` meets its contract.
 use mathlib.Core.Path.{ap₂, ◌∙◌}
-use borrow.Author.Rules.{rules}
 use Rattle.record.specs.Laws.OneBlock.{part_near}
 use Rattle.celduga.specs.Code.{in_halves}
 use Rattle.celduga.proofs.celduga_neighbours.Goals as goal

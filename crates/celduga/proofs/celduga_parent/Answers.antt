@@ -2,7 +2,6 @@
 use Rattle.celduga.proofs.Laws.Coded.{valued_call, code_call}
 use Rattle.queries.specs.Answers.{or_zero}
 use Rattle.queries.specs.Laws.Small.{parent_small}
-use borrow.Author.Rules.{rules}
 use Rattle.celduga.proofs.celduga_parent.Goals as goal
 
 pub of_above-requires : goal.of_above-requires

@@ -1,7 +1,6 @@
 -- `celduga_table` meets its contract.
 use Rattle.celduga.proofs.Laws.Coded.{code_call}
 use Rattle.celduga.specs.Code.{nothing}
-use borrow.Author.Rules.{rules}
 use Rattle.celduga.proofs.celduga_table.Goals as goal
 
 pub returns : goal.returns

@@ -1,7 +1,6 @@
 -- `celduga_unpack` meets its contract.
 use Rattle.celduga.proofs.Laws.Coded.{code_call}
 use Rattle.celduga.specs.Code.{nothing}
-use borrow.Author.Rules.{rules}
 use Rattle.celduga.proofs.celduga_unpack.Goals as goal
 
 pub returns : goal.returns

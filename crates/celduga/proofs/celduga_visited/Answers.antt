@@ -2,7 +2,6 @@
 use Rattle.celduga.proofs.Laws.Coded.{valued_call, code_call}
 use Rattle.celduga.specs.Code.{itself}
 use Rattle.queries.specs.Laws.Small.{visited_small}
-use borrow.Author.Rules.{rules}
 use Rattle.celduga.proofs.celduga_visited.Goals as goal
 
 pub of_found-requires : goal.of_found-requires

@@ -1,6 +1,5 @@
 -- `loop_figure` meets its contract: order R and rule 5 first, and then the rest in a room.
 use mathlib.Core.Path.{sym, ap, ◌∙◌}
-use borrow.Author.Rules.{rules}
 use Rattle.record.specs.Rules.{layout_rules, check_rules}
 use Rattle.record.specs.Answers.{shape, sizes_of}
 use Rattle.record.specs.Laws.Sounded.{told_laid}

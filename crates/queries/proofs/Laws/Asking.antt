@@ -10,7 +10,6 @@ use Rattle.record.specs.Operations.{out_of_range}
 use Rattle.record.specs.declared.Sizes.{Sizes}
 use Rattle.record.specs.declared.Refusal.{Refusal}
 use Rattle.record.specs.declared.Shape.{Shape}
-use Rattle.record.specs.declared.Shape.TheVariants as Shape
 use Rattle.record.specs.Laws.First.{first_broken_lem, first_kept}
 use Rattle.record.specs.Laws.Range.{range_inside}
 use Rattle.record.specs.Laws.Told.{then_told, then_untold, then_refused, then_passed}

@@ -13,7 +13,6 @@ use Rattle.record.specs.Steps.{Sound}
 use Rattle.record.specs.declared.Sizes.{Sizes}
 use Rattle.record.specs.declared.Refusal.{Refusal}
 use Rattle.record.specs.declared.Shape.{Shape}
-use Rattle.record.specs.declared.Shape.TheVariants as Shape
 use Rattle.record.specs.Laws.First.{first_broken_lem, first_kept, append_kept, order_numbered}
 use Rattle.record.specs.Laws.Sounded.{told_sound}
 use Rattle.record.specs.Laws.Told.{told, untold, untold_back, told_append}

@@ -19,7 +19,6 @@ use lib.ListN.{length, take, drop, get_or}
 use Rattle.bits.specs.Bits.{count, select}
 use Rattle.bits.specs.Spans.{LoneOf}
 use Rattle.bits.specs.declared.spans.Lone.{Lone}
-use Rattle.bits.specs.declared.spans.Lone.TheVariants as Lone
 use Rattle.bits.specs.Laws.Select.{select_le}
 use Rattle.graph.specs.Graph.{Blocks, block, target}
 use Rattle.record.specs.Record.{unary, fields, blocks}

@@ -7,7 +7,6 @@ use Rattle.record.specs.Operations.{out_of_range}
 use Rattle.record.specs.Record.{terminals}
 use mathlib.Core.List.{[], ◌∷◌}
 use Prim.Native.Nat.{◌-◌}
-use borrow.Author.Rules.{rules}
 use Rattle.queries.proofs.ancestor.Goals as goal
 
 pub returns-then-out_of_range : goal.returns-then-out_of_range

@@ -5,7 +5,6 @@ use Rattle.queries.specs.Queries.{child_of, past_count}
 use mathlib.Core.List.{[], ◌∷◌}
 use Rattle.queries.specs.View.{View}
 use Prim.Native.Nat.{◌-◌}
-use borrow.Author.Rules.{rules}
 use Rattle.queries.proofs.child.Goals as goal
 
 pub child_in-requires : goal.child_in-requires

@@ -6,7 +6,6 @@ use Rattle.queries.specs.Operations.{children}
 use Rattle.queries.specs.Queries.{child_count}
 use Rattle.queries.specs.View.{View}
 use Prim.Native.Nat.{◌-◌}
-use borrow.Author.Rules.{rules}
 use Rattle.queries.proofs.children.Goals as goal
 
 pub children_in-requires : goal.children_in-requires

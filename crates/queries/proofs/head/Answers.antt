@@ -4,7 +4,6 @@ use Rattle.queries.specs.Operations.{head}
 use Rattle.queries.specs.Queries.{head_of}
 use Rattle.queries.specs.View.{View}
 use Prim.Native.Nat.{◌-◌}
-use borrow.Author.Rules.{rules}
 use Rattle.queries.proofs.head.Goals as goal
 
 pub head_in-requires : goal.head_in-requires

@@ -1,6 +1,5 @@
 -- `lookup` meets its contract: order R and rule 10 first, and then the rest.
 use mathlib.Core.Path.{sym, ap, ◌∙◌}
-use borrow.Author.Rules.{rules}
 use Rattle.record.specs.Answers.{shape}
 use Rattle.queries.specs.Lookup.{lists}
 use Rattle.queries.specs.Laws.Asked.{beside_told}

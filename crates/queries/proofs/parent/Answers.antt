@@ -4,7 +4,6 @@ use Rattle.queries.specs.Operations.{parent}
 use Rattle.queries.specs.Queries.{parent_of}
 use Rattle.queries.specs.View.{View}
 use Prim.Native.Nat.{◌-◌}
-use borrow.Author.Rules.{rules}
 use Rattle.queries.proofs.parent.Goals as goal
 
 pub parent_in-requires : goal.parent_in-requires

@@ -1,6 +1,5 @@
 -- `table` meets its contract: order R first, and then the rest.
 use mathlib.Core.Path.{sym, ap, ◌∙◌}
-use borrow.Author.Rules.{rules}
 use Rattle.record.specs.Answers.{shape}
 use Rattle.record.specs.Laws.Sounded.{told_sound}
 use Rattle.queries.specs.Table.{columns}

@@ -4,7 +4,6 @@ use Rattle.queries.specs.Operations.{visit}
 use Rattle.queries.specs.Queries.{visit_of}
 use Rattle.queries.specs.View.{View}
 use Prim.Native.Nat.{◌-◌}
-use borrow.Author.Rules.{rules}
 use Rattle.queries.proofs.visit.Goals as goal
 
 pub visit_in-requires : goal.visit_in-requires

@@ -4,7 +4,6 @@ use Rattle.queries.specs.Operations.{visited}
 use Rattle.queries.specs.Queries.{visited_of}
 use Rattle.queries.specs.View.{View}
 use Prim.Native.Nat.{◌-◌}
-use borrow.Author.Rules.{rules}
 use Rattle.queries.proofs.visited.Goals as goal
 
 pub visited_in-requires : goal.visited_in-requires

@@ -13,21 +13,13 @@ use Rattle.queries.specs.Answers.{above, terminal, related, numbered}
 use Rattle.queries.specs.Steps.{step_of, move_of, turn_of}
 use Rattle.queries.specs.Looking.{looked_of}
 use Rattle.queries.specs.declared.Above.{Above}
-use Rattle.queries.specs.declared.Above.TheVariants as Above
 use Rattle.queries.specs.declared.Found.{Found}
-use Rattle.queries.specs.declared.Found.TheVariants as Found
 use Rattle.queries.specs.declared.Related.{Related}
-use Rattle.queries.specs.declared.Related.TheVariants as Related
 use Rattle.queries.specs.declared.Numbered.{Numbered}
-use Rattle.queries.specs.declared.Numbered.TheVariants as Numbered
 use Rattle.queries.specs.declared.climbs.Step.{Step}
-use Rattle.queries.specs.declared.climbs.Step.TheVariants as Step
 use Rattle.queries.specs.declared.climbs.Move.{Move}
-use Rattle.queries.specs.declared.climbs.Move.TheVariants as Move
 use Rattle.queries.specs.declared.climbs.Turn.{Turn}
-use Rattle.queries.specs.declared.climbs.Turn.TheVariants as Turn
 use Rattle.queries.specs.declared.lookups.Looked.{Looked}
-use Rattle.queries.specs.declared.lookups.Looked.TheVariants as Looked
 
 -- ---- what the queries answer
 

@@ -1,5 +1,4 @@
 -- `accept` meets its contract: order R and rule 5 first, and then the rest in a room.
-use borrow.Author.Rules.{rules}
 use mathlib.Core.Path.{sym, ap, ◌∙◌}
 use Rattle.record.specs.Answers.{shape, verdict}
 use Rattle.record.specs.Laws.Sounded.{told_laid}

@@ -1,5 +1,4 @@
 -- `check` meets its contract.
-use borrow.Author.Rules.{rules}
 use mathlib.Core.Path.{sym, ap, ◌∙◌}
 use Rattle.record.specs.Answers.{shape, sizes_of}
 use Rattle.record.specs.Operations.{check}

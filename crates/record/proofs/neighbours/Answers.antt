@@ -1,7 +1,6 @@
 -- `neighbours` meets its contract: it is the part of the list that `part_of` names.
 use mathlib.Core.Path.{refl, ap}
 use native.Mathlib.Omega.{arith}
-use borrow.Author.Rules.{rules}
 use Rattle.record.specs.Operations.{further}
 use Rattle.record.specs.Laws.OneBlock.{part_fits, part_listed, part_near}
 use Rattle.record.proofs.neighbours.Goals as goal

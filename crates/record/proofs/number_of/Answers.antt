@@ -1,6 +1,5 @@
 -- `number_of` meets its contract, case by case.
 use mathlib.Core.Path.{sym, ap}
-use borrow.Author.Rules.{rules}
 use Rattle.record.specs.Answers.{number}
 use Rattle.record.proofs.number_of.Goals as goal
 

@@ -1,6 +1,5 @@
 -- `part_of` meets its contract: order R first, and then the block.
 use mathlib.Core.Path.{◌∙◌, sym, ap}
-use borrow.Author.Rules.{rules}
 use Rattle.record.specs.Answers.{shape}
 use Rattle.record.specs.Laws.OneBlock.{part_unread}
 use Rattle.record.specs.Laws.Sounded.{told_sound}

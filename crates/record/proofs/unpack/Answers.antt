@@ -1,5 +1,4 @@
 -- `unpack` meets its contract: Check with the list first, and then the list's length.
-use borrow.Author.Rules.{rules}
 use mathlib.Core.Path.{sym, ap, ◌∙◌}
 use native.Mathlib.Omega.{arith}
 use Rattle.record.specs.Answers.{shape, sizes_of}
@@ -22,12 +21,11 @@ returns-then-list-s c =
     (m.0, c.accept.ensures.1)
 
 pub returns-in-Refused : goal.returns-in-Refused
-returns-in-Refused c =
-    (
-      (unpack_refused c.args.bytes.now c.args.list.now (sizes_of c.args.bytes.now)
-          (sym (ap shape c.in-Refused.is) ∙ c.accept.ensures.0)).0,
-      c.accept.ensures.1,
-    )
+returns-in-Refused c = (
+  (unpack_refused c.args.bytes.now c.args.list.now (sizes_of c.args.bytes.now)
+      (sym (ap shape c.in-Refused.is) ∙ c.accept.ensures.0)).0,
+  c.accept.ensures.1,
+)
 
 pub returns-else-list-s : goal.returns-else-list-s
 returns-else-list-s c =

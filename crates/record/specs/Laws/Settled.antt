@@ -10,13 +10,9 @@ use Rattle.std.proofs.Common.{sym, ap, ◌∙◌, arith}
 use Rattle.record.specs.Answers.{Answer, refused, answered, number, verdict, counted, shape}
 use Rattle.record.specs.declared.Sizes.{Sizes}
 use Rattle.record.specs.declared.Refusal.{Refusal}
-use Rattle.record.specs.declared.Refusal.TheVariants as Refusal
 use Rattle.record.specs.declared.Verdict.{Verdict}
-use Rattle.record.specs.declared.Verdict.TheVariants as Verdict
 use Rattle.record.specs.declared.Counted.{Counted}
-use Rattle.record.specs.declared.Counted.TheVariants as Counted
 use Rattle.record.specs.declared.Shape.{Shape}
-use Rattle.record.specs.declared.Shape.TheVariants as Shape
 
 -- ---- refusals
 

@@ -1,10 +1,7 @@
 -- `cells::copy` meets its contract: the list is filled from the front.
-use mathlib.Core.Path.{refl}
 use Prim.Native.Nat.{◌-◌}
-use native.Mathlib.Omega.{arith}
-use borrow.Author.Rules.{rules}
-use lib.ListN.{length, get_or}
-use Rattle.adjacency.specs.Laws.InOrder.{InOrder, order_start, order_more, order_end}
+use lib.ListN.{length}
+use Rattle.adjacency.specs.Laws.InOrder.{InOrder}
 use Rattle.adjacency.proofs.cells.copy.Given as goal
 
 abbrev pub invariant-loop-i : goal.invariant-loop-i

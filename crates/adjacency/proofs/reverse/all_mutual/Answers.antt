@@ -1,12 +1,10 @@
 -- `reverse::all_mutual` meets its contract: turned round, and found again.
-use borrow.Author.Tests.{not-false, not-true}
 use Rattle.adjacency.specs.Tally.{nay}
 use Rattle.adjacency.specs.Laws.Tells.{told_yes, told_no, told_on}
 use Rattle.adjacency.proofs.Laws.Turned.{turned_divided}
 use Rattle.adjacency.proofs.Laws.Mutual.{mutual_kept}
 use Rattle.adjacency.proofs.Laws.Reversed.{reversed}
 use Rattle.adjacency.proofs.Laws.Orderly.{orderly}
-use borrow.Author.Rules.{rules}
 use Rattle.adjacency.proofs.reverse.all_mutual.Goals as goal
 
 pub returns-then-not-turn_all : goal.returns-then-not-turn_all

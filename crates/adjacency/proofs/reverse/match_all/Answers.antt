@@ -1,11 +1,9 @@
 -- `reverse::match_all` meets its contract: the parts passed are found again.
 use mathlib.Core.Path.{refl, subst}
-use borrow.Author.Tests.{not-false, not-true}
-use Prim.Native.Nat.{◌-◌}
 use native.Mathlib.Omega.{arith}
 use Rattle.adjacency.specs.Reverse.{Matching}
 use Rattle.adjacency.specs.Tally.{yea, nay}
-use Rattle.adjacency.proofs.Laws.Loops.{Round, round_start, round_inside, round_more, round_end}
+use Rattle.adjacency.proofs.Laws.Loops.{round_start, round_inside, round_more, round_end}
 use Rattle.adjacency.specs.Laws.Tells.{told_yes, told_no}
 use Rattle.adjacency.proofs.Laws.Turned.{turned_start}
 use Rattle.adjacency.proofs.reverse.match_all.Goals as goal
@@ -27,11 +25,10 @@ pub returns-then-not-match_block : goal.returns-then-not-match_block
 returns-then-not-match_block c = nay (told_no c.match_block.ensures c.if-not-match_block.true)
 
 pub loop-u-preserved : goal.loop-u-preserved
-loop-u-preserved c =
-    (
-      told_yes c.match_block.ensures c.if-not-match_block.false,
-      round_more c.loop-u.invariant.1 c.loop-u-test.true,
-    )
+loop-u-preserved c = (
+  told_yes c.match_block.ensures c.if-not-match_block.false,
+  round_more c.loop-u.invariant.1 c.loop-u-test.true,
+)
 
 pub returns : goal.returns
 returns c =

@@ -1,11 +1,8 @@
 -- `reverse::match_block` meets its contract: the places passed are found again.
 use mathlib.Core.Path.{subst, subst⁻¹}
-use borrow.Author.Tests.{not-false, not-true}
-use Prim.Native.Nat.{◌-◌}
-use native.Mathlib.Omega.{arith}
 use Rattle.adjacency.specs.Reverse.{Turned}
 use Rattle.adjacency.specs.Tally.{yea, nay}
-use Rattle.adjacency.proofs.Laws.Loops.{Along, along_start, along_holds, along_more, along_end}
+use Rattle.adjacency.proofs.Laws.Loops.{along_start, along_holds, along_more, along_end}
 use Rattle.adjacency.specs.Laws.Tells.{told_yes, told_no}
 use Rattle.adjacency.proofs.reverse.match_block.Goals as goal
 
@@ -25,11 +22,10 @@ pub returns-then-not-match_place : goal.returns-then-not-match_place
 returns-then-not-match_place c = nay (told_no c.match_place.ensures c.if-not-match_place.true)
 
 pub loop-p-preserved : goal.loop-p-preserved
-loop-p-preserved c =
-    (
-      told_yes c.match_place.ensures c.if-not-match_place.false,
-      along_more c.loop-p.invariant.1 c.loop-p-test.true,
-    )
+loop-p-preserved c = (
+  told_yes c.match_place.ensures c.if-not-match_place.false,
+  along_more c.loop-p.invariant.1 c.loop-p-test.true,
+)
 
 pub returns : goal.returns
 returns c =

@@ -1,12 +1,7 @@
 -- `reverse::match_block` meets its contract: the places passed are found again.
-use mathlib.Core.Path.{subst, subst⁻¹}
-use borrow.Author.Tests.{not-false, not-true}
 use Prim.Native.Nat.{◌-◌}
-use native.Mathlib.Omega.{arith}
 use Rattle.adjacency.specs.Reverse.{Turned}
-use Rattle.adjacency.specs.Tally.{yea, nay}
-use Rattle.adjacency.proofs.Laws.Loops.{Along, along_start, along_holds, along_more, along_end}
-use Rattle.adjacency.specs.Laws.Tells.{told_yes, told_no}
+use Rattle.adjacency.proofs.Laws.Loops.{Along}
 use Rattle.adjacency.proofs.reverse.match_block.Given as goal
 
 abbrev pub invariant-loop-p : goal.invariant-loop-p

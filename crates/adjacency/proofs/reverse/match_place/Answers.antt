@@ -5,7 +5,6 @@ use Rattle.adjacency.specs.Tally.{yea, nay}
 use Rattle.adjacency.proofs.Laws.Turned.{turned_place, next_place, turned_more}
 use Rattle.adjacency.proofs.Laws.Reversed.{read_on}
 use Rattle.adjacency.proofs.Laws.Orderly.{next_is}
-use borrow.Author.Rules.{rules}
 use Rattle.adjacency.proofs.reverse.match_place.Goals as goal
 
 pub get-w-requires : goal.get-w-requires

@@ -1,8 +1,7 @@
 -- `reverse::rewind` meets its contract: the places before v are the starts.
 use mathlib.Core.Path.{refl}
-use Prim.Native.Nat.{◌-◌}
 use native.Mathlib.Omega.{arith}
-use Rattle.adjacency.proofs.Laws.Nexts.{Nexts, nexts_start, nexts_set, at_starts}
+use Rattle.adjacency.proofs.Laws.Nexts.{nexts_start, nexts_set, at_starts}
 use Rattle.adjacency.proofs.reverse.rewind.Goals as goal
 
 pub loop-v-init : goal.loop-v-init

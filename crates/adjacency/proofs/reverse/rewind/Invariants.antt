@@ -1,8 +1,6 @@
 -- `reverse::rewind` meets its contract: the places before v are the starts.
-use mathlib.Core.Path.{refl}
 use Prim.Native.Nat.{◌-◌}
-use native.Mathlib.Omega.{arith}
-use Rattle.adjacency.proofs.Laws.Nexts.{Nexts, nexts_start, nexts_set, at_starts}
+use Rattle.adjacency.proofs.Laws.Nexts.{Nexts}
 use Rattle.adjacency.proofs.reverse.rewind.Given as goal
 
 abbrev pub invariant-loop-v : goal.invariant-loop-v

@@ -1,11 +1,9 @@
 -- `reverse::turn_all` meets its contract: the blocks passed are turned round.
 use mathlib.Core.Path.{refl, subst}
-use borrow.Author.Tests.{not-false, not-true}
-use Prim.Native.Nat.{◌-◌}
 use native.Mathlib.Omega.{arith}
 use Rattle.adjacency.specs.Reverse.{TurnedBefore}
 use Rattle.adjacency.specs.Tally.{yea, nay}
-use Rattle.adjacency.proofs.Laws.Loops.{Round, round_start, round_inside, round_more, round_end}
+use Rattle.adjacency.proofs.Laws.Loops.{round_start, round_inside, round_more, round_end}
 use Rattle.adjacency.specs.Laws.Tells.{told_yes, told_no}
 use Rattle.adjacency.proofs.Laws.Turned.{turning_start}
 use Rattle.adjacency.proofs.reverse.turn_all.Goals as goal
@@ -26,11 +24,10 @@ pub returns-then-not-turn_block : goal.returns-then-not-turn_block
 returns-then-not-turn_block c = nay (told_no c.turn_block.ensures c.if-not-turn_block.true)
 
 pub loop-u-preserved : goal.loop-u-preserved
-loop-u-preserved c =
-    (
-      told_yes c.turn_block.ensures c.if-not-turn_block.false,
-      round_more c.loop-u.invariant.1 c.loop-u-test.true,
-    )
+loop-u-preserved c = (
+  told_yes c.turn_block.ensures c.if-not-turn_block.false,
+  round_more c.loop-u.invariant.1 c.loop-u-test.true,
+)
 
 pub returns : goal.returns
 returns c =

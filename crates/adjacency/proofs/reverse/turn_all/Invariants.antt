@@ -1,13 +1,7 @@
 -- `reverse::turn_all` meets its contract: the blocks passed are turned round.
-use mathlib.Core.Path.{refl, subst}
-use borrow.Author.Tests.{not-false, not-true}
 use Prim.Native.Nat.{◌-◌}
-use native.Mathlib.Omega.{arith}
 use Rattle.adjacency.specs.Reverse.{TurnedBefore}
-use Rattle.adjacency.specs.Tally.{yea, nay}
-use Rattle.adjacency.proofs.Laws.Loops.{Round, round_start, round_inside, round_more, round_end}
-use Rattle.adjacency.specs.Laws.Tells.{told_yes, told_no}
-use Rattle.adjacency.proofs.Laws.Turned.{turning_start}
+use Rattle.adjacency.proofs.Laws.Loops.{Round}
 use Rattle.adjacency.proofs.reverse.turn_all.Given as goal
 
 abbrev pub invariant-loop-u : goal.invariant-loop-u

@@ -1,11 +1,8 @@
 -- `reverse::turn_block` meets its contract: the places passed are turned round.
 use mathlib.Core.Path.{subst⁻¹}
-use Prim.Native.Nat.{◌-◌}
-use borrow.Author.Tests.{not-false, not-true}
-use native.Mathlib.Omega.{arith}
 use Rattle.adjacency.specs.Reverse.{Turning}
 use Rattle.adjacency.specs.Tally.{yea, nay}
-use Rattle.adjacency.proofs.Laws.Loops.{Along, along_start, along_holds, along_more, along_end}
+use Rattle.adjacency.proofs.Laws.Loops.{along_start, along_holds, along_more, along_end}
 use Rattle.adjacency.specs.Laws.Tells.{told_yes, told_no}
 use Rattle.adjacency.proofs.Laws.Turned.{turning_on}
 use Rattle.adjacency.proofs.reverse.turn_block.Goals as goal
@@ -25,11 +22,10 @@ pub returns-then-not-turn_place : goal.returns-then-not-turn_place
 returns-then-not-turn_place c = nay (told_no c.turn_place.ensures c.if-not-turn_place.true)
 
 pub loop-p-preserved : goal.loop-p-preserved
-loop-p-preserved c =
-    (
-      told_yes c.turn_place.ensures c.if-not-turn_place.false,
-      along_more c.loop-p.invariant.1 c.loop-p-test.true,
-    )
+loop-p-preserved c = (
+  told_yes c.turn_place.ensures c.if-not-turn_place.false,
+  along_more c.loop-p.invariant.1 c.loop-p-test.true,
+)
 
 pub returns : goal.returns
 returns c =

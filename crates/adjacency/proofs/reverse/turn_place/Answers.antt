@@ -4,7 +4,6 @@ use native.Mathlib.Omega.{arith}
 use Rattle.adjacency.specs.Tally.{yea, nay}
 use Rattle.adjacency.proofs.Laws.Turned.{turned_place, next_place, turning_more}
 use Rattle.adjacency.proofs.Laws.Orderly.{no_vertex, no_own, full_refused}
-use borrow.Author.Rules.{rules}
 use Rattle.adjacency.proofs.reverse.turn_place.Goals as goal
 
 pub get-v-requires : goal.get-v-requires

@@ -1,7 +1,6 @@
 -- `strays::stray_in` meets its contract: no neighbour passed is a stray one.
 use Prim.Native.Nat.{◌-◌}
-use native.Mathlib.Omega.{arith}
-use Rattle.adjacency.proofs.Laws.Strays.{Strayless, strayless_start, strayless_place, strayless-more, strayless_end, no_vertex, own-neighbour}
+use Rattle.adjacency.proofs.Laws.Strays.{Strayless}
 use Rattle.adjacency.proofs.strays.stray_in.Given as goal
 
 abbrev pub invariant-loop-p : goal.invariant-loop-p

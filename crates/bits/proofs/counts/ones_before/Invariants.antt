@@ -1,10 +1,8 @@
 -- `counts::ones_before` meets its contract. The invariant: the ones of the words passed are counted.
-use mathlib.Core.Path.{◌≡◌, ◌∙◌, ap, ap₂, sym, refl}
-use Prim.Native.Nat.{ℕ, ◌≤◌, ◌+◌, ◌-◌, ◌*◌, ◌/◌, ◌%◌}
-use native.Mathlib.Omega.{arith}
-use lib.ListN.{take, drop}
+use mathlib.Core.Path.{◌≡◌}
+use Prim.Native.Nat.{◌≤◌, ◌-◌, ◌*◌}
+use lib.ListN.{take}
 use Rattle.bits.specs.Bits.{bits, count}
-use Rattle.bits.specs.Laws.Rank.{count_take_le, count_take_add}
 use Rattle.bits.proofs.counts.ones_before.Given as goal
 
 abbrev pub invariant-loop-i : goal.invariant-loop-i

@@ -1,7 +1,6 @@
 -- `fields::clear_first` meets its contract: a mask puts a zero into the first bit of its byte.
 use lib.ListN.{length-set}
 use Rattle.bits.proofs.Stored.{write_clear}
-use borrow.Author.Rules.{rules}
 use Rattle.bits.proofs.fields.clear_first.Goals as goal
 
 pub returns : goal.returns

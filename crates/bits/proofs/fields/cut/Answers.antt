@@ -1,7 +1,6 @@
 -- `fields::cut` meets its contract: a shift, and a mask of ones.
 use Prim.Native.Nat.{◌/◌, ◌^◌}
 use native.Mathlib.Omega.{arith}
-use borrow.Author.Rules.{rules}
 use lib.Bits.{and_mask, mask_lt}
 use lib.Pow.{pow_pos}
 use Rattle.bits.proofs.Joined.{shifted_one}

@@ -1,7 +1,6 @@
 -- `fields::formula` meets its contract: three bytes are joined, and the field is cut out.
 use mathlib.Core.Path.{◌∙◌, ap}
 use Prim.Native.Nat.{ℕ, ◌-◌, ◌/◌, ◌%◌, ◌^◌}
-use borrow.Author.Rules.{rules}
 use Rattle.bits.specs.Formula.{field_formula}
 use Rattle.bits.proofs.fields.formula.Goals as goal
 

@@ -1,6 +1,5 @@
 -- `fields::front_of` meets its contract: the byte without what it has from bit `start` on.
 use native.Mathlib.Omega.{arith}
-use borrow.Author.Rules.{rules}
 use Rattle.bits.specs.Bits.{bits}
 use Rattle.bits.proofs.Stored.{byte_front, no_front}
 use Rattle.bits.proofs.fields.front_of.Goals as goal

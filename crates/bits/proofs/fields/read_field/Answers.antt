@@ -1,7 +1,6 @@
 -- `fields::read_field` meets its contract: the formula is the field.
 use mathlib.Core.Path.{◌∙◌}
 use native.Mathlib.Omega.{arith}
-use borrow.Author.Rules.{rules}
 use Rattle.bits.specs.Bits.{bits}
 use Rattle.bits.specs.Laws.Fields.{field_lt}
 use Rattle.bits.specs.Laws.Formula.{formula_field}

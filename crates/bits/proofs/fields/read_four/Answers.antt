@@ -2,7 +2,6 @@
 use mathlib.Core.Path.{ap}
 use Prim.Native.Nat.{ℕ, ◌-◌, ◌/◌, ◌%◌, ◌^◌}
 use Rattle.bits.proofs.Joined.{four_in_word}
-use borrow.Author.Rules.{rules}
 use Rattle.bits.proofs.fields.read_four.Goals as goal
 
 pub returns : goal.returns

@@ -4,7 +4,6 @@ use Prim.Native.Nat.{ℕ, ◌%◌, ◌^◌}
 use native.Mathlib.Omega.{arith}
 use lib.Bits.{and_mask}
 use Rattle.bits.proofs.Joined.{shifted_ones, field_masked}
-use borrow.Author.Rules.{rules}
 use Rattle.bits.proofs.fields.read_long.Goals as goal
 
 pub returns : goal.returns

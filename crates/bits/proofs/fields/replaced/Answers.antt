@@ -1,6 +1,5 @@
 -- `fields::replaced` meets its contract: shifts and masks put a number into a field of another.
 use native.Mathlib.Omega.{arith}
-use borrow.Author.Rules.{rules}
 use lib.Pow.{pow_pos}
 use Rattle.bits.proofs.Joined.{shifted_one}
 use Rattle.bits.proofs.Stored.{replace_masked}

@@ -1,5 +1,4 @@
 -- `fields::set_bit` meets its contract: an or with the bit's mask puts a one into its byte.
-use borrow.Author.Rules.{rules}
 use lib.ListN.{length-set}
 use Rattle.bits.proofs.Stored.{write_or}
 use Rattle.bits.proofs.fields.set_bit.Goals as goal

@@ -1,7 +1,6 @@
 -- `fields::write_field` meets its contract: a field put into the two bytes or the three that hold it.
 use Prim.Native.Nat.{◌+◌, ◌-◌, ◌%◌}
 use native.Mathlib.Omega.{arith}
-use borrow.Author.Rules.{rules}
 use lib.ListN.{length-set}
 use Rattle.bits.specs.Laws.Bytes.{AreBytes}
 use Rattle.bits.proofs.Stored.{write_two, write_three}

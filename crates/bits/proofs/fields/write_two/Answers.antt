@@ -2,7 +2,6 @@
 use native.Mathlib.Omega.{arith}
 use lib.ListN.{length-set}
 use Rattle.bits.proofs.Stored.{write_beside, beside_shifted}
-use borrow.Author.Rules.{rules}
 use Rattle.bits.proofs.fields.write_two.Goals as goal
 
 pub bounds-bytes-at-2 : goal.bounds-bytes-at-2

@@ -1,7 +1,6 @@
 -- `search::place_from` meets its contract, by the laws of a string that starts inside a byte.
 use mathlib.Core.Path.{◌∙◌, sym}
 use native.Mathlib.Omega.{arith}
-use borrow.Author.Rules.{rules}
 use Rattle.bits.proofs.FromBit.{rest_bounds, place_within, place_none, place_le, place_missing, place_beyond}
 use Rattle.bits.proofs.search.place_from.Goals as goal
 

@@ -1,10 +1,6 @@
 -- `search::place_of` meets its contract: the bytes passed have fewer ones than are looked for.
 use mathlib.Core.Path.{◌∙◌, sym}
-use Prim.Native.Nat.{◌-◌, ◌*◌}
 use native.Mathlib.Omega.{arith}
-use lib.ListN.{length}
-use Rattle.bits.specs.Bits.{bits}
-use Rattle.bits.specs.Spans.{Sought}
 use Rattle.bits.proofs.Found.{passed_byte, found_bounds, found_within, missing}
 use Rattle.bits.proofs.search.place_of.Goals as goal
 

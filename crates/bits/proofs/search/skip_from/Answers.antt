@@ -1,9 +1,8 @@
 -- `search::skip_from` meets its contract: the words passed have fewer ones than are left to go.
-use Prim.Native.Nat.{◌+◌, ◌-◌, ◌*◌}
+use Prim.Native.Nat.{◌+◌, ◌*◌}
 use native.Mathlib.Omega.{arith}
 use lib.ListN.{length}
 use Rattle.bits.specs.Bits.{bits}
-use Rattle.bits.specs.Spans.{Sought}
 use Rattle.bits.specs.Laws.Spans.{between_count}
 use Rattle.bits.proofs.Passes.{sought_start, sought_more, skip_ones}
 use Rattle.bits.proofs.search.skip_from.Goals as goal

@@ -1,11 +1,8 @@
 -- `search::skip_from` meets its contract: the words passed have fewer ones than are left to go.
-use Prim.Native.Nat.{◌+◌, ◌-◌, ◌*◌}
-use native.Mathlib.Omega.{arith}
+use Prim.Native.Nat.{◌-◌, ◌*◌}
 use lib.ListN.{length}
 use Rattle.bits.specs.Bits.{bits}
 use Rattle.bits.specs.Spans.{Sought}
-use Rattle.bits.specs.Laws.Spans.{between_count}
-use Rattle.bits.proofs.Passes.{sought_start, sought_more, skip_ones}
 use Rattle.bits.proofs.search.skip_from.Given as goal
 
 abbrev pub invariant-loop-at : goal.invariant-loop-at

@@ -4,7 +4,6 @@ use lib.Bits.{and_mask}
 use lib.Pow.{pow_pos}
 use Rattle.bits.proofs.Joined.{shifted_one}
 use Rattle.bits.proofs.Halves.{halve_high, halve_low}
-use borrow.Author.Rules.{rules}
 use Rattle.bits.proofs.spans.halve.Goals as goal
 
 pub overflow_sub-bits : goal.overflow_sub-bits

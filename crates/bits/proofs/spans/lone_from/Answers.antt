@@ -1,9 +1,9 @@
 -- `spans::lone_from` meets its contract: no one stands in the parts passed.
 use mathlib.Core.Path.{◌≡◌, ◌∙◌}
-use Prim.Native.Nat.{◌+◌, ◌-◌}
+use Prim.Native.Nat.{◌+◌}
 use native.Mathlib.Omega.{arith}
 use Rattle.bits.specs.Bits.{bits}
-use Rattle.bits.specs.Spans.{Cleared, ones_between}
+use Rattle.bits.specs.Spans.{ones_between}
 use Rattle.bits.specs.Laws.Bytes.{length_bits}
 use Rattle.bits.specs.Laws.Spans.{between_told, lone_none}
 use Rattle.bits.proofs.Passes.{cleared_start, cleared_more, cleared_end}

@@ -1,9 +1,8 @@
 -- `spans::next_from` meets its contract: no one stands in the parts passed.
-use mathlib.Core.Path.{◌≡◌}
-use Prim.Native.Nat.{◌+◌, ◌-◌, ◌%◌, ◌<◌}
+use Prim.Native.Nat.{◌+◌, ◌-◌, ◌<◌}
 use native.Mathlib.Omega.{arith}
 use Rattle.bits.specs.Bits.{bits}
-use Rattle.bits.specs.Spans.{NextAt, PartOf, Cleared}
+use Rattle.bits.specs.Spans.{NextAt, PartOf}
 use Rattle.bits.specs.Laws.Bytes.{length_bits}
 use Rattle.bits.specs.Laws.Spans.{next_end}
 use Rattle.bits.proofs.Passes.{part_aligned, part_less, cleared_start, cleared_more, cleared_end, topped_next}

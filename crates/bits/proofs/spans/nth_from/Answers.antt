@@ -6,7 +6,6 @@ use Prim.Native.Nat.{ℕ, ◌+◌, ◌-◌, ◌≤◌}
 use native.Mathlib.Omega.{arith}
 use lib.ListN.{take, drop}
 use Rattle.bits.specs.Bits.{bits, select}
-use Rattle.bits.specs.Spans.{Sought}
 use Rattle.bits.specs.Laws.Bytes.{length_bits}
 use Rattle.bits.proofs.Passes.{sought_start, nth_more, nth_found, nth_none}
 use Rattle.bits.proofs.spans.nth_from.Goals as goal

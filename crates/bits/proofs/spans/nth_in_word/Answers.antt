@@ -1,6 +1,5 @@
 -- `spans::nth_in_word` meets its contract: the first one is the highest.
 use mathlib.Core.Path.{sym}
-use borrow.Author.Rules.{rules}
 use native.Mathlib.Omega.{arith}
 use Rattle.bits.proofs.Tops.{some_one, select_top}
 use Rattle.bits.proofs.spans.nth_in_word.Goals as goal

@@ -5,7 +5,6 @@ use native.Mathlib.Omega.{arith}
 use lib.Bits.{bit_and, and_mask}
 use lib.Count.{ones, ones-le}
 use Rattle.bits.proofs.Halves.{ones_nibble}
-use borrow.Author.Rules.{rules}
 use Rattle.bits.proofs.spans.ones4.Goals as goal
 
 pub returns : goal.returns

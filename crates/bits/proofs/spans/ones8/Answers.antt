@@ -1,7 +1,6 @@
 -- `spans::ones8` meets its contract: the ones of eight bits are those of two times four.
 use lib.Bits.{and_mask, mask_lt}
 use Rattle.bits.proofs.Halves.{ones_byte}
-use borrow.Author.Rules.{rules}
 use Rattle.bits.proofs.spans.ones8.Goals as goal
 
 pub ones4-requires-2 : goal.ones4-requires-2

@@ -9,7 +9,6 @@ use Rattle.bits.specs.Laws.Bytes.{length_bits}
 use Rattle.bits.specs.Laws.Spans.{between_count}
 use Rattle.bits.proofs.Joined.{shifted_one, masked}
 use Rattle.bits.proofs.Windows.{Standing, span_bounds, span_top, span_here, span_beyond}
-use borrow.Author.Rules.{rules}
 use Rattle.bits.proofs.spans.span_from.Goals as goal
 use Rattle.bits.proofs.spans.span_from.Goals.{After-in_word-left, After-top}
 

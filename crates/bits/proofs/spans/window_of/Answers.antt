@@ -4,7 +4,6 @@ use native.Mathlib.Omega.{arith}
 use lib.ListN.{length}
 use Rattle.bits.specs.Bits.{bits}
 use Rattle.bits.proofs.Windows.{Opened, window_some, window_here, window_before, window-there}
-use borrow.Author.Rules.{rules}
 use Rattle.bits.proofs.spans.window_of.Goals as goal
 use Rattle.bits.proofs.spans.window_of.Goals.{After-ones_of-c, After-skip_from-reached}
 
@@ -26,7 +25,7 @@ opened c =
 
 -- the word that was reached begins before the end
 before : (c : After-skip_from-reached) → 8 * c.skip_from-reached.result.at < c.args.end
-before c = window_before (let it : Opened (bits c.args.bytes.now) c.args.start c.args.end c.args.k (length c.args.bytes.now) c.part_from-first.result.width c.part_from-first.result.bits c.ones_of-c.result = let pre = c.requires in record { some = pre.0; all = pre.1; between = pre.2; held = pre.3; part = c.part_from-first.ensures; count = c.ones_of-c.ensures.0; } in it) c.if-k-c.false c.skip_from-reached.ensures
+before c = window_before (let it : Opened (bits c.args.bytes.now) c.args.start c.args.end c.args.k (length c.args.bytes.now) c.part_from-first.result.width c.part_from-first.result.bits c.ones_of-c.result = let pre = c.requires in record { some = pre.0; all = pre.1; between = pre.2; held = pre.3; part = c.part_from-first.ensures; count = c.ones_of-c.ensures.0 } in it) c.if-k-c.false c.skip_from-reached.ensures
 
 pub part_from-first-requires : goal.part_from-first-requires
 part_from-first-requires c =

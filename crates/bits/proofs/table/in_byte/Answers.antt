@@ -1,6 +1,5 @@
 -- `table::in_byte` meets its contract: the table's rule at one entry.
 use mathlib.Core.Path.{◌∙◌}
-use borrow.Author.Rules.{rules}
 use Rattle.bits.proofs.Entries.{entries, entry_rule}
 use Rattle.bits.proofs.table.in_byte.Goals as goal
 

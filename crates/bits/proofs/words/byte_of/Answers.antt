@@ -3,7 +3,6 @@ use Prim.Native.Nat.{◌/◌, ◌^◌}
 use native.Mathlib.Omega.{arith}
 use lib.Bits.{and_mask, mask_lt}
 use Rattle.bits.specs.Steps.{byte_of}
-use borrow.Author.Rules.{rules}
 use Rattle.bits.proofs.words.byte_of.Goals as goal
 
 pub overflow_cast-result : goal.overflow_cast-result

@@ -1,6 +1,5 @@
 -- `words::byte_ones` meets its contract: eight bits have at most eight ones.
 use native.Mathlib.Omega.{arith}
-use borrow.Author.Rules.{rules}
 use lib.Count.{ones-le}
 use Rattle.bits.proofs.words.byte_ones.Goals as goal
 

@@ -1,6 +1,5 @@
 -- `words::byte_or_zero` meets its contract: past the end a list's element is the default.
 use mathlib.Core.Path.{sym}
-use borrow.Author.Rules.{rules}
 use lib.ListN.{get_or-eq_default}
 use Rattle.bits.proofs.words.byte_or_zero.Goals as goal
 

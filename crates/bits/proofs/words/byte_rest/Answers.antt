@@ -3,7 +3,6 @@ use mathlib.Core.Path.{◌∙◌, ap, sym}
 use Prim.Native.Nat.{ℕ, ◌-◌, ◌%◌, ◌^◌}
 use native.Mathlib.Nat.{div-one, lt_of_le_of_lt}
 use native.Mathlib.Omega.{arith}
-use borrow.Author.Rules.{rules}
 use lib.Bits.{and_le_l, and_mask}
 use lib.Pow.{pow_pos}
 use Rattle.bits.proofs.Joined.{field_in_byte, shifted_one}

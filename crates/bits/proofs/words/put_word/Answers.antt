@@ -1,6 +1,5 @@
 -- `words::put_word` meets its contract: the bytes stored are those of the number.
 use native.Mathlib.Omega.{arith}
-use borrow.Author.Rules.{rules}
 use lib.ListN.{length-set}
 use Rattle.bits.proofs.Stored.{write_word}
 use Rattle.bits.proofs.words.put_word.Goals as goal

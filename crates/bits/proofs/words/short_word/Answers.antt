@@ -3,7 +3,6 @@ use mathlib.Core.Path.{◌∙◌, ap}
 use Prim.Native.Nat.{ℕ, ◌-◌, ◌/◌, ◌^◌}
 use native.Mathlib.Omega.{arith}
 use Rattle.bits.proofs.Joined.{short_field}
-use borrow.Author.Rules.{rules}
 use Rattle.bits.proofs.words.short_word.Goals as goal
 
 pub returns : goal.returns

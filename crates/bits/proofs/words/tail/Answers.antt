@@ -1,7 +1,6 @@
 -- `words::tail` meets its contract: a part up to the end is all that is left.
 use Prim.Native.Nat.{◌-◌}
 use native.Mathlib.Omega.{arith}
-use borrow.Author.Rules.{rules}
 use lib.ListN.{length, drop, length-drop}
 use lib.Seq.{take_all}
 use Rattle.bits.proofs.words.tail.Goals as goal

@@ -3,7 +3,6 @@ use mathlib.Core.Path.{◌∙◌, ap}
 use Prim.Native.Nat.{ℕ}
 use Rattle.bits.specs.Steps.{joined, low_bytes}
 use Rattle.bits.proofs.Turned.{turned_joined}
-use borrow.Author.Rules.{rules}
 use Rattle.bits.proofs.words.word.Goals as goal
 
 pub returns : goal.returns

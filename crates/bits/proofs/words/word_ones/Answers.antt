@@ -3,7 +3,6 @@ use mathlib.Core.Path.{◌∙◌, ap}
 use native.Mathlib.Omega.{arith}
 use lib.Count.{ones}
 use Rattle.bits.proofs.Turned.{turned_ones}
-use borrow.Author.Rules.{rules}
 use Rattle.bits.proofs.words.word_ones.Goals as goal
 
 pub returns : goal.returns

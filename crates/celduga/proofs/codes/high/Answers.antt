@@ -1,7 +1,6 @@
 -- `codes::high` meets its contract.
 use Rattle.celduga.proofs.Laws.Coded.{number_small}
 use native.Mathlib.Omega.{arith}
-use borrow.Author.Rules.{rules}
 use Rattle.celduga.proofs.codes.high.Goals as goal
 
 pub overflow_cast-result : goal.overflow_cast-result

@@ -3,7 +3,6 @@ use Rattle.record.specs.Laws.Valued.{value_at}
 use Rattle.celduga.proofs.Laws.Coded.{code_refused, code_answered}
 use Rattle.queries.specs.Answers.{above, or_zero}
 use mathlib.Core.Path.{refl, sym, ap}
-use borrow.Author.Rules.{rules}
 use Rattle.celduga.proofs.codes.of_above.Goals as goal
 
 pub low-requires : goal.low-requires

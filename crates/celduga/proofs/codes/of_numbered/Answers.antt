@@ -4,7 +4,6 @@ use Rattle.celduga.proofs.Laws.Coded.{code_refused, code_answered}
 use Rattle.celduga.specs.Code.{itself}
 use Rattle.queries.specs.Answers.{numbered}
 use mathlib.Core.Path.{sym, ap}
-use borrow.Author.Rules.{rules}
 use Rattle.celduga.proofs.codes.of_numbered.Goals as goal
 
 pub low-requires : goal.low-requires

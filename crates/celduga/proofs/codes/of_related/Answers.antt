@@ -3,7 +3,6 @@ use Rattle.celduga.proofs.Laws.Coded.{code_refused, code_answered}
 use Rattle.bits.specs.Bits.{bit}
 use Rattle.queries.specs.Answers.{related}
 use mathlib.Core.Path.{refl, sym, ap}
-use borrow.Author.Rules.{rules}
 use Rattle.celduga.proofs.codes.of_related.Goals as goal
 
 pub returns-in-Yes : goal.returns-in-Yes

@@ -3,7 +3,6 @@ use Rattle.celduga.proofs.Laws.Coded.{code_refused, code_answered}
 use Rattle.celduga.specs.Code.{nothing}
 use Rattle.record.specs.Answers.{verdict}
 use mathlib.Core.Path.{refl, sym, ap}
-use borrow.Author.Rules.{rules}
 use Rattle.celduga.proofs.codes.of_verdict.Goals as goal
 
 pub returns-in-Accepted : goal.returns-in-Accepted

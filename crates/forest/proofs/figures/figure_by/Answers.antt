@@ -32,12 +32,15 @@ slice_bounds-check_arrays-end-2 c =
 
 pub check_arrays-requires : goal.check_arrays-requires
 check_arrays-requires c =
-    record { laid = c.requires.laid.0; lent = record {
+    record {
+      laid = c.requires.laid.0;
+      lent = record {
         all_starts = c.requires.laid.1;
         all_nbrs = c.requires.laid.2;
         all_reverse = length-take-le _ _ c.requires.next_len.1;
         all_next = c.requires.next_len.0;
-      } }
+      };
+    }
 
 pub figure_from-requires : goal.figure_from-requires
 figure_from-requires c =

@@ -1,6 +1,5 @@
 -- `figures::figure_from` meets its contract: the search, and the roots among the parents.
 use mathlib.Core.Path.{◌∙◌}
-use borrow.Author.Rules.{rules}
 use Rattle.forest.proofs.Laws.Figuring.{figure_none, search_asked, parents_asked, figure_shown}
 use Rattle.forest.proofs.figures.figure_from.Goals as goal
 

@@ -1,6 +1,5 @@
 -- `figures::figure_in` meets its contract: the parts lent are of the exact length.
 use mathlib.Core.Path.{sym}
-use borrow.Author.Rules.{rules}
 use lib.Seq.{length-take-le}
 use Rattle.record.specs.Laws.Lending.{lent}
 use Rattle.forest.proofs.figures.figure_in.Goals as goal

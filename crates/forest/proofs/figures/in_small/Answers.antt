@@ -3,7 +3,6 @@ use Prim.Native.Nat.{ℕ}
 use native.Mathlib.Omega.{arith}
 use lib.ListN.{length-replicate}
 use Rattle.record.specs.Laws.Lending.{roomy}
-use borrow.Author.Rules.{rules}
 use Rattle.forest.proofs.figures.in_small.Goals as goal
 
 pub figure_in-requires : goal.figure_in-requires

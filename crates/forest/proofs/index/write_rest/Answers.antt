@@ -1,7 +1,6 @@
 -- `index::write_rest` meets its contract.
 use Prim.Native.Nat.{◌-◌, ◌*◌}
 use native.Mathlib.Omega.{arith}
-use borrow.Author.Rules.{rules}
 use lib.ListN.{length}
 use Rattle.forest.proofs.Laws.Owned.{part_size}
 use Rattle.forest.proofs.Laws.Fronts.{numbers_asked, index_written}

@@ -1,5 +1,4 @@
 -- `index::write_sections` meets its contract.
-use borrow.Author.Rules.{rules}
 use Rattle.adjacency.specs.Arrays.{cut}
 use Rattle.forest.specs.Fronts.{Ready}
 use Rattle.forest.proofs.Laws.Fronts.{ready, begins_nothing}

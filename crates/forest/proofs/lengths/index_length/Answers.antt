@@ -1,7 +1,6 @@
 -- `lengths::index_length` meets its contract.
 use Rattle.forest.specs.Index.{number_bytes, index_length}
 use native.Mathlib.Omega.{arith}
-use borrow.Author.Rules.{rules}
 use Rattle.forest.proofs.lengths.index_length.Goals as goal
 
 pub returns : goal.returns

@@ -2,7 +2,6 @@
 use Rattle.forest.specs.Index.{mark_bytes}
 use native.Mathlib.Omega.{arith}
 use mathlib.Core.Path.{refl}
-use borrow.Author.Rules.{rules}
 use Rattle.forest.proofs.lengths.mark_bytes.Goals as goal
 
 pub returns : goal.returns

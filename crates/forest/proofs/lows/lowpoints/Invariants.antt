@@ -1,9 +1,6 @@
 -- `lows::lowpoints` meets its contract: the vertices of visit number k and more are lifted.
-use borrow.Author.Rules.{rules}
-use native.Mathlib.Omega.{arith}
 use Rattle.adjacency.specs.Arrays.{cut}
-use Rattle.forest.proofs.Laws.Graphs.{as_many}
-use Rattle.forest.proofs.Laws.Lifted.{Swept, swept_asks, swept_more, swept_end}
+use Rattle.forest.proofs.Laws.Lifted.{Swept}
 use Rattle.forest.proofs.lows.lowpoints.Given as goal
 
 abbrev pub invariant-loop-k : goal.invariant-loop-k

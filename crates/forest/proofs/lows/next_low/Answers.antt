@@ -1,7 +1,6 @@
 -- `lows::next_low` meets its contract.
 use mathlib.Core.Path.{refl}
 use native.Mathlib.Omega.{arith}
-use borrow.Author.Rules.{rules}
 use Rattle.forest.specs.Lows.{way_back, counts}
 use Rattle.forest.proofs.lows.next_low.Goals as goal
 

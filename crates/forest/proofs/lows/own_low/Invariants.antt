@@ -1,10 +1,6 @@
 -- `lows::own_low` meets its contract: before p every place is looked at.
-use Prim.Native.Nat.{◌+◌, ◌-◌}
-use native.Mathlib.Omega.{arith}
-use borrow.Author.Rules.{rules}
-use Rattle.adjacency.specs.Laws.Rows.{starts_fit}
-use Rattle.forest.proofs.Laws.Graphs.{known}
-use Rattle.forest.proofs.Laws.Lowest.{LowTo, looked_begin, looked_more, looked_end}
+use Prim.Native.Nat.{◌-◌}
+use Rattle.forest.proofs.Laws.Lowest.{LowTo}
 use Rattle.forest.proofs.lows.own_low.Given as goal
 
 abbrev pub invariant-loop-p : goal.invariant-loop-p

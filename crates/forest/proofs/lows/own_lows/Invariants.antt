@@ -1,10 +1,7 @@
 -- `lows::own_lows` meets its contract: the vertices before c have their numbers.
-use borrow.Author.Rules.{rules}
 use Prim.Native.Nat.{◌-◌}
-use native.Mathlib.Omega.{arith}
 use Rattle.adjacency.specs.Arrays.{cut}
-use Rattle.forest.proofs.Laws.Graphs.{as_many}
-use Rattle.forest.proofs.Laws.Lifted.{Filled, filled_begin, filled_more, filled_end}
+use Rattle.forest.proofs.Laws.Lifted.{Filled}
 use Rattle.forest.proofs.lows.own_lows.Given as goal
 
 abbrev pub invariant-loop-c : goal.invariant-loop-c

@@ -1,5 +1,4 @@
 -- `marks::mark_bridge` meets its contract.
-use borrow.Author.Rules.{rules}
 use mathlib.Core.Path.{refl}
 use native.Mathlib.Omega.{arith}
 use Rattle.forest.specs.Marks.{parts, stays}

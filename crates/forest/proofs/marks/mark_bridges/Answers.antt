@@ -1,9 +1,6 @@
 -- `marks::mark_bridges` meets its contract: the marks of the vertices before c are there.
-use Prim.Native.Nat.{◌-◌}
 use native.Mathlib.Omega.{arith}
-use borrow.Author.Rules.{rules}
-use Rattle.adjacency.specs.Arrays.{cut}
-use Rattle.forest.proofs.Laws.Bridged.{Bridging, bridging_begin, bridging_asks, bridging_more, bridging_end}
+use Rattle.forest.proofs.Laws.Bridged.{bridging_begin, bridging_asks, bridging_more, bridging_end}
 use Rattle.forest.proofs.marks.mark_bridges.Goals as goal
 
 pub loop-c-init : goal.loop-c-init

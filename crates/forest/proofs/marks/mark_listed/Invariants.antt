@@ -1,9 +1,7 @@
 -- `marks::mark_listed` meets its contract: the bits of the list before c are set.
 use Prim.Native.Nat.{◌-◌}
-use native.Mathlib.Omega.{arith}
-use borrow.Author.Rules.{rules}
 use lib.ListN.{length}
-use Rattle.forest.proofs.Laws.Listed.{Marking, marking_begin, marking_more, marking_end}
+use Rattle.forest.proofs.Laws.Listed.{Marking}
 use Rattle.forest.proofs.marks.mark_listed.Given as goal
 
 abbrev pub invariant-loop-c : goal.invariant-loop-c

@@ -1,8 +1,7 @@
 -- `numbers::write_numbers` meets its contract: the numbers before v are written.
-use Prim.Native.Nat.{◌-◌}
 use native.Mathlib.Omega.{arith}
 use borrow.Author.Rules.{rules}
-use Rattle.forest.proofs.Laws.Numbers.{Pairs, pairs_begin, pairs_room, pairs_rest, pairs_more, pairs_last}
+use Rattle.forest.proofs.Laws.Numbers.{pairs_begin, pairs_room, pairs_rest, pairs_more, pairs_last}
 use Rattle.forest.proofs.Laws.Numbers.{pairs_end}
 use Rattle.forest.proofs.numbers.write_numbers.Goals as goal
 

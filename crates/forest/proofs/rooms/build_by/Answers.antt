@@ -4,7 +4,6 @@ use Rattle.record.specs.Answers.{verdict}
 use Rattle.record.specs.Operations.{check}
 use Rattle.record.specs.Laws.Sounded.{check_accepted}
 use Rattle.forest.proofs.Laws.Building.{done_refused}
-use borrow.Author.Rules.{rules}
 use Rattle.forest.proofs.rooms.build_by.Goals as goal
 
 pub build_from-requires : goal.build_from-requires

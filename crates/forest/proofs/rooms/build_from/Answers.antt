@@ -4,7 +4,6 @@ use mathlib.Core.Path.{sym, ◌∙◌}
 use Rattle.forest.specs.Laws.Taken.{taken_range, taken_inside}
 use Rattle.forest.proofs.Laws.Building.{done_short, done_misfit, done-unstarted, done-empty, done-written}
 use Rattle.forest.proofs.Laws.Building.{write_asked}
-use borrow.Author.Rules.{rules}
 use Rattle.forest.proofs.rooms.build_from.Goals as goal
 
 pub returns-then-work-n : goal.returns-then-work-n

@@ -1,7 +1,6 @@
 -- `rooms::in_large` meets its contract: its arrays are long enough.
 use native.Mathlib.Omega.{arith}
 use Rattle.record.specs.Laws.Lending.{roomy}
-use borrow.Author.Rules.{rules}
 use Rattle.forest.proofs.rooms.in_large.Goals as goal
 
 pub build_in-requires : goal.build_in-requires

@@ -1,8 +1,6 @@
 -- `roots::count_roots` meets its contract.
-use Prim.Native.Nat.{◌+◌, ◌-◌}
+use Prim.Native.Nat.{◌+◌}
 use mathlib.Core.Path.{sym, subst, ◌∙◌}
-use borrow.Author.Rules.{rules}
-use lib.ListN.{length}
 use Rattle.forest.proofs.Laws.Rooting.{Rooting, rooting_start, rooting_root, rooting_child, rooting_end}
 use Rattle.forest.proofs.roots.count_roots.Goals as goal
 use Rattle.forest.proofs.roots.count_roots.Goals.{then-get-eq0, else-get-eq0}

@@ -1,10 +1,7 @@
 -- `search::begin` meets its contract.
-use Prim.Native.Nat.{◌-◌}
 use mathlib.Core.Path.{◌≡◌}
 use native.Mathlib.Omega.{arith}
 use borrow.Author.Rules.{rules}
-use lib.ListN.{length}
-use Rattle.forest.specs.Steps.{Begun}
 use Rattle.forest.proofs.Laws.Starting.{starting_more}
 use Rattle.forest.proofs.search.begin.Goals as goal
 

@@ -1,5 +1,4 @@
 -- `search::enter` meets its contract: four stores in four parts.
-use borrow.Author.Rules.{rules}
 use Rattle.forest.proofs.Laws.Entering.{four_stores}
 use Rattle.forest.proofs.search.enter.Goals as goal
 

@@ -1,8 +1,5 @@
 -- `search::pass_visited` meets its contract: up to p all places lead to visited vertices.
-use Prim.Native.Nat.{◌-◌}
 use native.Mathlib.Omega.{arith}
-use borrow.Author.Rules.{rules}
-use Rattle.forest.specs.Steps.{PassedTo}
 use Rattle.forest.proofs.Laws.Passing.{passed_more, passed_stop}
 use Rattle.forest.proofs.search.pass_visited.Goals as goal
 

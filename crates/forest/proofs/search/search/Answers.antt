@@ -6,10 +6,8 @@ use Prim.Native.Nat.{◌-◌, ◌<◌}
 use native.Mathlib.Omega.{arith}
 use borrow.Author.Rules.{rules}
 use lib.Dec.{ltb}
-use lib.ListN.{length}
 use Rattle.graph.specs.Search.{count_up, starts_from}
-use Rattle.adjacency.specs.Arrays.{cut}
-use Rattle.forest.proofs.Laws.Begins.{From, searching_busy, search_begun, search_first, still_busy}
+use Rattle.forest.proofs.Laws.Begins.{searching_busy, search_begun, search_first, still_busy}
 use Rattle.forest.proofs.Laws.Begins.{search_ended}
 use Rattle.forest.proofs.search.search.Goals as goal
 use Rattle.forest.proofs.search.search.Goals.{In-loop-k}

@@ -1,16 +1,8 @@
 -- `search::search` meets its contract.
-use mathlib.Core.Path.{◌≡◌, refl}
-use mathlib.Core.Bool.{true, ◌||◌}
-use mathlib.Core.List.{◌∷◌}
-use Prim.Native.Nat.{◌-◌, ◌<◌}
-use native.Mathlib.Omega.{arith}
-use borrow.Author.Rules.{rules}
-use lib.Dec.{ltb}
+use mathlib.Core.Path.{◌≡◌}
 use lib.ListN.{length}
-use Rattle.graph.specs.Search.{count_up, starts_from}
 use Rattle.adjacency.specs.Arrays.{cut}
-use Rattle.forest.proofs.Laws.Begins.{From, searching_busy, search_begun, search_first, still_busy}
-use Rattle.forest.proofs.Laws.Begins.{search_ended}
+use Rattle.forest.proofs.Laws.Begins.{From}
 use Rattle.forest.proofs.search.search.Given as goal
 
 abbrev pub invariant-loop-k : goal.invariant-loop-k

@@ -1,6 +1,5 @@
 -- `start::no_start` meets its contract.
 use mathlib.Core.Path.{◌∙◌}
-use borrow.Author.Rules.{rules}
 use Rattle.forest.proofs.Laws.Building.{none_to_start, some_to_start}
 use Rattle.forest.proofs.start.no_start.Goals as goal
 

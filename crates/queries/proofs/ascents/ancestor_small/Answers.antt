@@ -2,7 +2,6 @@
 use mathlib.Core.Path.{sym}
 use Prim.Native.Nat.{◌+◌}
 use native.Mathlib.Omega.{arith}
-use borrow.Author.Rules.{rules}
 use Rattle.adjacency.specs.Laws.Stores.{part_zeros}
 use Rattle.queries.proofs.ascents.ancestor_small.Goals as goal
 

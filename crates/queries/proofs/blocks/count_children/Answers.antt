@@ -1,5 +1,4 @@
 -- `blocks::count_children` meets its contract: E begins with the index.
-use borrow.Author.Rules.{rules}
 use Rattle.queries.proofs.Laws.Marked.{ones_told}
 use Rattle.queries.proofs.blocks.count_children.Goals as goal
 

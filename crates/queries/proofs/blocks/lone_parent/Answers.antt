@@ -1,5 +1,4 @@
 -- `blocks::lone_parent` meets its contract: P is the second section.
-use borrow.Author.Rules.{rules}
 use Rattle.queries.proofs.Laws.Marked.{marks_after, lone_told}
 use Rattle.queries.proofs.blocks.lone_parent.Goals as goal
 

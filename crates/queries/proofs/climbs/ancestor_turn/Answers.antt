@@ -2,10 +2,9 @@
 use Rattle.queries.proofs.Laws.Climbing.{starts_long, block_from, block_to, ancestor_yes, ancestor_step}
 use Rattle.queries.specs.Steps.{step_of}
 use Rattle.queries.specs.Queries.{step_up, ancestor_by, ancestor_next}
-use Rattle.queries.specs.View.{View, view_by}
+use Rattle.queries.specs.View.{view_by}
 use native.Mathlib.Omega.{arith}
 use mathlib.Core.Path.{◌≡◌, sym, ap, ◌∙◌}
-use borrow.Author.Rules.{rules}
 use Rattle.queries.proofs.climbs.ancestor_turn.Goals as goal
 use Rattle.queries.proofs.climbs.ancestor_turn.Goals.{After-get-b}
 

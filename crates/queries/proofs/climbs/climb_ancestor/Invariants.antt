@@ -1,18 +1,10 @@
 -- `climbs::climb_ancestor` meets its contract: what is left of the climb answers as the whole does.
-use mathlib.Core.Bool.{Bool}
-use mathlib.Core.Logic.{◌⊎◌, inl}
-use mathlib.Core.Path.{◌≡◌, sym, ap, ◌∙◌}
-use Prim.Native.Nat.{ℕ, ◌<◌}
-use native.Mathlib.Omega.{arith}
-use borrow.Author.Rules.{rules}
-use Rattle.record.specs.Answers.{Answer, refused}
-use Rattle.record.specs.Laws.Sounded.{sound_vertices}
+use mathlib.Core.Path.{◌≡◌}
+use Prim.Native.Nat.{◌<◌}
+use Rattle.record.specs.Answers.{refused}
 use Rattle.queries.specs.Queries.{ancestor_next, ancestor_of}
-use Rattle.queries.specs.Steps.{turn_of}
-use Rattle.queries.specs.View.{View, view_by}
-use Rattle.queries.specs.declared.climbs.Turn.{Turn}
-use Rattle.queries.proofs.Laws.Climbing.{climb, climb_stop, climb_on, climb_late}
-use Rattle.queries.proofs.Laws.Climbing.{ancestor_inside, ancestor_begin}
+use Rattle.queries.specs.View.{view_by}
+use Rattle.queries.proofs.Laws.Climbing.{climb}
 use Rattle.queries.proofs.climbs.climb_ancestor.Given as goal
 
 abbrev pub invariant-loop-left : goal.invariant-loop-left

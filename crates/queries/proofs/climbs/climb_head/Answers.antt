@@ -1,17 +1,16 @@
 -- `climbs::climb_head` meets its contract: what is left of the climb answers as the whole does.
-use mathlib.Core.Logic.{◌⊎◌, inl}
+use mathlib.Core.Logic.{inl}
 use mathlib.Core.Path.{◌≡◌, sym, ap, ◌∙◌}
-use Prim.Native.Nat.{ℕ, ◌<◌}
+use Prim.Native.Nat.{ℕ}
 use native.Mathlib.Numerals.{add-one}
 use native.Mathlib.Omega.{arith}
-use borrow.Author.Rules.{rules}
 use Rattle.record.specs.Answers.{Answer, refused, answered}
 use Rattle.record.specs.Laws.Sounded.{sound_vertices}
 use Rattle.queries.specs.Queries.{head_next, head_of}
 use Rattle.queries.specs.Steps.{move_of}
-use Rattle.queries.specs.View.{View, view_by}
+use Rattle.queries.specs.View.{view_by}
 use Rattle.queries.specs.declared.climbs.Move.{Move}
-use Rattle.queries.proofs.Laws.Climbing.{climb, climb_stop, climb_on, climb_late, head_inside, head_begin}
+use Rattle.queries.proofs.Laws.Climbing.{climb_stop, climb_on, climb_late, head_inside, head_begin}
 use Rattle.queries.proofs.climbs.climb_head.Goals as goal
 use Rattle.queries.proofs.climbs.climb_head.Goals.{After-head_move}
 

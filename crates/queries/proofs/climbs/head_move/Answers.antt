@@ -7,7 +7,6 @@ use Rattle.queries.specs.View.{View, view_by, section_of, block_marks}
 use native.Mathlib.Omega.{arith}
 use Prim.Native.Nat.{ℕ, ◌+◌, ◌*◌, ◌<◌}
 use mathlib.Core.Path.{◌≡◌, sym, ap, ◌∙◌}
-use borrow.Author.Rules.{rules}
 use Rattle.queries.proofs.climbs.head_move.Goals as goal
 use Rattle.queries.proofs.climbs.head_move.Goals.{After-get-b, Start}
 

@@ -1,7 +1,6 @@
 -- `columns::fill` meets its contract.
 use Rattle.queries.specs.Laws.Ready.{ready_beside}
 use Rattle.queries.proofs.Laws.Tabling.{filled}
-use borrow.Author.Rules.{rules}
 use Rattle.queries.proofs.columns.fill.Goals as goal
 
 pub fill_starts-requires : goal.fill_starts-requires

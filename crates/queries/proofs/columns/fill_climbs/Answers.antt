@@ -1,8 +1,6 @@
 -- `columns::fill_climbs` meets its contract.
 use Rattle.queries.specs.Laws.Ready.{ready_beside}
 use Rattle.queries.proofs.Laws.Tabling.{reached_begin, reached_put, reached_end, stored_apart, order_cell}
-use Rattle.queries.specs.Filling.{ParentsTo, HeadsTo}
-use Prim.Native.Nat.{◌-◌}
 use native.Mathlib.Omega.{arith}
 use mathlib.Core.Path.{sym, ◌∙◌}
 use Rattle.queries.proofs.columns.fill_climbs.Goals as goal

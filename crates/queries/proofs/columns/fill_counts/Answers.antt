@@ -2,10 +2,6 @@
 use Rattle.queries.proofs.Laws.Tabling.{cells_begin, cells_put, cells_end, apart_self, block_span, count_cell}
 use Rattle.queries.proofs.Laws.Tabling.{count_small}
 use Rattle.queries.proofs.Laws.Climbing.{starts_long}
-use Rattle.queries.specs.View.{view_by}
-use Rattle.queries.specs.Queries.{child_count}
-use Rattle.queries.specs.Filling.{Cells}
-use Prim.Native.Nat.{◌-◌}
 use native.Mathlib.Omega.{arith}
 use mathlib.Core.Path.{refl, sym, ◌∙◌}
 use Rattle.queries.proofs.columns.fill_counts.Goals as goal

@@ -1,11 +1,7 @@
 -- `columns::fill_visits` meets its contract.
-use Rattle.queries.proofs.Laws.Tabling.{cells_begin, cells_put, cells_end, apart_self}
 use Rattle.queries.specs.View.{number_of}
 use Rattle.queries.specs.Filling.{Cells}
 use Prim.Native.Nat.{suc, ◌-◌}
-use native.Mathlib.Omega.{arith}
-use mathlib.Core.Path.{refl, sym, ap, ◌∙◌}
-use native.Mathlib.Numerals.{add-one}
 use Rattle.queries.proofs.columns.fill_visits.Given as goal
 
 abbrev pub invariant-loop-v : goal.invariant-loop-v

@@ -6,7 +6,6 @@ use Rattle.queries.proofs.Laws.Climbing.{starts_long, block_from, block_to, rise
 use Rattle.queries.specs.Steps.{step_of}
 use native.Mathlib.Omega.{arith}
 use mathlib.Core.Path.{sym, ap, ◌∙◌}
-use borrow.Author.Rules.{rules}
 use Rattle.queries.proofs.columns.place_of.Goals as goal
 
 pub get-a-requires : goal.get-a-requires

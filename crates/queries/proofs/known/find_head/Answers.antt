@@ -2,21 +2,20 @@
 -- it leads.
 use mathlib.Core.Path.{◌≡◌, sym, ap, ◌∙◌}
 use mathlib.Core.Logic.{inl}
-use Prim.Native.Nat.{ℕ, suc, ◌+◌, ◌-◌, ◌<◌}
+use Prim.Native.Nat.{ℕ, suc, ◌+◌, ◌<◌}
 use native.Mathlib.Numerals.{add-one}
 use native.Mathlib.Omega.{arith}
-use borrow.Author.Rules.{rules}
 use lib.ListN.{length}
 use Rattle.record.specs.Answers.{answered}
 use Rattle.record.specs.Laws.Sounded.{sound_vertices}
 use Rattle.queries.specs.Queries.{head_next}
 use Rattle.queries.specs.Steps.{move_of}
-use Rattle.queries.specs.View.{View, view_by}
+use Rattle.queries.specs.View.{view_by}
 use Rattle.queries.specs.Looking.{HeadIs}
 use Rattle.queries.specs.declared.climbs.Move.{Move}
 use Rattle.queries.proofs.Laws.Climbing.{head_inside}
 use Rattle.queries.proofs.Laws.Knowing.{head_here, WayTo, way_put, way_head, way_kept, way_lent}
-use Rattle.queries.proofs.Laws.Knowing.{Climbed, climbed_begins, climbed_known, climbed_stops, climbed_on}
+use Rattle.queries.proofs.Laws.Knowing.{climbed_begins, climbed_known, climbed_stops, climbed_on}
 use Rattle.queries.proofs.Laws.Knowing.{climbed_late}
 use Rattle.queries.proofs.known.find_head.Goals as goal
 use Rattle.queries.proofs.known.find_head.Goals.{After-head_move, After-put, At-loop-k}

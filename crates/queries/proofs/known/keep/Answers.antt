@@ -1,6 +1,6 @@
 -- `known::keep` meets its contract: the first i vertices of the way have the head.
 use mathlib.Core.Path.{◌≡◌, ap, subst, ◌∙◌}
-use Prim.Native.Nat.{ℕ, ◌-◌, ◌≤◌}
+use Prim.Native.Nat.{ℕ}
 use native.Mathlib.Omega.{arith}
 use lib.ListN.{set}
 use Rattle.queries.specs.Looking.{Kept}

@@ -1,10 +1,6 @@
 -- `known::keep` meets its contract: the first i vertices of the way have the head.
-use mathlib.Core.Path.{◌≡◌, ap, subst, ◌∙◌}
-use Prim.Native.Nat.{ℕ, ◌-◌, ◌≤◌}
-use native.Mathlib.Omega.{arith}
-use lib.ListN.{set}
+use Prim.Native.Nat.{◌-◌, ◌≤◌}
 use Rattle.queries.specs.Looking.{Kept}
-use Rattle.queries.proofs.Laws.Knowing.{keep_none, keep_one}
 use Rattle.queries.proofs.known.keep.Given as goal
 
 abbrev pub invariant-loop-i : goal.invariant-loop-i

@@ -3,7 +3,6 @@ use mathlib.Core.Path.{◌≡◌, sym, ap, ◌∙◌}
 use mathlib.Core.Bool.{false}
 use Prim.Native.Nat.{◌-◌}
 use native.Mathlib.Omega.{arith}
-use borrow.Author.Rules.{rules}
 use Rattle.queries.specs.Answers.{terminal, numbered}
 use Rattle.queries.specs.Queries.{head_of}
 use Rattle.queries.specs.Steps.{Ranged}

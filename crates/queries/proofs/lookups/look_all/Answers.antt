@@ -1,14 +1,12 @@
 -- `lookups::look_all` meets its contract: the terminals before cell i are answered.
 use mathlib.Core.Path.{◌≡◌, sym, ap, ◌∙◌}
-use Prim.Native.Nat.{◌-◌, ◌<◌}
+use Prim.Native.Nat.{◌<◌}
 use native.Mathlib.Omega.{arith}
-use borrow.Author.Rules.{rules}
 use lib.ListN.{length, get_or}
-use Rattle.queries.specs.View.{view_by}
-use Rattle.queries.specs.Lookup.{lists, head_and_visit}
-use Rattle.queries.specs.Looking.{Known, looked_of}
+use Rattle.queries.specs.Lookup.{head_and_visit}
+use Rattle.queries.specs.Looking.{looked_of}
 use Rattle.queries.specs.declared.lookups.Looked.{Looked}
-use Rattle.queries.proofs.Laws.Looking.{both_near, LookingAt, looking_begins, looking_heads}
+use Rattle.queries.proofs.Laws.Looking.{both_near, looking_begins, looking_heads}
 use Rattle.queries.proofs.Laws.Looking.{looking_visits, looking_stops, looking_on, looking_ends}
 use Rattle.queries.proofs.lookups.look_all.Goals as goal
 use Rattle.queries.proofs.lookups.look_all.Goals.{After-look, At-loop-i}

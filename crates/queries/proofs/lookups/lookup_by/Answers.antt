@@ -1,10 +1,9 @@
 -- `lookups::lookup_by` meets its contract: the lists are written once the last answer is known.
 use mathlib.Core.Path.{◌≡◌, sym, ap, ap₂, ◌∙◌}
 use Prim.Native.Nat.{◌≤◌}
-use borrow.Author.Rules.{rules}
 use lib.ListN.{length}
 use Rattle.record.specs.Answers.{verdict}
-use Rattle.queries.specs.Lookup.{Lists, lists}
+use Rattle.queries.specs.Lookup.{lists}
 use Rattle.queries.proofs.Laws.Looking.{lookup_refused, lookup_filled, lists_fit}
 use Rattle.queries.proofs.lookups.lookup_by.Goals as goal
 use Rattle.queries.proofs.lookups.lookup_by.Goals.{After-look_all, Start}

@@ -1,7 +1,6 @@
 -- `lookups::lookup_cut` meets its contract: the parts lent are of the exact length.
 use mathlib.Core.Path.{sym}
 use Prim.Native.Nat.{◌≤◌}
-use borrow.Author.Rules.{rules}
 use lib.ListN.{length}
 use lib.Seq.{length-take-le}
 use Rattle.adjacency.specs.Laws.Stores.{part_zeros}

@@ -1,6 +1,5 @@
 -- `lookups::lookup_full` meets its contract: its arrays are long enough.
 use native.Mathlib.Omega.{arith}
-use borrow.Author.Rules.{rules}
 use Rattle.queries.proofs.Laws.Knowing.{room}
 use Rattle.queries.proofs.lookups.lookup_full.Goals as goal
 

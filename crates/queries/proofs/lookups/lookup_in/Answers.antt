@@ -1,8 +1,7 @@
 -- `lookups::lookup_in` meets its contract: rule 15, and then the list.
 use mathlib.Core.Path.{◌≡◌, sym, ◌∙◌}
 use mathlib.Core.Bool.{Bool}
-use borrow.Author.Rules.{rules}
-use Rattle.queries.specs.Lookup.{Lists, lists, bad_list}
+use Rattle.queries.specs.Lookup.{lists, bad_list}
 use Rattle.queries.proofs.Laws.Looking.{lookup_bad}
 use Rattle.queries.proofs.lookups.lookup_in.Goals as goal
 use Rattle.queries.proofs.lookups.lookup_in.Goals.{After-bad_list}

@@ -1,6 +1,5 @@
 -- `lookups::lookup_small` meets its contract: its arrays are long enough.
 use native.Mathlib.Omega.{arith}
-use borrow.Author.Rules.{rules}
 use Rattle.queries.proofs.Laws.Knowing.{room}
 use Rattle.queries.proofs.lookups.lookup_small.Goals as goal
 

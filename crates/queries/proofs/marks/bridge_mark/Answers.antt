@@ -3,7 +3,6 @@ use Rattle.queries.specs.Laws.Framed.{section_at, marks_fit}
 use native.Mathlib.Omega.{arith}
 use Prim.Native.Nat.{◌*◌}
 use mathlib.Core.Path.{◌∙◌}
-use borrow.Author.Rules.{rules}
 use Rattle.queries.proofs.marks.bridge_mark.Goals as goal
 
 pub mark-requires : goal.mark-requires

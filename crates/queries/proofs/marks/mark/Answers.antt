@@ -2,7 +2,6 @@
 use Rattle.bits.specs.Laws.Rank.{bit_held}
 use Prim.Native.Nat.{◌+◌, ◌*◌}
 use mathlib.Core.Path.{sym, ◌∙◌}
-use borrow.Author.Rules.{rules}
 use Rattle.queries.proofs.marks.mark.Goals as goal
 
 pub returns : goal.returns

@@ -1,6 +1,5 @@
 -- `marks::stored` meets its contract: a stored number is a field of the index.
 use native.Mathlib.Omega.{arith}
-use borrow.Author.Rules.{rules}
 use Rattle.queries.specs.Laws.Framed.{numbers_fit, number_at}
 use Rattle.queries.proofs.marks.stored.Goals as goal
 

@@ -1,6 +1,5 @@
 -- `marks::stored_four` meets its contract: stored numbers are fields of the index, and a word lies in five of them.
 use native.Mathlib.Omega.{arith}
-use borrow.Author.Rules.{rules}
 use Rattle.queries.specs.Laws.Framed.{numbers_fit, number_at}
 use Rattle.queries.proofs.marks.stored_four.Goals as goal
 

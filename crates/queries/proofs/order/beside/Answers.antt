@@ -1,6 +1,5 @@
 -- `order::beside` meets its contract.
 use Rattle.queries.proofs.Laws.Ordered.{record_refused, order_sound, index_misfit, index_fits}
-use borrow.Author.Rules.{rules}
 use Rattle.queries.proofs.order.beside.Goals as goal
 
 pub index_length-requires : goal.index_length-requires

@@ -1,6 +1,5 @@
 -- `order::order_q` meets its contract.
 use Rattle.queries.proofs.Laws.Ordered.{beside_refused, number_outside, order_passed}
-use borrow.Author.Rules.{rules}
 use Rattle.queries.proofs.order.order_q.Goals as goal
 
 pub returns-then-out_of_range : goal.returns-then-out_of_range

@@ -1,7 +1,6 @@
 -- `pair::heads_of_two` meets its contract.
 use Rattle.queries.proofs.Laws.Paired.{paired}
 use mathlib.Core.Path.{sym, ◌∙◌}
-use borrow.Author.Rules.{rules}
 use Rattle.queries.proofs.pair.heads_of_two.Goals as goal
 
 pub returns : goal.returns

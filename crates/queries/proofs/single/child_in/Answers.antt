@@ -1,7 +1,6 @@
 -- `single::child_in` meets its contract.
 use Prim.Native.Nat.{◌-◌}
 use native.Mathlib.Omega.{arith}
-use borrow.Author.Rules.{rules}
 use Rattle.queries.specs.View.{view_by}
 use Rattle.queries.proofs.Laws.Ones.{positive}
 use Rattle.queries.proofs.Laws.Singles.{Room, block_room, no_first}

@@ -1,7 +1,6 @@
 -- `single::children_in` meets its contract.
 use Prim.Native.Nat.{◌-◌}
 use native.Mathlib.Omega.{arith}
-use borrow.Author.Rules.{rules}
 use Rattle.queries.specs.Laws.Asked.{vertex_in}
 use Rattle.queries.proofs.Laws.Singles.{Room, block_room, children_counted}
 use Rattle.queries.proofs.single.children_in.Goals as goal

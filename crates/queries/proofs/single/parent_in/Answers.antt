@@ -3,7 +3,6 @@ use mathlib.Core.Option.{some}
 use Prim.Native.Nat.{ℕ}
 use mathlib.Core.Path.{sym, ap, ◌∙◌}
 use native.Mathlib.Omega.{arith}
-use borrow.Author.Rules.{rules}
 use native.Mathlib.Numerals.{add-one}
 use Rattle.record.specs.Answers.{answered}
 use Rattle.queries.specs.Laws.Asked.{vertex_in}

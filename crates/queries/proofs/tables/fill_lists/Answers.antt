@@ -2,7 +2,6 @@
 use Prim.Native.Nat.{◌+◌, ◌≤◌}
 use mathlib.Core.Path.{sym}
 use native.Mathlib.Omega.{arith}
-use borrow.Author.Rules.{rules}
 use Rattle.adjacency.specs.Laws.Stores.{part_zeros}
 use Rattle.queries.specs.Laws.Ready.{ready_beside}
 use Rattle.queries.proofs.tables.fill_lists.Goals as goal

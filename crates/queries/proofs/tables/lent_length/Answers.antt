@@ -1,7 +1,6 @@
 -- `tables::lent_length` meets its contract.
 use mathlib.Core.Path.{sym, ◌∙◌}
 use native.Mathlib.Omega.{arith}
-use borrow.Author.Rules.{rules}
 use Rattle.queries.proofs.Laws.Rooms.{index_short, one_more, as_long}
 use Rattle.queries.proofs.tables.lent_length.Goals as goal
 

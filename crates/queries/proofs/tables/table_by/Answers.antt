@@ -2,7 +2,6 @@
 use Rattle.record.specs.Answers.{verdict, answered}
 use Rattle.forest.specs.Operations.{build}
 use mathlib.Core.Path.{◌≡◌, sym, ap, ◌∙◌}
-use borrow.Author.Rules.{rules}
 use Rattle.queries.specs.Table.{Columns, columns}
 use Rattle.queries.proofs.Laws.TableRules.{table_refused, table_ready, table_fits, table_done, lists_fit}
 use Rattle.queries.proofs.tables.table_by.Goals as goal

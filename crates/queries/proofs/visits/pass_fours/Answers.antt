@@ -1,6 +1,6 @@
 -- `visits::pass_fours` meets its contract: the numbers that were read are others.
 use mathlib.Core.Path.{refl}
-use Prim.Native.Nat.{ℕ, ◌+◌, ◌-◌, ◌≤◌}
+use Prim.Native.Nat.{◌+◌, ◌≤◌}
 use native.Mathlib.Omega.{arith}
 use Rattle.queries.specs.Steps.{Passed}
 use Rattle.queries.proofs.Laws.Visiting.{passed_none, passed_one}

@@ -1,9 +1,6 @@
 -- `visits::pass_fours` meets its contract: the numbers that were read are others.
-use mathlib.Core.Path.{refl}
-use Prim.Native.Nat.{ℕ, ◌+◌, ◌-◌, ◌≤◌}
-use native.Mathlib.Omega.{arith}
+use Prim.Native.Nat.{◌-◌}
 use Rattle.queries.specs.Steps.{Passed}
-use Rattle.queries.proofs.Laws.Visiting.{passed_none, passed_one}
 use Rattle.queries.proofs.visits.pass_fours.Given as goal
 
 abbrev pub invariant-loop-u : goal.invariant-loop-u

@@ -5,7 +5,6 @@ use Rattle.queries.specs.View.{view_by}
 use Rattle.queries.specs.Laws.Asked.{vertex_in}
 use Prim.Native.Nat.{◌-◌}
 use native.Mathlib.Omega.{arith}
-use borrow.Author.Rules.{rules}
 use Rattle.queries.proofs.visits.visit_in.Goals as goal
 
 pub overflow_sub-v : goal.overflow_sub-v

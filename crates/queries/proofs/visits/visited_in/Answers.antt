@@ -1,9 +1,7 @@
 -- `visits::visited_in` meets its contract: the numbers that were read are others, up to the first that is not.
 use mathlib.Core.Path.{refl}
-use Prim.Native.Nat.{◌+◌, ◌-◌}
+use Prim.Native.Nat.{◌+◌}
 use native.Mathlib.Omega.{arith}
-use borrow.Author.Rules.{rules}
-use Rattle.queries.specs.Steps.{Passed}
 use Rattle.queries.proofs.Laws.Visiting.{passed_one, next_told, none_told}
 use Rattle.queries.proofs.visits.visited_in.Goals as goal
 

@@ -7,7 +7,6 @@ use lib.ListN.{length}
 use Rattle.adjacency.specs.Arrays.{Divided}
 use Rattle.record.specs.Steps.{ArraysOf, Lent}
 use Rattle.record.specs.Laws.Unpacked.{divided_of, starts_of_lem, nbrs_of, check_told}
-use borrow.Author.Rules.{rules}
 use Rattle.record.proofs.arrays.check_arrays.Goals as goal
 
 -- the room is as long as the arrays ask
@@ -26,8 +25,7 @@ try_rules-requires c =
     let (d, l) = tried-by c.requires.lent c.fill_arrays.ensures in record { divided = d; reverse_len = l }
 
 pub returns : goal.returns
-returns c =
-    (
-      check_told c.requires.laid c.fill_arrays.ensures c.try_rules.ensures,
-      c.fill_arrays.ensures,
-    )
+returns c = (
+  check_told c.requires.laid c.fill_arrays.ensures c.try_rules.ensures,
+  c.fill_arrays.ensures,
+)

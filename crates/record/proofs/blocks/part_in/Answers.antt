@@ -3,7 +3,6 @@ use Prim.Native.Nat.{◌≤◌, ◌<◌}
 use mathlib.Core.Bool.{false}
 use mathlib.Core.Path.{◌≡◌, sym, ◌∙◌}
 use native.Mathlib.Omega.{arith}
-use borrow.Author.Rules.{rules}
 use Rattle.record.specs.Operations.{out_of_range}
 use Rattle.record.specs.Laws.Range.{range_inside}
 use Rattle.record.specs.Laws.OneBlock.{outside, places_rise, part_outside, part_misfit, part_spanned}

@@ -1,9 +1,7 @@
 -- `clear::clear` meets its contract: the zeros reach from the front.
-use borrow.Author.Rules.{rules}
 use Prim.Native.Nat.{◌-◌}
-use native.Mathlib.Omega.{arith}
-use lib.ListN.{length, length-set}
-use Rattle.adjacency.specs.Laws.Zeros.{Zeroed, zeroed_start, zeroed_more, zeroed_end}
+use lib.ListN.{length}
+use Rattle.adjacency.specs.Laws.Zeros.{Zeroed}
 use Rattle.record.proofs.clear.clear.Given as goal
 
 abbrev pub invariant-loop-i : goal.invariant-loop-i

@@ -1,6 +1,5 @@
 -- `fields::field` meets its contract.
 use mathlib.Core.Path.{◌∙◌}
-use borrow.Author.Rules.{rules}
 use Rattle.record.specs.Laws.Sounded.{sound_field}
 use Rattle.record.proofs.fields.field.Goals as goal
 

@@ -1,10 +1,7 @@
 -- `fields::read_fields` meets its contract: the list is filled on to its end.
 use mathlib.Core.Path.{ap, ◌∙◌}
-use Prim.Native.Nat.{◌-◌}
 use native.Mathlib.Omega.{arith}
 use lib.ListN.{length, length-set}
-use Rattle.bits.specs.Bits.{bits}
-use Rattle.record.specs.Steps.{Reading}
 use Rattle.record.proofs.Laws.Reading.Unpacked.{reads_more, reads_end}
 use Rattle.record.proofs.fields.read_fields.Goals as goal
 

@@ -1,6 +1,5 @@
 -- `fields::read_four` meets its contract: the list is filled on by four fields.
 use Rattle.record.proofs.Laws.Reading.Unpacked.{reads_four}
-use borrow.Author.Rules.{rules}
 use Rattle.record.proofs.fields.read_four.Goals as goal
 
 pub returns : goal.returns

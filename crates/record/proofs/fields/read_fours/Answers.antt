@@ -1,10 +1,8 @@
 -- `fields::read_fours` meets its contract: the list is filled from the front, by fours.
 use mathlib.Core.Path.{refl}
-use Prim.Native.Nat.{◌-◌}
 use native.Mathlib.Omega.{arith}
 use lib.ListN.{length}
 use Rattle.bits.specs.Bits.{bits}
-use Rattle.record.specs.Steps.{Reading}
 use Rattle.record.proofs.Laws.Reading.Unpacked.{reads_start}
 use Rattle.record.proofs.fields.read_fours.Goals as goal
 

@@ -2,7 +2,6 @@
 use mathlib.Core.Bool.{not}
 use mathlib.Core.Path.{◌∙◌, ap, sym}
 use native.Mathlib.Omega.{arith}
-use borrow.Author.Rules.{rules}
 use Rattle.record.specs.Record.{used_bits}
 use Rattle.record.proofs.Laws.Reading.Headers.{holds_all, ones_differ, no_first, first_is}
 use Rattle.record.proofs.header.bad_unary.Goals as goal

@@ -1,6 +1,5 @@
 -- `header::laid_out` meets its contract: order R first, and then rule 5.
 use mathlib.Core.Path.{sym, ap, ◌∙◌}
-use borrow.Author.Rules.{rules}
 use Rattle.record.specs.Answers.{shape}
 use Rattle.record.specs.Laws.Sounded.{told_sound}
 use Rattle.record.proofs.Laws.Reading.Headers.{layout_refused, layout_spare, layout_kept}

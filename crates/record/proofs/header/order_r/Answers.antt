@@ -2,7 +2,6 @@
 use mathlib.Core.Path.{◌∙◌, ap₂, sym}
 use Prim.Native.Nat.{ℕ}
 use native.Mathlib.Omega.{arith}
-use borrow.Author.Rules.{rules}
 use Rattle.record.specs.Answers.{Answer, answered, sizes_of}
 use Rattle.record.specs.Record.{terminals, wires, record_length}
 use Rattle.record.specs.declared.Sizes.{Sizes}

@@ -1,8 +1,6 @@
 -- `header::spare_set` meets its contract: fewer than eight bits are left, and their ones are counted.
 use mathlib.Core.Path.{refl}
 use Prim.Native.Nat.{◌+◌, ◌-◌, ◌*◌}
-use native.Mathlib.Omega.{arith}
-use borrow.Author.Rules.{rules}
 use lib.ListN.{length}
 use Rattle.record.specs.Laws.Sounded.{spare_counted}
 use Rattle.record.proofs.header.spare_set.Goals as goal

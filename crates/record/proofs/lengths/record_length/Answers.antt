@@ -1,6 +1,5 @@
 -- `lengths::record_length` meets its contract.
 use mathlib.Core.Path.{refl}
-use borrow.Author.Rules.{rules}
 use Rattle.record.specs.Record.{used_bits, record_length}
 use Rattle.record.proofs.lengths.record_length.Goals as goal
 

@@ -1,7 +1,6 @@
 -- `list_rooms::in_full` meets its contract: its arrays are long enough.
 use native.Mathlib.Omega.{arith}
 use Rattle.record.specs.Laws.Lending.{roomy}
-use borrow.Author.Rules.{rules}
 use Rattle.record.proofs.list_rooms.in_full.Goals as goal
 
 pub try_in-requires : goal.try_in-requires

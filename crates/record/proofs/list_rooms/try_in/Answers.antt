@@ -4,7 +4,6 @@ use native.Mathlib.Omega.{arith}
 use lib.Seq.{length-take-le}
 use Rattle.record.specs.Laws.Lending.{lent}
 use Rattle.record.specs.Laws.Listed.{listed_pairs}
-use borrow.Author.Rules.{rules}
 use Rattle.record.proofs.list_rooms.try_in.Goals as goal
 
 pub slice_bounds-try_lists-end-3 : goal.slice_bounds-try_lists-end-3

@@ -1,5 +1,4 @@
 -- `lists::bad_lists` meets its contract: the four grounds of rule 16, one after the other.
-use borrow.Author.Rules.{rules}
 use Rattle.record.proofs.Laws.Telling.Filing.{many_bad, odd_bad, big_bad, other_bad}
 use Rattle.record.proofs.lists.bad_lists.Goals as goal
 

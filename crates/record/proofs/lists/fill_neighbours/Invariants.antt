@@ -1,12 +1,9 @@
 -- `lists::fill_neighbours` meets its contract: the list is filled from the front.
-use mathlib.Core.Path.{sym, ap, ◌∙◌}
 use mathlib.Core.List.{map}
 use Prim.Native.Nat.{◌-◌}
-use native.Mathlib.Omega.{arith}
-use lib.ListN.{length, length-map}
-use Rattle.adjacency.specs.Laws.InOrder.{InOrder, order_start, order_more, order_end}
+use lib.ListN.{length}
+use Rattle.adjacency.specs.Laws.InOrder.{InOrder}
 use Rattle.record.specs.Steps.{vertex_of}
-use Rattle.record.specs.Laws.Mapped.{map_at}
 use Rattle.record.proofs.lists.fill_neighbours.Given as goal
 
 abbrev pub invariant-loop-i : goal.invariant-loop-i

@@ -1,9 +1,8 @@
 -- `lists::fill_starts` meets its contract: each sum is entered, and the whole one at the end.
 use mathlib.Core.Path.{ap, ◌∙◌}
-use Prim.Native.Nat.{◌-◌}
 use native.Mathlib.Omega.{arith}
 use lib.ListN.{length, length-set}
-use Rattle.record.proofs.Laws.Reading.Summing.{Starting, starting_start, starting_more, starting_size}
+use Rattle.record.proofs.Laws.Reading.Summing.{starting_start, starting_more, starting_size}
 use Rattle.record.proofs.Laws.Reading.Summing.{starting_end, summing_most}
 use Rattle.record.proofs.lists.fill_starts.Goals as goal
 

@@ -1,10 +1,7 @@
 -- `lists::fill_starts` meets its contract: each sum is entered, and the whole one at the end.
-use mathlib.Core.Path.{ap, ◌∙◌}
 use Prim.Native.Nat.{◌-◌}
-use native.Mathlib.Omega.{arith}
-use lib.ListN.{length, length-set}
-use Rattle.record.proofs.Laws.Reading.Summing.{Starting, starting_start, starting_more, starting_size}
-use Rattle.record.proofs.Laws.Reading.Summing.{starting_end, summing_most}
+use lib.ListN.{length}
+use Rattle.record.proofs.Laws.Reading.Summing.{Starting}
 use Rattle.record.proofs.lists.fill_starts.Given as goal
 
 abbrev pub invariant-loop-v : goal.invariant-loop-v

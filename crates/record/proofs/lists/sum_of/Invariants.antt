@@ -1,8 +1,7 @@
 -- `lists::sum_of` meets its contract: the degrees are added up one after the other.
 use Prim.Native.Nat.{◌-◌}
-use native.Mathlib.Omega.{arith}
 use lib.ListN.{length}
-use Rattle.record.proofs.Laws.Reading.Summing.{Summing, summing_start, summing_more, summing_end}
+use Rattle.record.proofs.Laws.Reading.Summing.{Summing}
 use Rattle.record.proofs.lists.sum_of.Given as goal
 
 abbrev pub invariant-loop-v : goal.invariant-loop-v

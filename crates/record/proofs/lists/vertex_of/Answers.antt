@@ -1,7 +1,6 @@
 -- `lists::vertex_of` meets its contract.
 use mathlib.Core.Path.{sym}
 use native.Mathlib.Omega.{arith}
-use borrow.Author.Rules.{rules}
 use Rattle.record.specs.Laws.Filed.{less_one}
 use Rattle.record.proofs.lists.vertex_of.Goals as goal
 

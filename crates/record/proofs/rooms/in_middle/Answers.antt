@@ -1,7 +1,6 @@
 -- `rooms::in_middle` meets its contract: its arrays are long enough.
 use native.Mathlib.Omega.{arith}
 use Rattle.record.specs.Laws.Lending.{roomy}
-use borrow.Author.Rules.{rules}
 use Rattle.record.proofs.rooms.in_middle.Goals as goal
 
 pub unpack_in-requires : goal.unpack_in-requires

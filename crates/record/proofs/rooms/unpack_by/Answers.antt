@@ -2,7 +2,6 @@
 use mathlib.Core.Path.{sym, ap, ◌∙◌}
 use Rattle.record.specs.Answers.{verdict}
 use Rattle.record.proofs.Laws.Telling.Unpacking.{short_of, handed_refused, handed_misfit, handed_done}
-use borrow.Author.Rules.{rules}
 use Rattle.record.proofs.rooms.unpack_by.Goals as goal
 
 pub hand_on-requires : goal.hand_on-requires

@@ -2,7 +2,6 @@
 use mathlib.Core.Path.{sym}
 use lib.Seq.{length-take-le}
 use Rattle.record.specs.Laws.Lending.{lent}
-use borrow.Author.Rules.{rules}
 use Rattle.record.proofs.rooms.unpack_in.Goals as goal
 
 pub slice_bounds-unpack_by-end-2 : goal.slice_bounds-unpack_by-end-2

@@ -2,7 +2,6 @@
 -- rule 6.
 use Rattle.adjacency.specs.Laws.Tells.{told_yes, told_no}
 use Rattle.record.proofs.Laws.Telling.InTurn.{turn_6, turn_8, kept_told}
-use borrow.Author.Rules.{rules}
 use Rattle.record.proofs.rules.try_rules.Goals as goal
 
 pub returns-then-all_mutual : goal.returns-then-all_mutual

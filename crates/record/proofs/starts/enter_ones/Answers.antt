@@ -3,8 +3,6 @@ use Prim.Native.Nat.{◌+◌, ◌≤◌, ◌<◌}
 use native.Mathlib.Omega.{arith}
 use lib.ListN.{length}
 use lib.Pow.{pow_pos}
-use Rattle.record.specs.Record.{unary}
-use Rattle.record.specs.Steps.{Entering}
 use Rattle.record.proofs.Laws.Reading.Filled.{entering_bounds, entering_more, entering_end}
 use Rattle.record.proofs.starts.enter_ones.Goals as goal
 use Rattle.record.proofs.starts.enter_ones.Goals.{After-top-h}

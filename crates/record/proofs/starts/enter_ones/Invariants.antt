@@ -1,11 +1,6 @@
 -- `starts::enter_ones` meets its contract: each turn enters the start of the highest one that is left.
-use Prim.Native.Nat.{◌+◌, ◌≤◌, ◌<◌}
-use native.Mathlib.Omega.{arith}
-use lib.ListN.{length}
-use lib.Pow.{pow_pos}
 use Rattle.record.specs.Record.{unary}
 use Rattle.record.specs.Steps.{Entering}
-use Rattle.record.proofs.Laws.Reading.Filled.{entering_bounds, entering_more, entering_end}
 use Rattle.record.proofs.starts.enter_ones.Given as goal
 
 abbrev pub invariant-loop-left : goal.invariant-loop-left

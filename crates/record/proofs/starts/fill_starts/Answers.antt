@@ -4,7 +4,6 @@ use Prim.Native.Nat.{◌-◌}
 use native.Mathlib.Omega.{arith}
 use lib.ListN.{length, length-set}
 use Rattle.record.specs.Record.{unary}
-use Rattle.record.specs.Steps.{Filling}
 use Rattle.record.proofs.Laws.Reading.Filled.{filling_start, filling_bounds, filling_end, entering_start}
 use Rattle.record.specs.Laws.Sounded.{sound_places, sound_ones, sound_part}
 use Rattle.record.proofs.starts.fill_starts.Goals as goal

@@ -1,12 +1,7 @@
 -- `starts::fill_starts` meets its contract: the starts of the blocks whose ones were read are entered.
-use mathlib.Core.Path.{ap, ◌∙◌}
 use Prim.Native.Nat.{◌-◌}
-use native.Mathlib.Omega.{arith}
-use lib.ListN.{length, length-set}
 use Rattle.record.specs.Record.{unary}
 use Rattle.record.specs.Steps.{Filling}
-use Rattle.record.proofs.Laws.Reading.Filled.{filling_start, filling_bounds, filling_end, entering_start}
-use Rattle.record.specs.Laws.Sounded.{sound_places, sound_ones, sound_part}
 use Rattle.record.proofs.starts.fill_starts.Given as goal
 
 abbrev pub invariant-loop-i : goal.invariant-loop-i

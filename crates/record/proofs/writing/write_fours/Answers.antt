@@ -3,11 +3,8 @@ use mathlib.Core.Path.{◌≡◌, refl, ◌∙◌}
 use mathlib.Core.List.{map}
 use Prim.Native.Nat.{◌+◌, ◌-◌, ◌*◌}
 use native.Mathlib.Omega.{arith}
-use lib.ListN.{length, length-map}
-use Rattle.bits.specs.Bits.{bits}
-use Rattle.bits.specs.Steps.{front_of}
+use lib.ListN.{length-map}
 use Rattle.bits.specs.Laws.Bytes.{length_bits}
-use Rattle.record.specs.Steps.{Laying}
 use Rattle.record.proofs.Laws.Writing.Fields.{laying_start, laying_same, laying_on}
 use Rattle.record.proofs.writing.write_fours.Goals as goal
 

@@ -1,14 +1,11 @@
 -- `writing::write_fours` meets its contract: the fields are written from the front, by fours.
-use mathlib.Core.Path.{◌≡◌, refl, ◌∙◌}
+use mathlib.Core.Path.{◌≡◌}
 use mathlib.Core.List.{map}
 use Prim.Native.Nat.{◌+◌, ◌-◌, ◌*◌}
-use native.Mathlib.Omega.{arith}
-use lib.ListN.{length, length-map}
+use lib.ListN.{length}
 use Rattle.bits.specs.Bits.{bits}
 use Rattle.bits.specs.Steps.{front_of}
-use Rattle.bits.specs.Laws.Bytes.{length_bits}
 use Rattle.record.specs.Steps.{Laying}
-use Rattle.record.proofs.Laws.Writing.Fields.{laying_start, laying_same, laying_on}
 use Rattle.record.proofs.writing.write_fours.Given as goal
 
 abbrev pub invariant-loop-i : goal.invariant-loop-i

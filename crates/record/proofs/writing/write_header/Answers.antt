@@ -1,7 +1,6 @@
 -- `writing::write_header` meets its contract: n and m are put behind each other.
 use mathlib.Core.Path.{refl, sym, ◌∙◌}
 use native.Mathlib.Omega.{arith}
-use borrow.Author.Rules.{rules}
 use Rattle.bits.specs.Laws.Begun.{begun_put}
 use Rattle.bits.specs.Laws.Digits.{length_to_bits}
 use Rattle.record.specs.Record.{header_bits}

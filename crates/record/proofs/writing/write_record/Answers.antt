@@ -1,7 +1,6 @@
 -- `writing::write_record` meets its contract: header, D and fields stand behind each other, and zeros behind them.
 use mathlib.Core.Path.{sym, ap, ◌∙◌}
 use native.Mathlib.Omega.{arith}
-use borrow.Author.Rules.{rules}
 use lib.ListN.{length, length-replicate}
 use Rattle.bits.specs.Laws.Begun.{begun_none, begun_blank, begun_on}
 use Rattle.record.specs.Laws.RoundTrip.{length_header_bits}
