@@ -34,19 +34,19 @@ def files(*endings):
 
 
 def of_function(path):
-    return re.search(r"/proofs/.+/Proof\.antt$", path) is not None
+    return re.search(r"/proofs/.+/(Proof|Answers|Invariants)\.antt$", path) is not None
 
 
 def declared():
-    """The names that are declared in specs/ and in the lemma files of proofs/, each with whether it is a definition."""
+    """The names that are declared in specs/ and proofs/, but for what Rattle asks for, each with whether it is a definition."""
     found = collections.defaultdict(set)
     for path in files(".antt"):
-        if of_function(path):
-            continue
         with open(path, encoding="utf-8") as f:
             for line in f:
+                if of_function(path) and re.search(r"\b(tie|goal|in_room_lts)\.|statement M$|: Measures |: In |Claims$", line):
+                    continue
                 m = DECLARED.match(line)
-                if m and not HEADED.match(line) and len(m.group(1)) <= 6 and m.group(2) not in ("let", "use", "where"):
+                if m and not HEADED.match(line) and len(m.group(1)) <= 12 and m.group(2) not in ("let", "use", "where"):
                     found[m.group(2)].add(bool(re.match(r"\s*(abbrev|unfoldable)", line)))
     return found
 

@@ -4,7 +4,7 @@
 --   window_here    the one stands in the first part
 --   window_goes    it stands later
 --   window_before  a word begins before the end
---   window-there   the one stands in that word
+--   window_there   the one stands in that word
 --   Standing       a one of a string, in a word
 --   span_bounds    where it stands
 --   span_top       where the next stands, in the same part
@@ -116,8 +116,8 @@ module _ {s : List Bool} {a b k n width w c : ℕ} (o : Opened s a b k n width w
 
       module _ {to x : ℕ} (there : PartOf s (8 * at) b to x) where
         -- the word has as many ones as are left to go
-        window-few : left ≤ ones x
-        window-few = go (dec_le (8 * at + 64) b)
+        window_few : left ≤ ones x
+        window_few = go (dec_le (8 * at + 64) b)
           where
             go : Dec (8 * at + 64 ≤ b) → left ≤ ones x
             go (yes h) =
@@ -134,8 +134,8 @@ module _ {s : List Bool} {a b k n width w c : ℕ} (o : Opened s a b k n width w
                 let z = between_add s a (8 * at) b (omega arith) (omega arith) in
                 omega arith
 
-        pub window-there : WindowOf s a b k (8 * at) to x left
-        window-there =
+        pub window_there : WindowOf s a b k (8 * at) to x left
+        window_there =
             let l = window_before in
             let f = after in
             record {
@@ -144,7 +144,7 @@ module _ {s : List Bool} {a b k n width w c : ℕ} (o : Opened s a b k n width w
               narrow = omega arith;
               same = there.same;
               some = r.sought.some;
-              few = window-few;
+              few = window_few;
               sum = window_sum;
               whole = λ h. omega arith;
             }

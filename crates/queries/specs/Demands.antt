@@ -44,7 +44,7 @@ use Rattle.queries.specs.Laws.Figured.{loops_marked, table_loops}
 use Rattle.queries.specs.Laws.Given.{never_seven}
 use Rattle.queries.specs.Laws.Sectioned as Sectioned
 use Rattle.queries.specs.Laws.Looked as Looked
-use Rattle.queries.specs.Laws.Looked.{lookup_cells, lookup-refuses-head, lookup-refuses-visit, lookup_none}
+use Rattle.queries.specs.Laws.Looked.{lookup_cells, lookup_refuses_head, lookup_refuses_visit, lookup_none}
 use Rattle.queries.specs.Laws.Looked.{lookup_built, head_gives, visit_gives}
 use Rattle.queries.specs.Lookup.{Lists, lists, bad_list, lookup, looked_up, BothAnswer, LookupCells}
 use Rattle.queries.specs.Table.{parents_on, heads_on, table_on, table_of, Tabled}
@@ -81,11 +81,11 @@ module _ (bytes index list : List ℕ) (lent : Lists) where
     -- a refusal by Head there is the call's, and so is one by Visit where Head answers
     pub lookup_head_refused : {k : ℕ} → head bytes index (get_or list i 0) ≡ refused k
         → lookup bytes index list lent ≡ refused k
-    lookup_head_refused = lookup-refuses-head bytes index list lent b g h before
+    lookup_head_refused = lookup_refuses_head bytes index list lent b g h before
 
     pub lookup_visit_refused : {k x : ℕ} → head bytes index (get_or list i 0) ≡ answered x
         → visit bytes index (get_or list i 0) ≡ refused k → lookup bytes index list lent ≡ refused k
-    lookup_visit_refused = lookup-refuses-visit bytes index list lent b g h before
+    lookup_visit_refused = lookup_refuses_visit bytes index list lent b g h before
 
 -- a list of none is answered, once order R, 10 and 15 are kept
 pub lookup_of_none : (bytes index : List ℕ) → first_broken (beside_rules bytes index) ≡ 0

@@ -56,15 +56,15 @@ module _ {starts nbrs : List ℕ} {u end p : ℕ} where
         no_vertex k = let l = length_cut starts nbrs in found (rw (le-leb (length (cut starts nbrs)) v (omega arith)))
 
         module _ (k : v < length starts - 1) where
-          pub own-neighbour : v ≡ u → Tells (Stray starts nbrs u) (Stray starts nbrs u) true
+          pub own_neighbour : v ≡ u → Tells (Stray starts nbrs u) (Stray starts nbrs u) true
           unfolding stray
-          own-neighbour e =
+          own_neighbour e =
               let l = length_cut starts nbrs in
               found (rw (lt-leb (length (cut starts nbrs)) v (omega arith), eq-eqb v u e))
 
-          pub strayless-more : (v ≡ u → ⊥) → Strayless starts nbrs u end (p + 1)
+          pub strayless_more : (v ≡ u → ⊥) → Strayless starts nbrs u end (p + 1)
           unfolding stray
-          strayless-more o =
+          strayless_more o =
               let l = length_cut starts nbrs in
               let e : stray (cut starts nbrs) u (get_or nbrs p 0) ≡ false =
               rw (sym is-v, lt-leb (length (cut starts nbrs)) v (omega arith), ne_eqb v u o) in

@@ -105,8 +105,8 @@ module _ {bytes : List ℕ} {start : ℕ} {work index : List ℕ} where
           ∙ first_broken_lem 10 _ (ap not (ne_eqb (length index) (index_length n m) h)))
 
       module _ (sized : length index ≡ index_length n m) where
-        pub done-unstarted : no_start n start ≡ true → BuildDone bytes start work index index (refused 14)
-        done-unstarted e = refuses (fitting start work index a r enough sized ∙ first_broken_lem 14 [] e)
+        pub done_unstarted : no_start n start ≡ true → BuildDone bytes start work index index (refused 14)
+        done_unstarted e = refuses (fitting start work index a r enough sized ∙ first_broken_lem 14 [] e)
 
         module _ (taken : no_start n start ≡ false) where
           done : {next : List ℕ} → next ≡ index_of (blocks bytes) (start - 1)
@@ -121,12 +121,12 @@ module _ {bytes : List ℕ} {start : ℕ} {work index : List ℕ} where
                     ∙ buffer_written (build_rules bytes start work index) (index_of (blocks bytes) (start - 1)) index f;
               }
 
-          pub done-empty : n ≡ 0 → BuildDone bytes start work index index (answered tt)
-          done-empty z = done (empty_index (start - 1) r.sound z sized)
+          pub done_empty : n ≡ 0 → BuildDone bytes start work index index (answered tt)
+          done_empty z = done (empty_index (start - 1) r.sound z sized)
 
-          pub done-written : {next : List ℕ} → next ≡ index_of (cut starts nbrs) (start - 1)
+          pub done_written : {next : List ℕ} → next ≡ index_of (cut starts nbrs) (start - 1)
               → BuildDone bytes start work index next (answered tt)
-          done-written e = done (e ∙ ap (λ (g : Blocks). index_of g (start - 1)) (graph_of r))
+          done_written e = done (e ∙ ap (λ (g : Blocks). index_of g (start - 1)) (graph_of r))
 
 -- what the index is written from
 pub write_asked : {bytes starts nbrs : List ℕ} {n m : ℕ} → Accepted bytes → ArraysOf bytes starts nbrs n m

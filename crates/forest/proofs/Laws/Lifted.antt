@@ -198,15 +198,15 @@ module _ {g : Blocks} {F : Forest} {n s k v : ℕ} {work : List ℕ} (many : len
         stored : Stored (length g) f.low_of (changed f.low_of (up - 1) least) (up - 1) least
         stored = stored_changed (length g) f.low_of (up - 1) least
 
-        is-least : x ≡ suc least
-        is-least =
+        is_least : x ≡ suc least
+        is_least =
             let q = is-a ∙ f.low_cells v inside ∙ ap (λ (y : ℕ). suc (f.low_of y)) vertex in
             let r = is_b ∙ f.low_cells (up - 1) (up_inside z) in
             omega arith
 
         cells : (y : ℕ) → y < n → Dec (y ≡ up - 1)
             → get_or next (5 * s + y) 0 ≡ suc (changed f.low_of (up - 1) least y)
-        cells y l (yes q) = rw q (cc (put_here p (lift_up z), is-least, stored.hit))
+        cells y l (yes q) = rw q (cc (put_here p (lift_up z), is_least, stored.hit))
         cells y l (no d) =
             let other = put_other p (5 * s + y) (λ q. d (omega arith)) in
             cc (f.low_cells y l, stored.rest y (omega arith) d)

@@ -3,7 +3,7 @@
 --   start_passed, start_entered  the start is visited, or it is not
 --   hand_vertex                  the vertex at hand is a vertex
 --   next_fits                    where the passing stopped there is a vertex, and room for it
---   next_left, next-entered      it stopped at the end of the block, or before it
+--   next_left, next_entered      it stopped at the end of the block, or before it
 use mathlib.Core.Path.{◌≡◌, refl, ap, ◌∙◌}
 use mathlib.Core.List.{List, ◌∷◌}
 use Prim.Native.Nat.{ℕ, suc, ◌+◌, ◌-◌, ◌*◌, ◌≤◌, ◌<◌}
@@ -118,8 +118,8 @@ module _ {starts nbrs : List ℕ} (a : Arrays starts nbrs) {n : ℕ} (fit : n + 
             let w = hand_vertex in
             put_other store i (λ q. omega arith)
 
-        tied-mid : Tied (cut starts nbrs) starts n s mid later t.slot_of
-        tied-mid = tied_next t.tied (suc pos) hand_vertex (loop_visited hand) store
+        tied_mid : Tied (cut starts nbrs) starts n s mid later t.slot_of
+        tied_mid = tied_next t.tied (suc pos) hand_vertex (loop_visited hand) store
 
         bit_is : p + suc u ≡ down_bit (cut starts nbrs) (suc u) pos
         unfolding down_bit
@@ -129,16 +129,16 @@ module _ {starts nbrs : List ℕ} (a : Arrays starts nbrs) {n : ℕ} (fit : n + 
             let q = start_cut a.divided u (omega arith) in
             omega arith
 
-        pub next-entered : Searching (cut starts nbrs) roots todo starts n s next (left - 1) (v + 1) (k + 1)
-        next-entered =
+        pub next_entered : Searching (cut starts nbrs) roots todo starts n s next (left - 1) (v + 1) (k + 1)
+        next_entered =
             let size = as_many starts nbrs fit in
             let inside = next_fits.0 in
             let x : Entering n s mid next v k (suc u) (p + suc u) = rw is-cur at e in
-            let z = tied-mid.fresh v (omega arith) (behind (2 * s + v) (omega arith) ∙ next_new) in
+            let z = tied_mid.fresh v (omega arith) (behind (2 * s + v) (omega arith) ∙ next_new) in
             let c = enters {n = n} pos work t.next_of later t.slot_of behind x z in
             let y = stored_changed (length (cut starts nbrs)) t.next_of u (suc pos) in
             let f = from_next in
             rw (add-one v, add-one k)
-            (searching (tied_enter tied-mid pos x bit_is)
+            (searching (tied_enter tied_mid pos x bit_is)
             (loop_enter_at hand (in_range a) (omega arith) (passed pos (omega arith)) next_place next_new y
             (rw size c)))

@@ -84,16 +84,16 @@ module _ (w : View) where
             kept : rule ≡ false
             kept = rw (ne_eqb j 0 nz, le-ltb (count (w.marks_e u)) j (least (dec_lt (count (w.marks_e u)) j)))
 
-        is-t : target w.graph u (select (w.marks_e u) j - 1) ≡ t
-        is-t = ap (λ (x : ℕ). target w.graph u (x - 1)) (sym ep) ∙ et
+        is_t : target w.graph u (select (w.marks_e u) j - 1) ≡ t
+        is_t = ap (λ (x : ℕ). target w.graph u (x - 1)) (sym ep) ∙ et
 
-        child-there : t < length w.graph → answered (t + 1) ≡ tried_then ((13, rule) ∷ []) (child_of w u j)
+        child_there : t < length w.graph → answered (t + 1) ≡ tried_then ((13, rule) ∷ []) (child_of w u j)
         unfolding child_of
-        child-there l = vertex_yes l ∙ ap (vertex_or w) (sym is-t) ∙ then_untold ((13, rule) ∷ []) (child_of w u j) enough
+        child_there l = vertex_yes l ∙ ap (vertex_or w) (sym is_t) ∙ then_untold ((13, rule) ∷ []) (child_of w u j) enough
 
-        child-stray : length w.graph ≤ t → refused 12 ≡ tried_then ((13, rule) ∷ []) (child_of w u j)
+        child_stray : length w.graph ≤ t → refused 12 ≡ tried_then ((13, rule) ∷ []) (child_of w u j)
         unfolding child_of
-        child-stray l = vertex_no l ∙ ap (vertex_or w) (sym is-t) ∙ then_untold ((13, rule) ∷ []) (child_of w u j) enough
+        child_stray l = vertex_no l ∙ ap (vertex_or w) (sym is_t) ∙ then_untold ((13, rule) ∷ []) (child_of w u j) enough
 
   -- ---- Visit
 
@@ -221,7 +221,7 @@ module _ {bytes index : List ℕ} {n m v a b j p : ℕ} (c : Chosen bytes index 
       vertices = sound_vertices c.beside.sound
 
       pub there_told : t < n → answered (t + 1) ≡ tried_then ((13, past_count view u j) ∷ []) (child_of view u j)
-      there_told l = child-there view u j c.asked place some leads (omega (arith, vertices))
+      there_told l = child_there view u j c.asked place some leads (omega (arith, vertices))
 
       pub stray_told : n ≤ t → refused 12 ≡ tried_then ((13, past_count view u j) ∷ []) (child_of view u j)
-      stray_told l = child-stray view u j c.asked place some leads (omega (arith, vertices))
+      stray_told l = child_stray view u j c.asked place some leads (omega (arith, vertices))

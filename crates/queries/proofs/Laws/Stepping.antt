@@ -5,9 +5,9 @@
 --   block_neighbour  its fields are the neighbours
 --   step_root        no mark
 --   step_doubled     more than one
---   lone-field       the marked field is one of the record's
---   step-risen       it is a vertex
---   step-stray       it is none
+--   lone_field       the marked field is one of the record's
+--   step_risen       it is a vertex
+--   step_stray       it is none
 --   below_end        the field of a child is one of the record's
 use mathlib.Core.Path.{◌≡◌, refl, sym, ap, ap₂, subst, ◌∙◌}
 use mathlib.Core.Bool.{Bool}
@@ -106,24 +106,24 @@ module _ {bytes : List ℕ} {n m u a b : ℕ} (o : Sound bytes n m) (h : u < n) 
             omega arith
 
         -- so its field is one of the record's
-        pub lone-field : (a + p < 2 * m) × (m ≤ 16384)
-        lone-field = (omega (arith, block_bounds.1, inside), o.m_fits)
+        pub lone_field : (a + p < 2 * m) × (m ≤ 16384)
+        lone_field = (omega (arith, block_bounds.1, inside), o.m_fits)
 
         module _ {t : ℕ} (et : t ≡ get_or (fields bytes) (a + p) 0) where
           leads : target (blocks bytes) u p ≡ t
           leads = block_neighbour p inside ∙ sym et
 
-          pub step-risen : t < n → rise p t ≡ step_up (blocks bytes) (block_marks bytes s) u
+          pub step_risen : t < n → rise p t ≡ step_up (blocks bytes) (block_marks bytes s) u
           unfolding step_up
-          step-risen l =
+          step_risen l =
               let k = sound_vertices o in
               let e = leads in
               ap (rise p) (sym leads) ∙ step_rises (blocks bytes) u p single (omega arith)
               ∙ ap (step_by (blocks bytes) u (count (block_marks bytes s u))) at
 
-          pub step-stray : n ≤ t → stuck ≡ step_up (blocks bytes) (block_marks bytes s) u
+          pub step_stray : n ≤ t → stuck ≡ step_up (blocks bytes) (block_marks bytes s) u
           unfolding step_up
-          step-stray l =
+          step_stray l =
               let k = sound_vertices o in
               let e = leads in
               step_strays (blocks bytes) u p single (omega arith)

@@ -5,7 +5,7 @@
 --   lookup_cells     where nothing is refused, each cell is its single call's answer
 --   lookup_unwritten where one is, the lists stay
 --   questions_left   the rules that are left once order R, 10 and 15 are kept
---   lookup-refuses-head, lookup-refuses-visit    the first refusal in list order is the answer
+--   lookup_refuses_head, lookup_refuses_visit    the first refusal in list order is the answer
 --   lookup_answers   where both single calls answer for each terminal, so does Lookup
 --   lookup_built     a list of terminals, on an index that Build writes
 --   lookup_none      a list of none
@@ -197,15 +197,15 @@ module _ (bytes index list : List ℕ) (lent : Lists) where
             sym (told_number (first_broken (lookup_rules bytes index list lent)) tt (left ∙ asked_refused ask list h e)
             (both_some bytes index (get_or list i 0) k e))
 
-        pub lookup-refuses-head : head bytes index (get_or list i 0) ≡ refused k
+        pub lookup_refuses_head : head bytes index (get_or list i 0) ≡ refused k
             → lookup bytes index list lent ≡ refused k
         unfolding head_and_visit
-        lookup-refuses-head e = stops (both_first (visit bytes index (get_or list i 0)) (sym e))
+        lookup_refuses_head e = stops (both_first (visit bytes index (get_or list i 0)) (sym e))
 
-        pub lookup-refuses-visit : {x : ℕ} → head bytes index (get_or list i 0) ≡ answered x
+        pub lookup_refuses_visit : {x : ℕ} → head bytes index (get_or list i 0) ≡ answered x
             → visit bytes index (get_or list i 0) ≡ refused k → lookup bytes index list lent ≡ refused k
         unfolding head_and_visit
-        lookup-refuses-visit e f = stops (both_second (sym e) (sym f))
+        lookup_refuses_visit e f = stops (both_second (sym e) (sym f))
 
     pub lookup_answers : ((i : ℕ) → i < length list → BothAnswer bytes index (get_or list i 0))
         → lookup bytes index list lent ≡ answered tt

@@ -152,15 +152,15 @@ module _ {w : View} {starts : List ℕ} (wf : WellFormed w.graph) (cov : Covers 
     ancestor_steps : AncestorSteps w.graph w.graph F x answered (ancestor_next w x)
     ancestor_steps = record {
       found = λ v h e. yes_at v e;
-      root_stops = λ v h d e. no-at v d ∙ ap ancestor_by (root_step v h e);
-      goes_up = λ v i d l m. no-at v d ∙ ap ancestor_by (child_step v i l m);
+      root_stops = λ v h d e. no_at v d ∙ ap ancestor_by (root_step v h e);
+      goes_up = λ v i d l m. no_at v d ∙ ap ancestor_by (child_step v i l m);
     }
       where
         yes_at : (v : ℕ) → x ≡ v → ancestor_next w x v ≡ inl (answered true)
         yes_at v e = rw (eq-eqb x v e, ancestor_next)
 
-        no-at : (v : ℕ) → (x ≡ v → ⊥) → ancestor_next w x v ≡ ancestor_by (step_up w.graph w.marks_p v)
-        no-at v d = rw (ne_eqb x v d, ancestor_next)
+        no_at : (v : ℕ) → (x ≡ v → ⊥) → ancestor_next w x v ≡ ancestor_by (step_up w.graph w.marks_p v)
+        no_at v d = rw (ne_eqb x v d, ancestor_next)
 
     pub ancestor_shown : (u : ℕ) → u < length w.graph → ancestor_of w x u ≡ answered (ancestor F x u)
     unfolding ancestor_of

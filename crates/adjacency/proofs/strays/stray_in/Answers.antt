@@ -1,6 +1,6 @@
 -- `strays::stray_in` meets its contract: no neighbour passed is a stray one.
 use native.Mathlib.Omega.{arith}
-use Rattle.adjacency.proofs.Laws.Strays.{strayless_start, strayless_place, strayless-more, strayless_end, no_vertex, own-neighbour}
+use Rattle.adjacency.proofs.Laws.Strays.{strayless_start, strayless_place, strayless_more, strayless_end, no_vertex, own_neighbour}
 use Rattle.adjacency.proofs.strays.stray_in.Goals as goal
 
 pub overflow_sub-n : goal.overflow_sub-n
@@ -21,12 +21,12 @@ returns-then-n-v c =
 
 pub returns-then-v-u : goal.returns-then-v-u
 returns-then-v-u c =
-    own-neighbour c.loop-p.invariant c.loop-p-test.true c.get-v.ensures.0 c.if-n-v.false
+    own_neighbour c.loop-p.invariant c.loop-p-test.true c.get-v.ensures.0 c.if-n-v.false
     c.if-v-u.true
 
 pub loop-p-preserved : goal.loop-p-preserved
 loop-p-preserved c =
-    strayless-more c.loop-p.invariant c.loop-p-test.true c.get-v.ensures.0 c.if-n-v.false
+    strayless_more c.loop-p.invariant c.loop-p-test.true c.get-v.ensures.0 c.if-n-v.false
     c.if-v-u.false
 
 pub returns : goal.returns

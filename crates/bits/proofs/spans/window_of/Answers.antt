@@ -3,7 +3,7 @@ use Prim.Native.Nat.{◌*◌, ◌<◌}
 use native.Mathlib.Omega.{arith}
 use lib.ListN.{length}
 use Rattle.bits.specs.Bits.{bits}
-use Rattle.bits.proofs.Windows.{Opened, window_some, window_here, window_before, window-there}
+use Rattle.bits.proofs.Windows.{Opened, window_some, window_here, window_before, window_there}
 use Rattle.bits.proofs.spans.window_of.Goals as goal
 use Rattle.bits.proofs.spans.window_of.Goals.{After-ones_of-c, After-skip_from-reached}
 
@@ -46,4 +46,4 @@ overflow_mul-result c = let l = before (goal.at.overflow_mul-result c).After-ski
 pub returns : goal.returns
 returns c =
     let o = opened (goal.at.returns c).After-ones_of-c in
-    window-there o c.if-k-c.false c.skip_from-reached.ensures c.part_at-part.ensures
+    window_there o c.if-k-c.false c.skip_from-reached.ensures c.part_at-part.ensures

@@ -2,7 +2,7 @@
 use native.Mathlib.Omega.{arith}
 use mathlib.Core.Path.{sym, ◌∙◌}
 use Rattle.forest.specs.Laws.Taken.{taken_range, taken_inside}
-use Rattle.forest.proofs.Laws.Building.{done_short, done_misfit, done-unstarted, done-empty, done-written}
+use Rattle.forest.proofs.Laws.Building.{done_short, done_misfit, done_unstarted, done_empty, done_written}
 use Rattle.forest.proofs.Laws.Building.{write_asked}
 use Rattle.forest.proofs.rooms.build_from.Goals as goal
 
@@ -17,13 +17,13 @@ returns-then-index-index_length c =
 
 pub returns-then-no_start : goal.returns-then-no_start
 returns-then-no_start c =
-    done-unstarted c.requires.0 c.requires.1 c.if-work-n.false
+    done_unstarted c.requires.0 c.requires.1 c.if-work-n.false
     (c.if-index-index_length.false ∙ c.index_length.ensures)
     (sym c.no_start.ensures ∙ c.if-no_start.true)
 
 pub returns-then-n-eq0 : goal.returns-then-n-eq0
 returns-then-n-eq0 c =
-    done-empty c.requires.0 c.requires.1 c.if-work-n.false
+    done_empty c.requires.0 c.requires.1 c.if-work-n.false
     (c.if-index-index_length.false ∙ c.index_length.ensures)
     (sym c.no_start.ensures ∙ c.if-no_start.false) c.if-n-eq0.true
 
@@ -43,6 +43,6 @@ write_index-requires c =
 
 pub returns : goal.returns
 returns c =
-    done-written c.requires.0 c.requires.1 c.if-work-n.false
+    done_written c.requires.0 c.requires.1 c.if-work-n.false
     (c.if-index-index_length.false ∙ c.index_length.ensures)
     (sym c.no_start.ensures ∙ c.if-no_start.false) c.write_index.ensures

@@ -29,8 +29,8 @@ busy c =
     still_busy a fit h l.i l.cur l.invariant.0 c.loop-k-test.true
 
 -- and `left` is not used up
-left-more : (c : In-loop-k) → 0 < c.loop-k.left
-left-more c =
+left_more : (c : In-loop-k) → 0 < c.loop-k.left
+left_more c =
     let l = c.loop-k in
     searching_busy l.i l.cur l.invariant.0 (busy c)
 
@@ -48,10 +48,10 @@ step-at-requires c =
     record { arrays = (c.requires.0, c.requires.1, busy (goal.at.step-at-requires c).In-loop-k); underway = record { roots = roots; todo = from; searching = c.loop-k.invariant.0 } }
 
 pub overflow_sub-left-in-loop-k : goal.overflow_sub-left-in-loop-k
-overflow_sub-left-in-loop-k c = left-more (goal.at.overflow_sub-left-in-loop-k c).In-loop-k
+overflow_sub-left-in-loop-k c = left_more (goal.at.overflow_sub-left-in-loop-k c).In-loop-k
 
 pub loop-k-smaller : goal.loop-k-smaller
-loop-k-smaller c = let h = left-more (goal.at.loop-k-smaller c).In-loop-k in omega arith
+loop-k-smaller c = let h = left_more (goal.at.loop-k-smaller c).In-loop-k in omega arith
 
 pub loop-k-preserved : goal.loop-k-preserved
 loop-k-preserved c =

@@ -5,7 +5,7 @@ use borrow.Author.Rules.{rules}
 use lib.ListN.{length}
 use Rattle.adjacency.specs.Laws.Rows.{starts_fit}
 use Rattle.forest.proofs.Laws.Graphs.{known}
-use Rattle.forest.proofs.Laws.Stepping.{next_fits, next_left, next-entered}
+use Rattle.forest.proofs.Laws.Stepping.{next_fits, next_left, next_entered}
 use Rattle.forest.proofs.search.try_next.Goals as goal
 use Rattle.forest.proofs.search.try_next.Goals.{After-get-end, After-get-v}
 
@@ -16,8 +16,8 @@ end_fits c =
     omega arith
 
 -- a place before that end
-place-fits : (c : After-get-v) → c.pass_visited-p.result < 32768
-place-fits c = omega (arith, (let it : c.get-end.result ≤ length c.args.nbrs.now = let f = starts_fit c.requires.arrays.0.divided c.args.cur (omega arith) in omega arith in it), c.requires.arrays.0.divided.few_places)
+place_fits : (c : After-get-v) → c.pass_visited-p.result < 32768
+place_fits c = omega (arith, (let it : c.get-end.result ≤ length c.args.nbrs.now = let f = starts_fit c.requires.arrays.0.divided c.args.cur (omega arith) in omega arith in it), c.requires.arrays.0.divided.few_places)
 
 -- the neighbour there, which is to be entered
 fits : (c : After-get-v)
@@ -40,7 +40,7 @@ pub enter-requires : goal.enter-requires
 enter-requires c =
     let r = c.requires.underway.searching.tied.room in
     let f = fits (goal.at.enter-requires c).After-get-v in
-    let p = place-fits (goal.at.enter-requires c).After-get-v in
+    let p = place_fits (goal.at.enter-requires c).After-get-v in
     search rules
 
 pub overflow_add-result-then-p-end : goal.overflow_add-result-then-p-end
@@ -48,7 +48,7 @@ overflow_add-result-then-p-end c = let r = fits (goal.at.overflow_add-result-the
 
 pub returns-then-p-end : goal.returns-then-p-end
 returns-then-p-end c = λ roots todo t.
-    next-entered c.requires.arrays.0 c.requires.arrays.1 (c.args.cur - 1) t (omega arith) c.get.ensures.0
+    next_entered c.requires.arrays.0 c.requires.arrays.1 (c.args.cur - 1) t (omega arith) c.get.ensures.0
     c.get-end.ensures.0 c.pass_visited-p.ensures c.if-p-end.true c.get-v.ensures.0
     c.put.ensures c.enter.ensures
 

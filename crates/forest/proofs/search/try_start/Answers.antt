@@ -8,17 +8,17 @@ use Rattle.forest.proofs.search.try_start.Goals as goal
 use Rattle.forest.proofs.search.try_start.Goals.{Then-get-eq0}
 
 -- vertex v is not visited, so there is room for it
-room-left : (c : Then-get-eq0) → c.args.k < c.args.n
-room-left c =
+room_left : (c : Then-get-eq0) → c.args.k < c.args.n
+room_left c =
     let a = c.args in
     let b = c.requires in
     new_room b.underway.searching (as_many a.starts.now a.nbrs.now b.arrays.1) b.arrays.2 (cc)
 
 pub enter-requires : goal.enter-requires
-enter-requires c = let r = room-left (goal.at.enter-requires c).Then-get-eq0 in search rules
+enter-requires c = let r = room_left (goal.at.enter-requires c).Then-get-eq0 in search rules
 
 pub overflow_add-result-then-get-eq0 : goal.overflow_add-result-then-get-eq0
-overflow_add-result-then-get-eq0 c = let r = room-left (goal.at.overflow_add-result-then-get-eq0 c).Then-get-eq0 in omega arith
+overflow_add-result-then-get-eq0 c = let r = room_left (goal.at.overflow_add-result-then-get-eq0 c).Then-get-eq0 in omega arith
 
 pub returns-then-get-eq0 : goal.returns-then-get-eq0
 returns-then-get-eq0 c = λ roots todo t.

@@ -118,12 +118,12 @@ module _ {g : Blocks} {F : Forest} (span : Spanning g F) where
       at_place = lo.at_place;
       at_child =
           λ c j x k l. elim (this_or_later x
-          (entry_entered k) l) [ inl q ↦ absurd (no-child q k) | inr q ↦ lo.at_child c j x k q ];
+          (entry_entered k) l) [ inl q ↦ absurd (no_child_lem q k) | inr q ↦ lo.at_child c j x k q ];
       attained = λ c i. attained_keeps (omega arith) refl (λ x k l. refl) (lo.attained c i);
     }
       where
-        no-child : {c j x : ℕ} → x ≡ v → Memᴰ (via c j x) F → ⊥
-        no-child q k = omega (arith, parent_child span.built k, ap (parent F) q)
+        no_child_lem : {c j x : ℕ} → x ≡ v → Memᴰ (via c j x) F → ⊥
+        no_child_lem q k = omega (arith, parent_child span.built k, ap (parent F) q)
 
     -- a child's lowpoint goes into its parent's
     pub sweep_child : {t t' : ℕ → ℕ} {u : ℕ} → parent F (vertex_at F m) ≡ suc u

@@ -217,7 +217,7 @@ module _ {g : Blocks} {H : Forest} {left : ℕ} {todo : List ℕ} {u k : ℕ} {c
       built = i.built;
       within = i.within;
       kept = i.kept;
-      going = at-end (dec_lt (c.nexts u) (length (block g u)));
+      going = at_end (dec_lt (c.nexts u) (length (block g u)));
       stack = subst (λ z. Stack i.so_far c.nexts top.under z)
           (sym (i.kept.parent_cells u top.has)) top.rest;
       count = i.count;
@@ -227,9 +227,9 @@ module _ {g : Blocks} {H : Forest} {left : ℕ} {todo : List ℕ} {u k : ℕ} {c
           omega arith;
     }
       where
-        at-end : Dec (c.nexts u < length (block g u)) → Going g i.so_far top.under todo H
-        at-end (yes l) = going_return {j = length (block g u)} (omega arith) (passed (omega arith) (omega arith) n)
-        at-end (no l) = going_return (omega arith) at_hand
+        at_end : Dec (c.nexts u < length (block g u)) → Going g i.so_far top.under todo H
+        at_end (yes l) = going_return {j = length (block g u)} (omega arith) (passed (omega arith) (omega arith) n)
+        at_end (no l) = going_return (omega arith) at_hand
 
     -- the one at position j is the first that is not visited: it is entered as a child
     pub loop_enter_at : {c' : Cells} {at : ℕ → ℕ} {j v : ℕ} → c.nexts u ≤ j → Visited g c u (c.nexts u) j

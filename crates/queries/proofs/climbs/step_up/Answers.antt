@@ -5,7 +5,7 @@ use mathlib.Core.Bool.{Bool}
 use mathlib.Core.List.{List}
 use Rattle.queries.specs.Laws.Framed.{length_p}
 use Rattle.queries.specs.View.{section_of}
-use Rattle.queries.proofs.Laws.Stepping.{block_fits, step_root, step_doubled, lone-field, step-risen, step-stray}
+use Rattle.queries.proofs.Laws.Stepping.{block_fits, step_root, step_doubled, lone_field, step_risen, step_stray}
 use Rattle.queries.proofs.climbs.step_up.Goals as goal
 use Rattle.queries.proofs.climbs.step_up.Goals.{After-shared_slice_known-2-1, Start}
 
@@ -49,7 +49,7 @@ pub overflow_add-a : goal.overflow_add-a
 overflow_add-a c =
     let pre = c.requires in
     let (l, m) =
-    lone-field pre.0.sound pre.1 pre.2 pre.3 (section (goal.at.overflow_add-a c).Start) _
+    lone_field pre.0.sound pre.1 pre.2 pre.3 (section (goal.at.overflow_add-a c).Start) _
     c.lone_parent.ensures c.in-At.is (length_p pre.0.framed) in
     omega arith
 
@@ -57,7 +57,7 @@ pub field-t-requires : goal.field-t-requires
 field-t-requires c =
     let pre = c.requires in
     let (l, m) =
-    lone-field pre.0.sound pre.1 pre.2 pre.3 (section (goal.at.field-t-requires c).Start) _
+    lone_field pre.0.sound pre.1 pre.2 pre.3 (section (goal.at.field-t-requires c).Start) _
     c.lone_parent.ensures c.in-At.is (length_p pre.0.framed) in
     (pre.0.sound, l)
 
@@ -65,12 +65,12 @@ pub returns-then-t-n : goal.returns-then-t-n
 returns-then-t-n c =
     let pre = c.requires in
     let lone = c.lone_parent.ensures in
-    step-risen pre.0.sound pre.1 pre.2 pre.3 (section (goal.at.returns-then-t-n c).Start) _ lone c.in-At.is
+    step_risen pre.0.sound pre.1 pre.2 pre.3 (section (goal.at.returns-then-t-n c).Start) _ lone c.in-At.is
     (length_p pre.0.framed) c.field-t.ensures.0 c.if-t-n.true
 
 pub returns-else-t-n : goal.returns-else-t-n
 returns-else-t-n c =
     let pre = c.requires in
     let lone = c.lone_parent.ensures in
-    step-stray pre.0.sound pre.1 pre.2 pre.3 (section (goal.at.returns-else-t-n c).Start) _ lone c.in-At.is
+    step_stray pre.0.sound pre.1 pre.2 pre.3 (section (goal.at.returns-else-t-n c).Start) _ lone c.in-At.is
     (length_p pre.0.framed) c.field-t.ensures.0 c.if-t-n.false

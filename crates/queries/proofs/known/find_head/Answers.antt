@@ -28,8 +28,8 @@ near : (c : At-loop-k) → c.loop-k.u + 1 < 65536
 near c = omega (arith, c.loop-k.invariant.along.inside, c.requires.0.framed.n_fits)
 
 -- the lengths stay
-known-long : (c : At-loop-k) → length c.loop-k.known ≡ length c.args.known.now
-known-long c = c.loop-k.invariant.heads.size ∙ sym c.requires.2.size
+known_long : (c : At-loop-k) → length c.loop-k.known ≡ length c.args.known.now
+known_long c = c.loop-k.invariant.heads.size ∙ sym c.requires.2.size
 
 below : (c : After-put) → c.loop-k.k < c.args.n
 below c = c.loop-k-test.true
@@ -64,7 +64,7 @@ keep-requires c =
 
 pub shape_of-known-then-h-gt0 : goal.shape_of-known-then-h-gt0
 shape_of-known-then-h-gt0 c =
-    c.keep.ensures.size ∙ known-long (goal.at.shape_of-known-then-h-gt0 c).At-loop-k
+    c.keep.ensures.size ∙ known_long (goal.at.shape_of-known-then-h-gt0 c).At-loop-k
 
 pub shape_of-way-then-h-gt0 : goal.shape_of-way-then-h-gt0
 shape_of-way-then-h-gt0 c =
@@ -93,7 +93,7 @@ head_move-requires c =
 
 pub shape_of-known-in-Refuse : goal.shape_of-known-in-Refuse
 shape_of-known-in-Refuse c =
-    known-long (goal.at.shape_of-known-in-Refuse c).At-loop-k
+    known_long (goal.at.shape_of-known-in-Refuse c).At-loop-k
 
 pub shape_of-way-in-Refuse : goal.shape_of-way-in-Refuse
 shape_of-way-in-Refuse c =
@@ -126,7 +126,7 @@ overflow_add-result c =
 
 pub shape_of-known-in-Here : goal.shape_of-known-in-Here
 shape_of-known-in-Here c =
-    c.keep-in-Here.ensures.size ∙ known-long (goal.at.shape_of-known-in-Here c).At-loop-k
+    c.keep-in-Here.ensures.size ∙ known_long (goal.at.shape_of-known-in-Here c).At-loop-k
 
 pub shape_of-way-in-Here : goal.shape_of-way-in-Here
 shape_of-way-in-Here c =
@@ -143,7 +143,7 @@ loop-k-preserved c =
     climbed_on c.loop-k.invariant (below (goal.at.loop-k-preserved c).After-put) c.put.ensures e (omega (arith, inside, vertices (goal.at.loop-k-preserved c).At-loop-k))
 
 pub shape_of-known : goal.shape_of-known
-shape_of-known c = known-long (goal.at.shape_of-known c).At-loop-k
+shape_of-known c = known_long (goal.at.shape_of-known c).At-loop-k
 
 pub shape_of-way : goal.shape_of-way
 shape_of-way c =

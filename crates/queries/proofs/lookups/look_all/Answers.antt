@@ -12,16 +12,16 @@ use Rattle.queries.proofs.lookups.look_all.Goals as goal
 use Rattle.queries.proofs.lookups.look_all.Goals.{After-look, At-loop-i}
 
 -- the lengths stay
-known-long : (c : At-loop-i) → length c.loop-i.known ≡ length c.args.known.now
-known-long c = c.loop-i.invariant.0.size ∙ sym c.requires.2.size
+known_long : (c : At-loop-i) → length c.loop-i.known ≡ length c.args.known.now
+known_long c = c.loop-i.invariant.0.size ∙ sym c.requires.2.size
 
-heads-long : (c : At-loop-i) → length c.loop-i.heads ≡ length c.args.list.now
-heads-long c =
+heads_long : (c : At-loop-i) → length c.loop-i.heads ≡ length c.args.list.now
+heads_long c =
     let a = c.args in
     looking_heads a.bytes.now a.index.now a.list.now c.loop-i.invariant.2
 
-visits-long : (c : At-loop-i) → length c.loop-i.visits ≡ length c.args.list.now
-visits-long c =
+visits_long : (c : At-loop-i) → length c.loop-i.visits ≡ length c.args.list.now
+visits_long c =
     let a = c.args in
     looking_visits a.bytes.now a.index.now a.list.now c.loop-i.invariant.2
 
@@ -64,11 +64,11 @@ shape_of-way-in-Refused c =
 
 pub shape_of-heads-in-Refused : goal.shape_of-heads-in-Refused
 shape_of-heads-in-Refused c =
-    heads-long (goal.at.shape_of-heads-in-Refused c).At-loop-i ∙ sym c.requires.4
+    heads_long (goal.at.shape_of-heads-in-Refused c).At-loop-i ∙ sym c.requires.4
 
 pub shape_of-visits-in-Refused : goal.shape_of-visits-in-Refused
 shape_of-visits-in-Refused c =
-    visits-long (goal.at.shape_of-visits-in-Refused c).At-loop-i ∙ sym c.requires.5
+    visits_long (goal.at.shape_of-visits-in-Refused c).At-loop-i ∙ sym c.requires.5
 
 pub returns-in-Refused : goal.returns-in-Refused
 returns-in-Refused c =
@@ -80,13 +80,13 @@ pub put-requires : goal.put-requires
 put-requires c =
     let a = c.args in
     let near = both_near a.bytes.now a.index.now _ (told (goal.at.put-requires c).After-look c.in-Both.is) in
-    (omega (arith, inside (goal.at.put-requires c).After-look, heads-long (goal.at.put-requires c).At-loop-i), near.0)
+    (omega (arith, inside (goal.at.put-requires c).After-look, heads_long (goal.at.put-requires c).At-loop-i), near.0)
 
 pub put-requires-in-Both : goal.put-requires-in-Both
 put-requires-in-Both c =
     let a = c.args in
     let near = both_near a.bytes.now a.index.now _ (told (goal.at.put-requires-in-Both c).After-look c.in-Both.is) in
-    (omega (arith, inside (goal.at.put-requires-in-Both c).After-look, visits-long (goal.at.put-requires-in-Both c).At-loop-i), near.1)
+    (omega (arith, inside (goal.at.put-requires-in-Both c).After-look, visits_long (goal.at.put-requires-in-Both c).At-loop-i), near.1)
 
 pub overflow_add-i : goal.overflow_add-i
 overflow_add-i c =
@@ -107,7 +107,7 @@ loop-i-preserved c =
     )
 
 pub shape_of-known : goal.shape_of-known
-shape_of-known c = known-long (goal.at.shape_of-known c).At-loop-i
+shape_of-known c = known_long (goal.at.shape_of-known c).At-loop-i
 
 pub shape_of-way : goal.shape_of-way
 shape_of-way c =
@@ -115,11 +115,11 @@ shape_of-way c =
 
 pub shape_of-heads : goal.shape_of-heads
 shape_of-heads c =
-    heads-long (goal.at.shape_of-heads c).At-loop-i ∙ sym c.requires.4
+    heads_long (goal.at.shape_of-heads c).At-loop-i ∙ sym c.requires.4
 
 pub shape_of-visits : goal.shape_of-visits
 shape_of-visits c =
-    visits-long (goal.at.shape_of-visits c).At-loop-i ∙ sym c.requires.5
+    visits_long (goal.at.shape_of-visits c).At-loop-i ∙ sym c.requires.5
 
 pub returns : goal.returns
 returns c =

@@ -22,22 +22,22 @@ fit : (s : Start)
     × (length s.args.visits.now ≡ length s.args.list.now)
 fit s = lists_fit s.args.list.now s.args.heads.now s.args.visits.now s.requires.1
 
-first-long : (c : After-look_all)
+first_long : (c : After-look_all)
     → length c.look_all.new.heads ≡ length c.args.list.now
-first-long c = c.look_all.auto.heads ∙ c.requires.5
+first_long c = c.look_all.auto.heads ∙ c.requires.5
 
-second-long : (c : After-look_all)
+second_long : (c : After-look_all)
     → length c.look_all.new.visits ≡ length c.args.list.now
-second-long c = c.look_all.auto.visits ∙ c.requires.6
+second_long c = c.look_all.auto.visits ∙ c.requires.6
 
 pub copy-requires : goal.copy-requires
 copy-requires c =
-    (fit (goal.at.copy-requires c).Start).1 ∙ sym (first-long (goal.at.copy-requires c).After-look_all)
+    (fit (goal.at.copy-requires c).Start).1 ∙ sym (first_long (goal.at.copy-requires c).After-look_all)
 
 pub copy-requires-in-Accepted : goal.copy-requires-in-Accepted
 copy-requires-in-Accepted c =
     (fit (goal.at.copy-requires-in-Accepted c).Start).2
-    ∙ sym (second-long (goal.at.copy-requires-in-Accepted c).After-look_all)
+    ∙ sym (second_long (goal.at.copy-requires-in-Accepted c).After-look_all)
 
 pub returns-in-Accepted : goal.returns-in-Accepted
 returns-in-Accepted c =

@@ -25,21 +25,21 @@ small : (f : After-stored_four-x) → f.loop-u.u + 5 ≤ 4096
 small f = omega (arith, more f, f.requires.n_fits)
 
 -- behind each test one number more of the four is another
-others-1 : (c : Else-x-k) → Passed c.args.index.now c.args.n c.args.m c.args.k (c.loop-u.u + 1)
-others-1 c =
+others_1 : (c : Else-x-k) → Passed c.args.index.now c.args.n c.args.m c.args.k (c.loop-u.u + 1)
+others_1 c =
     passed_one c.loop-u.invariant (c.loop-u.u + 1) refl (omega (arith, c.loop-u-test.true))
     c.stored_four-x.ensures.first c.if-x-k.false
 
-others-2 : (c : Else-x-k-2) → Passed c.args.index.now c.args.n c.args.m c.args.k (c.loop-u.u + 2)
-others-2 c =
+others_2 : (c : Else-x-k-2) → Passed c.args.index.now c.args.n c.args.m c.args.k (c.loop-u.u + 2)
+others_2 c =
     let one : Passed c.args.index.now c.args.n c.args.m c.args.k (c.loop-u.u + 1) =
     passed_one c.loop-u.invariant (c.loop-u.u + 1) refl (omega (arith, c.loop-u-test.true))
     c.stored_four-x.ensures.first c.if-x-k.false in
     passed_one one (c.loop-u.u + 2) (omega arith) (omega (arith, c.loop-u-test.true))
     c.stored_four-x.ensures.second c.if-x-k-2.false
 
-others-3 : (c : Else-x-k-3) → Passed c.args.index.now c.args.n c.args.m c.args.k (c.loop-u.u + 3)
-others-3 c =
+others_3 : (c : Else-x-k-3) → Passed c.args.index.now c.args.n c.args.m c.args.k (c.loop-u.u + 3)
+others_3 c =
     let one : Passed c.args.index.now c.args.n c.args.m c.args.k (c.loop-u.u + 1) =
     passed_one c.loop-u.invariant (c.loop-u.u + 1) refl (omega (arith, c.loop-u-test.true))
     c.stored_four-x.ensures.first c.if-x-k.false in
@@ -57,19 +57,19 @@ pub overflow_add-result : goal.overflow_add-result
 overflow_add-result c = omega (arith, small (goal.at.overflow_add-result c).After-stored_four-x)
 
 pub returns-then-x-k-2 : goal.returns-then-x-k-2
-returns-then-x-k-2 c = others-1 (goal.at.returns-then-x-k-2 c).Else-x-k
+returns-then-x-k-2 c = others_1 (goal.at.returns-then-x-k-2 c).Else-x-k
 
 pub overflow_add-result-then-x-k-3 : goal.overflow_add-result-then-x-k-3
 overflow_add-result-then-x-k-3 c = omega (arith, small (goal.at.overflow_add-result-then-x-k-3 c).After-stored_four-x)
 
 pub returns-then-x-k-3 : goal.returns-then-x-k-3
-returns-then-x-k-3 c = others-2 (goal.at.returns-then-x-k-3 c).Else-x-k-2
+returns-then-x-k-3 c = others_2 (goal.at.returns-then-x-k-3 c).Else-x-k-2
 
 pub overflow_add-result-then-x-k-4 : goal.overflow_add-result-then-x-k-4
 overflow_add-result-then-x-k-4 c = omega (arith, small (goal.at.overflow_add-result-then-x-k-4 c).After-stored_four-x)
 
 pub returns-then-x-k-4 : goal.returns-then-x-k-4
-returns-then-x-k-4 c = others-3 (goal.at.returns-then-x-k-4 c).Else-x-k-3
+returns-then-x-k-4 c = others_3 (goal.at.returns-then-x-k-4 c).Else-x-k-3
 
 pub overflow_add-u-in-loop-u : goal.overflow_add-u-in-loop-u
 overflow_add-u-in-loop-u c = omega (arith, small (goal.at.overflow_add-u-in-loop-u c).After-stored_four-x)
@@ -79,7 +79,7 @@ loop-u-smaller c = omega (arith, more (goal.at.loop-u-smaller c).After-stored_fo
 
 pub loop-u-preserved : goal.loop-u-preserved
 loop-u-preserved c =
-    passed_one (others-3 (goal.at.loop-u-preserved c).Else-x-k-3) (c.loop-u.u + 4) (omega arith)
+    passed_one (others_3 (goal.at.loop-u-preserved c).Else-x-k-3) (c.loop-u.u + 4) (omega arith)
     (omega (arith, more (goal.at.loop-u-preserved c).After-stored_four-x))
     c.stored_four-x.ensures.fourth c.if-x-k-4.false
 

@@ -37,31 +37,31 @@ module _ (bytes : List ℕ) where
           ∙ first_broken_lem 2 _ (rw (le-ltb 4096 (terminals bytes) n_fits, lt-ltb 16384 (wires bytes) h))
 
       module _ (m_fits : wires bytes ≤ 16384) where
-        sizes-fit : (ltb 4096 (terminals bytes) || ltb 16384 (wires bytes)) ≡ false
-        sizes-fit = rw (le-ltb 4096 (terminals bytes) n_fits, le-ltb 16384 (wires bytes) m_fits)
+        sizes_fit : (ltb 4096 (terminals bytes) || ltb 16384 (wires bytes)) ≡ false
+        sizes_fit = rw (le-ltb 4096 (terminals bytes) n_fits, le-ltb 16384 (wires bytes) m_fits)
 
-        pub rule-3 : (length bytes ≡ record_length (terminals bytes) (wires bytes) → ⊥) → first_broken (order_r bytes) ≡ 3
+        pub rule_3 : (length bytes ≡ record_length (terminals bytes) (wires bytes) → ⊥) → first_broken (order_r bytes) ≡ 3
         unfolding order_r
-        rule-3 h =
-            first_kept 1 _ (le-ltb (length bytes) 4 long) ∙ first_kept 2 _ sizes-fit
+        rule_3 h =
+            first_kept 1 _ (le-ltb (length bytes) 4 long) ∙ first_kept 2 _ sizes_fit
             ∙ first_broken_lem 3 _ (rw (ne_eqb (length bytes) (record_length (terminals bytes) (wires bytes)) h))
 
         module _ (sized : length bytes ≡ record_length (terminals bytes) (wires bytes)) {b : Bool}
             (tested : b ≡ (not (eqb (count (unary bytes)) (terminals bytes)) || begins_with_zero (unary bytes))) where
-          rule-last : first_broken (order_r bytes)
+          rule_last : first_broken (order_r bytes)
               ≡ first_broken
               ((4, not (eqb (count (unary bytes)) (terminals bytes)) || begins_with_zero (unary bytes)) ∷ [])
           unfolding order_r
-          rule-last =
-              first_kept 1 _ (le-ltb (length bytes) 4 long) ∙ first_kept 2 _ sizes-fit
+          rule_last =
+              first_kept 1 _ (le-ltb (length bytes) 4 long) ∙ first_kept 2 _ sizes_fit
               ∙ first_kept 3 _ (rw (eq-eqb (length bytes) (record_length (terminals bytes) (wires bytes)) sized))
 
-          pub rule-4 : b ≡ true → first_broken (order_r bytes) ≡ 4
-          rule-4 h = rule-last ∙ first_broken_lem 4 [] (sym tested ∙ h)
+          pub rule_4 : b ≡ true → first_broken (order_r bytes) ≡ 4
+          rule_4 h = rule_last ∙ first_broken_lem 4 [] (sym tested ∙ h)
 
-          pub rules-kept : b ≡ false → first_broken (order_r bytes) ≡ 0
+          pub rules_kept : b ≡ false → first_broken (order_r bytes) ≡ 0
           unfolding first_broken
-          rules-kept h = rule-last ∙ first_kept 4 [] (sym tested ∙ h)
+          rules_kept h = rule_last ∙ first_kept 4 [] (sym tested ∙ h)
 
 -- ---- D, where rules 1 to 3 are kept
 

@@ -10,10 +10,10 @@ use Rattle.record.specs.Laws.Unpacked.{divided_of, starts_of_lem, nbrs_of, check
 use Rattle.record.proofs.arrays.check_arrays.Goals as goal
 
 -- the room is as long as the arrays ask
-tried-by : {bytes starts nbrs reverse next starts' nbrs' : List ℕ} {n m : ℕ} → Lent n m starts nbrs reverse next
+tried_by : {bytes starts nbrs reverse next starts' nbrs' : List ℕ} {n m : ℕ} → Lent n m starts nbrs reverse next
     → ArraysOf bytes starts' nbrs' n m
     → (Divided starts' nbrs') × ((length reverse ≡ length nbrs') × (length next + 1 ≡ length starts'))
-tried-by l r =
+tried_by l r =
     let s = starts_of_lem r in
     let p = nbrs_of r in
     let a = l.all_reverse in
@@ -22,7 +22,7 @@ tried-by l r =
 
 pub try_rules-requires : goal.try_rules-requires
 try_rules-requires c =
-    let (d, l) = tried-by c.requires.lent c.fill_arrays.ensures in record { divided = d; reverse_len = l }
+    let (d, l) = tried_by c.requires.lent c.fill_arrays.ensures in record { divided = d; reverse_len = l }
 
 pub returns : goal.returns
 returns c = (

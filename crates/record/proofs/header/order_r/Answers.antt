@@ -5,7 +5,7 @@ use native.Mathlib.Omega.{arith}
 use Rattle.record.specs.Answers.{Answer, answered, sizes_of}
 use Rattle.record.specs.Record.{terminals, wires, record_length}
 use Rattle.record.specs.declared.Sizes.{Sizes}
-use Rattle.record.proofs.Laws.Reading.Headers.{rule_1, rule_2_n, rule_2_m, rule-3, rule-4, rules-kept}
+use Rattle.record.proofs.Laws.Reading.Headers.{rule_1, rule_2_n, rule_2_m, rule_3, rule_4, rules_kept}
 use Rattle.record.specs.Laws.Told.{told, untold}
 use Rattle.record.proofs.header.order_r.Goals as goal
 
@@ -32,7 +32,7 @@ returns-then-bytes-record_length c =
     let e = c.record_length.ensures
     ∙ ap₂ record_length c.read13-n.ensures.0
     c.read15-m.ensures.0 in
-    told (sizes_of bytes) (rule-3 bytes (omega arith) (omega arith) (omega arith) (λ z. c.if-bytes-record_length.true (z ∙ sym e)))
+    told (sizes_of bytes) (rule_3 bytes (omega arith) (omega arith) (omega arith) (λ z. c.if-bytes-record_length.true (z ∙ sym e)))
 
 pub bad_unary-requires : goal.bad_unary-requires
 unfolding terminals wires
@@ -54,7 +54,7 @@ returns-then-bad_unary c =
     ∙ ap₂ record_length read13.ensures.0
     c.read15-m.ensures.0 in
     told (sizes_of bytes)
-    (rule-4 bytes (omega arith) (omega arith) (omega arith) (c.if-bytes-record_length.false ∙ e)
+    (rule_4 bytes (omega arith) (omega arith) (omega arith) (c.if-bytes-record_length.false ∙ e)
     c.bad_unary.ensures c.if-bad_unary.true)
 
 pub returns : goal.returns
@@ -68,5 +68,5 @@ returns c =
     let sized : ℕ → ℕ → Answer Sizes = λ x y. answered (record { n = x; m = y }) in
     ap₂ sized read13.ensures.0 read15.ensures.0
     ∙ untold (sizes_of bytes)
-    (rules-kept bytes (omega arith) (omega arith) (omega arith) (c.if-bytes-record_length.false ∙ e)
+    (rules_kept bytes (omega arith) (omega arith) (omega arith) (c.if-bytes-record_length.false ∙ e)
     c.bad_unary.ensures c.if-bad_unary.false)

@@ -12,11 +12,11 @@ use Rattle.record.specs.Laws.Sums.{length_sums, cut_sums, divided_sums}
 use Rattle.record.proofs.lists.try_lists.Goals as goal
 
 -- the room is as long as the arrays ask
-tried-by : {degrees neighbours starts nbrs reverse next starts' nbrs' : List ℕ} → Listed degrees neighbours
+tried_by : {degrees neighbours starts nbrs reverse next starts' nbrs' : List ℕ} → Listed degrees neighbours
     → Lent (length degrees) (length neighbours / 2) starts nbrs reverse next
     → starts' ≡ sums_of degrees → nbrs' ≡ map vertex_of neighbours
     → (Divided starts' nbrs') × ((length reverse ≡ length nbrs') × (length next + 1 ≡ length starts'))
-tried-by {degrees} {neighbours} l r s t =
+tried_by {degrees} {neighbours} l r s t =
     let e = l.even in
     let w = l.whole in
     let a = r.all_reverse in
@@ -26,10 +26,10 @@ tried-by {degrees} {neighbours} l r s t =
     rw (s, t) (divided_sums l (map vertex_of neighbours) p, (omega arith, omega arith))
 
 -- and what they hold
-graph-by : (degrees neighbours : List ℕ) {starts nbrs : List ℕ} → starts ≡ sums_of degrees
+graph_by : (degrees neighbours : List ℕ) {starts nbrs : List ℕ} → starts ≡ sums_of degrees
     → nbrs ≡ map vertex_of neighbours
     → cut starts nbrs ≡ graph_from degrees neighbours
-graph-by degrees neighbours s t = ap₂ cut s t ∙ cut_sums 0 degrees (map vertex_of neighbours)
+graph_by degrees neighbours s t = ap₂ cut s t ∙ cut_sums 0 degrees (map vertex_of neighbours)
 
 pub fill_neighbours-requires : goal.fill_neighbours-requires
 fill_neighbours-requires c =
@@ -40,12 +40,12 @@ fill_neighbours-requires c =
 
 pub try_rules-requires : goal.try_rules-requires
 try_rules-requires c =
-    let (d, l) = tried-by c.requires.listed c.requires.lent c.fill_starts.ensures c.fill_neighbours.ensures in
+    let (d, l) = tried_by c.requires.listed c.requires.lent c.fill_starts.ensures c.fill_neighbours.ensures in
     record { divided = d; reverse_len = l }
 
 pub returns : goal.returns
 returns c =
     let a = c.args in
-    let g = graph-by a.degrees.now a.neighbours.now c.fill_starts.ensures
+    let g = graph_by a.degrees.now a.neighbours.now c.fill_starts.ensures
     c.fill_neighbours.ensures in
     c.try_rules.ensures ∙ ap check_graph g
