@@ -17,4 +17,5 @@ pub mod Bridged
 pub mod Numbers
 pub mod Fronts
 pub mod Building
+pub mod Loops
 pub mod Figuring

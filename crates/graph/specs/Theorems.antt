@@ -41,7 +41,7 @@ use Rattle.graph.specs.Laws.Counts.Edges.{two_places, neither_twin, all_edges}
 use Rattle.graph.specs.Laws.Counts.Roots.{roots_parentless, roots_fewer}
 use Rattle.graph.specs.Laws.Counts.Looms.{lowest_joined, lowest_least, lowest_told, roots_looms}
 use Rattle.graph.specs.Laws.Counts.Loops.{roots_and_edges}
-use Rattle.graph.specs.Laws.Counts.Sections.{bridges_twice, sections_edges}
+use Rattle.graph.specs.Laws.Counts.Sections.{bridges_twice}
 
 -- `forest g s` takes s and then the vertices in order: they cover
 pub start_covers : (g : Blocks) (s : ℕ) → Startable g s → Covers g (starts_from (length g) s)
@@ -345,10 +345,4 @@ module _ {g : Blocks} (wf : WellFormed g) {starts : List ℕ} (cov : Covers g st
 pub bridges_counted : {g : Blocks} → WellFormed g → count_places g (bridge g) ≡ 2 * count_edges g (bridge g)
 bridges_counted = bridges_twice
 
-module _ {g : Blocks} (wf : WellFormed g) {starts : List ℕ} (cov : Covers g starts) where
-  pub sections_counted : sections g (search g all starts) ≡ roots (search g all starts) + count_places g (bridge g) / 2
-  sections_counted = omega (arith, sections_edges wf (spans wf.in_range cov), bridges_twice wf)
-
-  -- so every start gives as many: one for each loom, and one more for each bridge
-  pub as_many_sections : sections g (search g all starts) ≡ looms g + count_edges g (bridge g)
-  as_many_sections = omega (arith, sections_edges wf (spans wf.in_range cov), as_many_looms wf cov)
+-- the two counts stand in proofs/Theorems.antt

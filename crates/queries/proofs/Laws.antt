@@ -13,3 +13,5 @@ pub mod TableRules
 pub mod Rooms
 pub mod Knowing
 pub mod Looking
+pub mod Alike
+pub mod Answering

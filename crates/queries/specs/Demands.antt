@@ -24,12 +24,13 @@ use Rattle.record.specs.Answers.{refused, answered}
 use Rattle.forest.specs.Index.{index_by, index_of, mark_bytes, index_length}
 use Rattle.record.specs.Operations.{out_of_range, Accepted, check, degree, unpack, unpacked}
 use Rattle.record.specs.Filing.{record_from, bad_lists, file, filed}
-use Rattle.record.specs.Laws.Refiled as Refiled
+use Rattle.record.proofs.Laws.Refiled as Refiled
 use Rattle.adjacency.specs.Places.{any_in}
 use Rattle.record.specs.Laws.Sound.{accepted_well_formed}
 use Rattle.record.specs.Laws.Sounded.{accepted_sound, sound_all}
 use Rattle.forest.specs.Operations.{build, built, first_start, loops, loop_figure, roots_in}
-use Rattle.forest.specs.Laws.Figures.{roots_from, loops_whole, loops_few, figure_told}
+use Rattle.forest.specs.Laws.Figures.{roots_from, loops_whole, figure_told}
+use Rattle.forest.proofs.Laws.Loops.{loops_few}
 use Rattle.forest.specs.Laws.Taken.{first_index}
 use Rattle.queries.specs.View.{section_bit, ones_of_b, number_bit, place_of, Alike}
 use Rattle.queries.specs.Answers.{unless_zero}
@@ -38,14 +39,11 @@ use Rattle.queries.specs.Written.{Written, forest_from, Terminal, VisitNumber, O
 use Rattle.queries.specs.Laws.Answered as Answered
 use Rattle.queries.specs.Laws.Built.{built_own, built_fill, built_rest}
 use Rattle.queries.specs.Laws.Edges.{e_told, p_told, p_as_e, e_as_p, p_none, p_once, b_told, b_both, b_doubled}
-use Rattle.queries.specs.Laws.Alike.{alike_answers}
 use Rattle.queries.specs.Laws.Columns.{table_cells}
 use Rattle.queries.specs.Laws.Figured.{loops_marked, table_loops}
-use Rattle.queries.specs.Laws.Given.{never_seven}
 use Rattle.queries.specs.Laws.Sectioned as Sectioned
 use Rattle.queries.specs.Laws.Looked as Looked
-use Rattle.queries.specs.Laws.Looked.{lookup_cells, lookup_refuses_head, lookup_refuses_visit, lookup_none}
-use Rattle.queries.specs.Laws.Looked.{lookup_built, head_gives, visit_gives}
+use Rattle.queries.specs.Laws.Looked.{head_gives, visit_gives}
 use Rattle.queries.specs.Lookup.{Lists, lists, bad_list, lookup, looked_up, BothAnswer, LookupCells}
 use Rattle.queries.specs.Table.{parents_on, heads_on, table_on, table_of, Tabled}
 use Rattle.queries.specs.Given.{NeverGiven}
@@ -55,44 +53,14 @@ pub build_writes : (bytes : List ℕ) (start : ℕ) (work buffer : List ℕ) →
     → (w : Written bytes (built bytes start work buffer)) × (w.start ≡ start)
 build_writes = Answered.written_by
 
--- 7 is given no longer, by any operation
-pub never_7 : (bytes : List ℕ) → NeverGiven 7 bytes
-never_7 = never_seven
-
--- fill bits, and the bits at D's ones, affect no answer, on any index of the right length
-pub fill_unread : {bytes a b : List ℕ} → Alike bytes a b → SameAnswers bytes a b
-fill_unread = alike_answers
-
 -- ---- Lookup, on any index
 
 module _ (bytes index list : List ℕ) (lent : Lists) where
-  -- where it refuses nothing, each answer is the single call's
-  pub lookup_told : lookup bytes index list lent ≡ answered tt
-      → LookupCells bytes index list (looked_up bytes index list lent)
-  lookup_told = lookup_cells bytes index list lent
-
-  -- and else nothing is written
+  -- where it refuses, nothing is written
   pub lookup_unwritten : {k : ℕ} → lookup bytes index list lent ≡ refused k → looked_up bytes index list lent ≡ lent
   lookup_unwritten = Looked.lookup_unwritten bytes index list lent
 
-  -- once order R, 10 and 15 are kept, and the single calls answer for the terminals before cell i
-  module _ (b : first_broken (beside_rules bytes index) ≡ 0) (g : bad_list list lent ≡ false)
-      {i : ℕ} (h : i < length list) (before : (j : ℕ) → j < i → BothAnswer bytes index (get_or list j 0)) where
-    -- a refusal by Head there is the call's, and so is one by Visit where Head answers
-    pub lookup_head_refused : {k : ℕ} → head bytes index (get_or list i 0) ≡ refused k
-        → lookup bytes index list lent ≡ refused k
-    lookup_head_refused = lookup_refuses_head bytes index list lent b g h before
-
-    pub lookup_visit_refused : {k x : ℕ} → head bytes index (get_or list i 0) ≡ answered x
-        → visit bytes index (get_or list i 0) ≡ refused k → lookup bytes index list lent ≡ refused k
-    lookup_visit_refused = lookup_refuses_visit bytes index list lent b g h before
-
--- a list of none is answered, once order R, 10 and 15 are kept
-pub lookup_of_none : (bytes index : List ℕ) → first_broken (beside_rules bytes index) ≡ 0
-    → lookup bytes index [] (lists [] []) ≡ answered tt
-lookup_of_none = lookup_none
-
--- by then Head refuses with 11 or 12, and Visit, where Head answers, with 12
+-- once order R and rule 10 are kept, Head refuses with 11 or 12, and Visit, where Head answers, with 12
 pub head_refusals : (bytes index : List ℕ) → first_broken (beside_rules bytes index) ≡ 0 → (v : ℕ) {k : ℕ}
     → head bytes index v ≡ refused k → (k ≡ 11) ⊎ (k ≡ 12)
 head_refusals = head_gives
@@ -309,11 +277,6 @@ module _ {bytes index : List ℕ} (w : Written bytes index) where
     pub ancestor_relation : (ancestor_in F (u - 1) (v - 1) ≡ true) ↔ Ancestor F (u - 1) (v - 1)
     ancestor_relation =
         ancestor_told (Answered.formed w).in_range (Answered.covered w) (u - 1) (v - 1) (Answered.vertex_of_lem w r)
-
-  -- Lookup: a list of terminals is answered, if it has at most 512 and the answer lists have its length
-  pub lookup_answered : (list : List ℕ) (lent : Lists) → bad_list list lent ≡ false
-      → ((i : ℕ) → i < length list → Terminal bytes (get_or list i 0)) → lookup bytes index list lent ≡ answered tt
-  lookup_answered = lookup_built w
 
   -- Table: each cell is what its query answers, so none is a refusal
   pub table_told : Tabled bytes index (table_of bytes w.start)

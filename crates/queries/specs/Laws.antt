@@ -1,6 +1,5 @@
 -- Laws about the queries: answers settle values, order Q, numbers of 16 bits, answers on a view that shows a forest,
--- the view and the bits of a built index, indexes that agree where the queries look, Lookup beside the single calls,
--- and which refusals are given.
+-- the view and the bits of a built index, Lookup beside the single calls, and which refusals are given.
 pub mod Settled
 pub mod Framed
 pub mod Asked
@@ -9,7 +8,6 @@ pub mod Small
 pub mod Marks
 pub mod Shown
 pub mod Built
-pub mod Alike
 pub mod Ready
 pub mod Answered
 pub mod Edges

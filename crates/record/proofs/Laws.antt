@@ -2,3 +2,4 @@
 pub mod Reading
 pub mod Telling
 pub mod Writing
+pub mod Refiled

@@ -20,5 +20,4 @@ pub mod Lending
 pub mod Listed
 pub mod Result
 pub mod Filed
-pub mod Refiled
 pub mod Sums

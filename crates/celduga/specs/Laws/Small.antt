@@ -12,7 +12,7 @@ use Rattle.record.specs.Laws.Sounded.{sound_of, accepted_sound}
 use Rattle.record.specs.Laws.Spans.{block_small}
 use Rattle.record.specs.Laws.Valued.{Small, tried_valued}
 use Rattle.forest.specs.Operations.{loops, loop_figure}
-use Rattle.forest.specs.Laws.Figures.{loops_few}
+use Rattle.forest.proofs.Laws.Loops.{loops_few}
 
 pub degree_small : (bytes : List ℕ) (v : ℕ) → Small (degree bytes v)
 unfolding degree degree_rules

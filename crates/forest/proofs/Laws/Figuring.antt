@@ -17,7 +17,8 @@ use Rattle.record.specs.Steps.{ArraysOf}
 use Rattle.record.specs.Laws.Unpacked.{graph_of, starts_of_lem, arrays_of}
 use Rattle.forest.specs.Operations.{loops, roots_in}
 use Rattle.forest.specs.Steps.{stride, Room, Searched}
-use Rattle.forest.specs.Laws.Figures.{roots_in_lem, loops_whole, no_loops, loops_asked, loops_given}
+use Rattle.forest.specs.Laws.Figures.{roots_in_lem, loops_whole, loops_asked, loops_given}
+use Rattle.forest.proofs.Laws.Loops.{no_loops}
 use Rattle.forest.proofs.Laws.Graphs.{as_many}
 use Rattle.forest.proofs.Laws.Owned.{part_size, part_cell}
 

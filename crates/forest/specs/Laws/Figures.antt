@@ -1,9 +1,7 @@
 -- The loop figure of an accepted record.
 --   roots_from     every start gives as many roots
 --   loops_whole    m and the roots together are no fewer than n, and the figure is the difference
---   loops_edges    it is the number of wires with no mark E at either end, for every start
---   loops_few      it is below the number of wires, or 0 where there are none; no_loops: in the empty record
---   roots_in_lem       a list of the parents shows the roots
+--   roots_in_lem   a list of the parents shows the roots
 --   figure_told    the operation's answer
 --   loops_asked, loops_given   what `loops_by` asks for and gives, of parents that show the roots
 use Rattle.std.specs.Prelude.{◌≡◌, false, ℕ, ◌+◌, ◌-◌, ◌*◌, ◌≤◌, ◌<◌, eqb, length, get_or}
@@ -41,20 +39,20 @@ module _ {bytes : List ℕ} (a : Accepted bytes) where
   abbrev g : Blocks
   g = blocks bytes
 
-  formed : WellFormed g
+  pub formed : WellFormed g
   formed = accepted_well_formed a
 
-  as_many : length g ≡ terminals bytes
+  pub as_many : length g ≡ terminals bytes
   as_many = sound_vertices (accepted_sound a)
 
-  all_places : length (flatten g) ≡ 2 * wires bytes
+  pub all_places : length (flatten g) ≡ 2 * wires bytes
   all_places = sound_all (accepted_sound a)
 
-  first_covered : Covers g (starts_from (length g) 0)
+  pub first_covered : Covers g (starts_from (length g) 0)
   first_covered = start_covers g 0 (λ h. h)
 
   module _ (start : ℕ) (taken : no_start (terminals bytes) start ≡ false) where
-    covered : Covers g (starts_from (length g) (start - 1))
+    pub covered : Covers g (starts_from (length g) (start - 1))
     covered =
         start_covers g (start - 1) (λ h. (
         let k = as_many in
@@ -69,35 +67,6 @@ module _ {bytes : List ℕ} (a : Accepted bytes) where
   loops_whole =
       let e = edges_outside formed first_covered (wires bytes) all_places in
       let k = as_many in
-      omega arith
-
-  pub loops_edges : (start : ℕ) → no_start (terminals bytes) start ≡ false
-      → loops bytes ≡ count_edges g (at_neither g (child_mark (forest g (start - 1))))
-  loops_edges start taken =
-      let e = edges_outside formed (covered start taken) (wires bytes) all_places in
-      let r = roots_from start taken in
-      let w = loops_whole in
-      let k = as_many in
-      omega arith
-
-  -- where there are wires, some vertex is no root
-  pub loops_few : loops bytes ≤ wires bytes - 1
-  loops_few =
-      let w = loops_whole in
-      let k = as_many in
-      let p = all_places in
-      let most = roots_most (search_spans formed.in_range first_covered) in
-      elim (dec_lt 0 (wires bytes)) [
-        | yes h ↦ let f = some_no_root formed first_covered (omega arith) in omega arith
-        | no h ↦ omega arith
-      ]
-
-  pub no_loops : terminals bytes ≡ 0 → loops bytes ≡ 0
-  no_loops z =
-      let w = loops_whole in
-      let few = loops_few in
-      let k = as_many in
-      let most = roots_most (search_spans formed.in_range first_covered) in
       omega arith
 
   pub figure_told : loop_figure bytes ≡ answered (loops bytes)

@@ -5,7 +5,6 @@ pub mod Entries
 pub mod Edges
 pub mod Parted
 pub mod Names
-pub mod Different
 pub mod Roots
 pub mod Looms
 pub mod Loops

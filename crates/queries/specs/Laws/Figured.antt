@@ -24,7 +24,8 @@ use Rattle.record.specs.Operations.{Accepted}
 use Rattle.record.specs.Laws.First.{both_kept, check_numbered}
 use Rattle.record.specs.Laws.Told.{untold_back, buffer_written}
 use Rattle.forest.specs.Operations.{loops, roots_in}
-use Rattle.forest.specs.Laws.Figures.{roots_from, loops_whole, loops_edges, roots_in_lem}
+use Rattle.forest.specs.Laws.Figures.{roots_from, loops_whole, roots_in_lem}
+use Rattle.forest.proofs.Laws.Loops.{loops_edges}
 use Rattle.queries.specs.View.{section_bit, place_of}
 use Rattle.queries.specs.Answers.{or_zero}
 use Rattle.queries.specs.Operations.{parent}

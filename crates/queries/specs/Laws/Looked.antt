@@ -5,10 +5,6 @@
 --   lookup_cells     where nothing is refused, each cell is its single call's answer
 --   lookup_unwritten where one is, the lists stay
 --   questions_left   the rules that are left once order R, 10 and 15 are kept
---   lookup_refuses_head, lookup_refuses_visit    the first refusal in list order is the answer
---   lookup_answers   where both single calls answer for each terminal, so does Lookup
---   lookup_built     a list of terminals, on an index that Build writes
---   lookup_none      a list of none
 use Rattle.std.proofs.Math.Path.{◌≡◌, refl, sym, ap, subst}
 use Rattle.std.proofs.Common.{◌∙◌, arith}
 use Rattle.std.specs.Prelude.{Bool, true, false, List, [], ◌∷◌, ◌⊎◌, length, get_or}
@@ -101,7 +97,7 @@ module _ (bytes index : List ℕ) where
   unfolding visit
   visit_some v e = then_some (order_q bytes index v) (visit_twelve (view_of bytes index) (v - 1)) e
 
-  both_some : (v k : ℕ) → refused k ≡ head_and_visit bytes index v → 1 ≤ k
+  pub both_some : (v k : ℕ) → refused k ≡ head_and_visit bytes index v → 1 ≤ k
   unfolding head_and_visit
   both_some v k e = elim (both_refused (head bytes index v) (visit bytes index v) e) [
     | inl f ↦ head_some v f
@@ -182,53 +178,3 @@ module _ (bytes index list : List ℕ) (lent : Lists) where
     unfolding lookup_rules
     questions_left =
         append_kept (beside_numbered bytes index) ((15, bad_list list lent) ∷ questions) b ∙ first_kept 15 questions g
-
-    both_answered : {v : ℕ} → BothAnswer bytes index v → (p : ℕ × ℕ) × (answered p ≡ head_and_visit bytes index v)
-    unfolding head_and_visit
-    both_answered a = ((a.its_head, a.its_visit), both_values (sym a.head_is) (sym a.visit_is))
-
-    module _ {i : ℕ} (h : i < length list) (before : (j : ℕ) → j < i → BothAnswer bytes index (get_or list j 0)) {k : ℕ}
-      where
-        stops : refused k ≡ head_and_visit bytes index (get_or list i 0) → lookup bytes index list lent ≡ refused k
-        unfolding lookup
-        stops e =
-            let ask = head_and_visit bytes index in
-            let left = questions_left ∙ passed_to ask list i (omega arith) (λ j l. both_answered (before j l)) in
-            sym (told_number (first_broken (lookup_rules bytes index list lent)) tt (left ∙ asked_refused ask list h e)
-            (both_some bytes index (get_or list i 0) k e))
-
-        pub lookup_refuses_head : head bytes index (get_or list i 0) ≡ refused k
-            → lookup bytes index list lent ≡ refused k
-        unfolding head_and_visit
-        lookup_refuses_head e = stops (both_first (visit bytes index (get_or list i 0)) (sym e))
-
-        pub lookup_refuses_visit : {x : ℕ} → head bytes index (get_or list i 0) ≡ answered x
-            → visit bytes index (get_or list i 0) ≡ refused k → lookup bytes index list lent ≡ refused k
-        unfolding head_and_visit
-        lookup_refuses_visit e f = stops (both_second (sym e) (sym f))
-
-    pub lookup_answers : ((i : ℕ) → i < length list → BothAnswer bytes index (get_or list i 0))
-        → lookup bytes index list lent ≡ answered tt
-    unfolding lookup
-    lookup_answers each =
-        let ask = head_and_visit bytes index in
-        let all = passed_to ask list (length list) (omega arith) (λ j l. both_answered (each j l)) in
-        sym (untold tt (questions_left ∙ all ∙ asked_all ask list refl))
-
--- a list of terminals, on an index that Build writes
-pub lookup_built : {bytes index : List ℕ} → Written bytes index → (list : List ℕ) (lent : Lists)
-    → bad_list list lent ≡ false → ((i : ℕ) → i < length list → Terminal bytes (get_or list i 0))
-    → lookup bytes index list lent ≡ answered tt
-lookup_built {bytes} {index} w list lent g each =
-    lookup_answers bytes index list lent (beside_unbroken (beside_written w)) g
-    (λ i h. record {
-      its_head = _;
-      its_visit = _;
-      head_is = head_answer w (each i h);
-      visit_is = visit_answer w (each i h);
-    })
-
-pub lookup_none : (bytes index : List ℕ) → first_broken (beside_rules bytes index) ≡ 0
-    → lookup bytes index [] (lists [] []) ≡ answered tt
-unfolding bad_list other_length
-lookup_none bytes index b = lookup_answers bytes index [] (lists [] []) b refl (λ i h. absurd (omega arith))

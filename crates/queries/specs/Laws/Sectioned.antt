@@ -12,9 +12,10 @@ use Rattle.graph.specs.Search.{Forest, count_up}
 use Rattle.graph.specs.Joined.{bridge}
 use Rattle.graph.specs.Forest.{head as head_in}
 use Rattle.graph.specs.Counts.{count_places, count_edges, looms, different, sections}
-use Rattle.graph.specs.Theorems.{bridges_counted, sections_counted, as_many_sections}
+use Rattle.graph.specs.Theorems.{bridges_counted}
+use Rattle.graph.proofs.Theorems.{sections_counted, as_many_sections}
 use Rattle.graph.specs.Laws.Counts.Edges.{edges_same}
-use Rattle.graph.specs.Laws.Counts.Different.{different_map}
+use Rattle.graph.proofs.Different.{different_map}
 use Rattle.record.specs.Record.{terminals, blocks}
 use Rattle.forest.specs.Operations.{roots_in}
 use Rattle.queries.specs.View.{section_bit, ones_of_b, place_of}
