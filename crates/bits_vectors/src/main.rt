@@ -1,9 +1,11 @@
 // Asks `bits` on fixed bytes and prints the answers, a line for each bit string, field and write. The file stdout has
 // what they must be.
 #![tactic(auto)]
+
 ghost use Rattle.std.specs.Prelude.{◌<◌, ◌≤◌, length};
 
 use print::{label, number, show_bytes, text, value};
+use std::io;
 
 // The sample record.
 const SAMPLE: [u8; 21] = [
@@ -43,112 +45,126 @@ const ASKED: [usize; 20] = [
 ];
 
 // Rank and select of one string at n.
-fn pair(bytes: &[u8], start: usize, places: usize, n: usize) {
-    value(bits::rank(bytes, start, places, n));
-    text(b"/");
-    number(bits::select(bytes, start, places, n));
+fn pair(rt: &impl Print, bytes: &[u8], start: usize, places: usize, n: usize) -> io::Result<()> {
+    value(rt, bits::rank(bytes, start, places, n))?;
+    text(rt, b"/")?;
+    number(rt, bits::select(bytes, start, places, n))?;
+    Ok(())
 }
 
 // Rank and select of one string, at each number asked.
-fn pairs(bytes: &[u8], start: usize, places: usize, asked: &[usize]) {
+fn pairs(
+    rt: &impl Print,
+    bytes: &[u8],
+    start: usize,
+    places: usize,
+    asked: &[usize],
+) -> io::Result<()> {
     let mut i = 0;
     while i < asked.len() {
-        pair(bytes, start, places, asked[i]);
+        pair(rt, bytes, start, places, asked[i])?;
         i += 1;
     }
+    Ok(())
 }
 
-fn string(bytes: &[u8], start: usize, places: usize) {
-    text(b"string");
-    value(start);
-    label(b" ", places);
-    pairs(bytes, start, places, &ASKED);
-    text(b"\n");
+fn string(rt: &impl Print, bytes: &[u8], start: usize, places: usize) -> io::Result<()> {
+    text(rt, b"string")?;
+    value(rt, start)?;
+    label(rt, b" ", places)?;
+    pairs(rt, bytes, start, places, &ASKED)?;
+    text(rt, b"\n")?;
+    Ok(())
 }
 
 // The bit `start`, and the fields of 12, 13 and 15 bits from there on, as many of them as the bytes hold.
-fn fields(bytes: &[u8], start: usize)
+fn fields(rt: &impl Print, bytes: &[u8], start: usize) -> io::Result<()>
     requires { (length bytes.now ≤ 1000) × (start < 1000) }
 {
     let held = 8 * bytes.len();
-    label(b"fields ", start);
+    label(rt, b"fields ", start)?;
     if start < held {
         if bits::fields::read_bit(bytes, start) {
-            text(b" 1");
+            text(rt, b" 1")?;
         } else {
-            text(b" 0");
+            text(rt, b" 0")?;
         }
     }
     if start + 12 <= held {
-        value(bits::fields::read12(bytes, start));
+        value(rt, bits::fields::read12(bytes, start))?;
     }
     if start + 13 <= held {
-        value(bits::fields::read13(bytes, start));
+        value(rt, bits::fields::read13(bytes, start))?;
     }
     if start + 15 <= held {
-        value(bits::fields::read15(bytes, start));
+        value(rt, bits::fields::read15(bytes, start))?;
     }
-    text(b"\n");
+    text(rt, b"\n")?;
+    Ok(())
 }
 
 // Four bytes of zeros and four of ones, after a field was written from bit `start` on, and then after that bit was set.
-fn write(start: usize, v: usize)
+fn write(rt: &impl Print, start: usize, v: usize) -> io::Result<()>
     requires { (start ≤ 52) × (v < 4096) }
 {
     let mut bytes = [0x00, 0x00, 0x00, 0x00, 0xFF, 0xFF, 0xFF, 0xFF];
     let buffer: &mut [u8] = &mut bytes;
     bits::fields::write12(buffer, start, v);
-    label(b"field ", start);
-    show_bytes(buffer);
+    label(rt, b"field ", start)?;
+    show_bytes(rt, buffer)?;
     bits::fields::set_bit(buffer, start);
-    label(b"bit ", start);
-    show_bytes(buffer);
+    label(rt, b"bit ", start)?;
+    show_bytes(rt, buffer)?;
+    Ok(())
 }
 
 // The sample record: its header, D and fields, all its bits, no bits, and strings that it does not hold.
-fn sample() {
+fn sample(rt: &impl Print) -> io::Result<()> {
     let bytes: &[u8] = &SAMPLE;
-    fields(bytes, 0);
-    fields(bytes, 13);
-    string(bytes, 28, 16);
-    fields(bytes, 44);
-    fields(bytes, 56);
-    fields(bytes, 153);
-    fields(bytes, 155);
-    fields(bytes, 156);
-    fields(bytes, 167);
-    string(bytes, 0, 168);
-    string(bytes, 168, 0);
-    string(bytes, 1, 168);
-    string(bytes, 169, 0);
-    string(bytes, 1, 18446744073709551615);
-    string(bytes, 18446744073709551615, 18446744073709551615);
-    string(&bytes[..0], 0, 0);
+    fields(rt, bytes, 0)?;
+    fields(rt, bytes, 13)?;
+    string(rt, bytes, 28, 16)?;
+    fields(rt, bytes, 44)?;
+    fields(rt, bytes, 56)?;
+    fields(rt, bytes, 153)?;
+    fields(rt, bytes, 155)?;
+    fields(rt, bytes, 156)?;
+    fields(rt, bytes, 167)?;
+    string(rt, bytes, 0, 168)?;
+    string(rt, bytes, 168, 0)?;
+    string(rt, bytes, 1, 168)?;
+    string(rt, bytes, 169, 0)?;
+    string(rt, bytes, 1, 18446744073709551615)?;
+    string(rt, bytes, 18446744073709551615, 18446744073709551615)?;
+    string(rt, &bytes[..0], 0, 0)?;
+    Ok(())
 }
 
 // Strings, fields and writes at one of the starting bits of a byte. A field that begins in byte 26 ends in byte 27 or
 // in byte 28, so one of the two parts has no byte behind it.
-fn at(shift: usize)
+fn at(rt: &impl Print, shift: usize) -> io::Result<()>
     requires { shift ≤ 8 }
 {
     let bytes: &[u8] = &MIXED;
-    string(bytes, shift, 375);
-    string(bytes, 190 + shift, 130);
-    string(bytes, 60 + shift, 5);
-    fields(bytes, 192 + shift);
-    fields(bytes, 361 + shift);
-    fields(&bytes[..28], 208 + shift);
-    fields(&bytes[..29], 208 + shift);
-    write(shift, 0xABC);
-    write(20 + shift, 0x543);
-    write(44 + shift, 0xABC);
+    string(rt, bytes, shift, 375)?;
+    string(rt, bytes, 190 + shift, 130)?;
+    string(rt, bytes, 60 + shift, 5)?;
+    fields(rt, bytes, 192 + shift)?;
+    fields(rt, bytes, 361 + shift)?;
+    fields(rt, &bytes[..28], 208 + shift)?;
+    fields(rt, &bytes[..29], 208 + shift)?;
+    write(rt, shift, 0xABC)?;
+    write(rt, 20 + shift, 0x543)?;
+    write(rt, 44 + shift, 0xABC)?;
+    Ok(())
 }
 
-fn main() {
-    sample();
+fn main(rt: HostRuntime) -> io::Result<()> {
+    sample(&rt)?;
     let mut shift = 0;
     while shift <= 8 {
-        at(shift);
+        at(&rt, shift)?;
         shift += 1;
     }
+    Ok(())
 }

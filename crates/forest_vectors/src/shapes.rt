@@ -2,7 +2,7 @@
 // they do in the fields.
 ghost use Rattle.std.specs.Prelude.{◌+◌, ◌*◌, ◌≤◌, ◌<◌};
 
-#[derive(Drop)]
+#[derive(Clone, Copy)]
 pub enum Shape {
     Path,
     Star,

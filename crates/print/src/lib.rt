@@ -1,63 +1,63 @@
 // What programs print: words, numbers, lists, bytes and digests. It rests on none of the crates that they ask.
 #![tactic(auto)]
+
 ghost use Rattle.std.specs.Prelude.{◌<◌};
 
-use libc::STDOUT_FILENO;
+use std::io;
 
-pub fn text(s: &[u8]) {
-    io::write_all(STDOUT_FILENO, s);
+pub fn text(rt: &impl Print, s: &[u8]) -> io::Result<()> {
+    rt.write_all(s)
 }
 
-pub fn number(n: usize) {
-    io::print_decimal(STDOUT_FILENO, n as u64);
+pub fn number(rt: &impl Print, n: usize) -> io::Result<()> {
+    print!(rt; "{n}")
 }
 
 // A space and a number.
-pub fn value(n: usize) {
-    text(b" ");
-    number(n);
+pub fn value(rt: &impl Print, n: usize) -> io::Result<()> {
+    text(rt, b" ")?;
+    number(rt, n)
 }
 
 // A name, a number and a colon.
-pub fn label(name: &[u8], n: usize) {
-    text(name);
-    number(n);
-    text(b":");
+pub fn label(rt: &impl Print, name: &[u8], n: usize) -> io::Result<()> {
+    text(rt, name)?;
+    number(rt, n)?;
+    text(rt, b":")
 }
 
 // A refusal, by its number.
-pub fn refused(k: usize) {
-    text(b"refused ");
-    number(k);
+pub fn refused(rt: &impl Print, k: usize) -> io::Result<()> {
+    text(rt, b"refused ")?;
+    number(rt, k)
 }
 
-fn item(k: u16) {
-    value(k as usize);
+fn item(rt: &impl Print, k: u16) -> io::Result<()> {
+    value(rt, k as usize)
 }
 
 // The numbers of a list, to the end of the line.
-pub fn show_numbers(list: &[u16]) {
+pub fn show_numbers(rt: &impl Print, list: &[u16]) -> io::Result<()> {
     let mut i = 0;
     while i < list.len() {
-        item(list[i]);
+        item(rt, list[i])?;
         i += 1;
     }
-    text(b"\n");
+    text(rt, b"\n")
 }
 
-fn hex(b: u8) {
-    text(b" ");
-    io::print_hex(STDOUT_FILENO, b as u64, 2);
+fn hex(rt: &impl Print, b: u8) -> io::Result<()> {
+    print!(rt; " {b:02x}")
 }
 
 // The bytes in hexadecimal, to the end of the line.
-pub fn show_bytes(bytes: &[u8]) {
+pub fn show_bytes(rt: &impl Print, bytes: &[u8]) -> io::Result<()> {
     let mut i = 0;
     while i < bytes.len() {
-        hex(bytes[i]);
+        hex(rt, bytes[i])?;
         i += 1;
     }
-    text(b"\n");
+    text(rt, b"\n")
 }
 
 fn wide(b: u8) -> u64
@@ -75,14 +75,12 @@ fn mixed(d: u64, b: u8) -> u64
 }
 
 // The digest of the bytes, to the end of the line.
-pub fn digest(bytes: &[u8]) {
+pub fn digest(rt: &impl Print, bytes: &[u8]) -> io::Result<()> {
     let mut d = 0;
     let mut i = 0;
     while i < bytes.len() {
         d = mixed(d, bytes[i]);
         i += 1;
     }
-    text(b" ");
-    io::print_hex(STDOUT_FILENO, d, 8);
-    text(b"\n");
+    println!(rt; " {d:08x}")
 }
