@@ -6,4 +6,4 @@ use Rattle.loomlist.specs.declared.input.Input.TheVariants as Input
 -- no fewer bytes than were there, and no more than there is room for
 abbrev pub Within : ℕ → ℕ → Input → Type 0
 Within done room (Input.Read k) = (done ≤ k) × (k ≤ room)
-Within done room Input.Failed = Unit {0}
+Within done room (Input.Failed e) = Unit {0}

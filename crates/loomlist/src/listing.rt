@@ -3,23 +3,52 @@ ghost use Rattle.std.specs.Prelude.{◌≡◌, ◌+◌, ◌≤◌, ◌<◌, leng
 ghost use Rattle.loomlist.specs.Listing.{Sized};
 
 use adjacency::cells::get;
-use libc::{STDERR_FILENO, STDOUT_FILENO};
 use record::Refusal;
+use std::io::Error;
 
-// One line, for a call with an argument.
-pub fn usage() {
-    io::write_all(STDERR_FILENO, b"usage: loomlist < RECORD\n");
+// One line, for a call with an argument. Where it can't be written there is nowhere to say so.
+pub fn usage(rt: &HostRuntime) {
+    eprintln!(rt; "usage: loomlist < RECORD").ok();
+}
+
+// Where the system's words end: std puts the error's number behind them, in brackets.
+fn words_end(told: &[u8]) -> usize
+    ensures { result ≤ length told.now }
+{
+    let mut end = told.len();
+    for (i, b) in told.iter().enumerate() {
+        if *b == b'(' && i > 0 {
+            end = i - 1;
+        }
+    }
+    end
+}
+
+fn complain(rt: &HostRuntime, what: &[u8], told: &[u8]) -> Result<(), Error> {
+    let to = rt.stderr();
+    to.write_all(b"loomlist: ")?;
+    to.write_all(what)?;
+    to.write_all(b": ")?;
+    to.write_all(&told[..words_end(told)])?;
+    to.write_all(b"\n")
+}
+
+// What failed and why, in one line.
+fn failed(rt: &HostRuntime, what: &[u8], error: Error) {
+    if let Ok(told) = format!(in rt.alloc(); "{error}") {
+        complain(rt, what, told.as_bytes()).ok();
+    }
 }
 
 // Why the input could not be read.
-pub fn unread() {
-    os::fail(b"loomlist: standard input");
+pub fn unread(rt: &HostRuntime, error: Error) {
+    failed(rt, b"standard input", error);
 }
 
 // Writes the text to standard output, or says why that failed.
-fn send(text: &[u8]) {
-    if !io::write_all(STDOUT_FILENO, text) {
-        os::fail(b"loomlist: standard output");
+fn send(rt: &HostRuntime, text: &[u8]) {
+    if let Err(error) = rt.write_all(text) {
+        failed(rt, b"standard output", error);
     }
 }
 
@@ -118,20 +147,21 @@ fn loops(out: &mut [u8], at: usize, figure: usize) -> usize
 
 // ---- the two answers
 
-fn refused_line(k: usize, out: &mut [u8])
+fn refused_line(rt: &HostRuntime, k: usize, out: &mut [u8])
     requires { length out.old ≡ 32 }
 {
     let at = put(out, 0, b"refused ");
     let end = number(out, at, k as u64, b'\n');
-    send(&out[..end]);
+    send(rt, &out[..end]);
 }
 
-pub fn refused(r: Refusal) {
+pub fn refused(rt: &HostRuntime, r: Refusal) {
     let mut room = [0u8; 32];
-    refused_line(record::number_of(r), &mut room);
+    refused_line(rt, record::number_of(r), &mut room);
 }
 
 fn all_lines(
+    rt: &HostRuntime,
     n: usize,
     visits: &[u16],
     parents: &[u16],
@@ -145,11 +175,12 @@ fn all_lines(
     let first = put(out, 0, b"terminal visit parent children head\n");
     let last = lines(n, visits, parents, counts, heads, out, first);
     let end = loops(out, last, figure);
-    send(&out[..end]);
+    send(rt, &out[..end]);
 }
 
 // The heading, a line for each terminal, and the loop figure.
 pub fn accepted(
+    rt: &HostRuntime,
     n: usize,
     visits: &[u16],
     parents: &[u16],
@@ -160,5 +191,5 @@ pub fn accepted(
     requires { Sized n visits.now parents.now counts.now heads.now }
 {
     let mut room = [0u8; 122943];
-    all_lines(n, visits, parents, counts, heads, figure, &mut room);
+    all_lines(rt, n, visits, parents, counts, heads, figure, &mut room);
 }

@@ -1,6 +1,7 @@
 // The listing of the record on standard input (document 01, `loomlist`): what the search forest says of each terminal,
 // or `refused` and the refusal's number. An error of a read or a write is told on standard error.
 #![tactic(auto)]
+
 ghost use Rattle.std.specs.Prelude.{◌≡◌};
 ghost use Rattle.record.specs.Answers.{answered};
 ghost use Rattle.record.specs.Operations.{Accepted};
@@ -14,6 +15,7 @@ use forest::start::first_start;
 use input::Input;
 use listing::refused;
 use record::{Shape, Verdict};
+use std::env::{Env, FillError};
 
 mod input; // input.rt: standard input
 mod listing; // listing.rt: what is printed
@@ -30,6 +32,7 @@ fn figure(bytes: &[u8], n: usize, m: usize, parents: &[u16]) -> usize
 
 // The table of a record, from its first terminal on, and the listing. The slices are room to work in.
 fn list(
+    rt: &HostRuntime,
     bytes: &[u8],
     n: usize,
     m: usize,
@@ -42,16 +45,16 @@ fn list(
     requires { (Sound bytes.now n m) × (Sized n visits.old parents.old counts.old heads.old) }
 {
     match queries::table(bytes, first_start(n), work, visits, parents, counts, heads) {
-        Verdict::Refused(r) => refused(r),
+        Verdict::Refused(r) => refused(rt, r),
         Verdict::Accepted => {
             let loops = figure(bytes, n, m, parents);
-            listing::accepted(n, visits, parents, counts, heads, loops);
+            listing::accepted(rt, n, visits, parents, counts, heads, loops);
         }
     }
 }
 
 // With room for the table, and for Build's work.
-fn with_room(bytes: &[u8], n: usize, m: usize)
+fn with_room(rt: &HostRuntime, bytes: &[u8], n: usize, m: usize)
     requires { Sound bytes.now n m }
 {
     let mut work = [0u16; 32768];
@@ -61,6 +64,7 @@ fn with_room(bytes: &[u8], n: usize, m: usize)
     let mut heads = [0u16; 4096];
     let cells = 8 * n;
     list(
+        rt,
         bytes,
         n,
         m,
@@ -72,31 +76,40 @@ fn with_room(bytes: &[u8], n: usize, m: usize)
     );
 }
 
-fn run(bytes: &[u8]) {
+fn run(rt: &HostRuntime, bytes: &[u8]) {
     match record::header::order_r(bytes) {
-        Shape::Refused(r) => refused(r),
+        Shape::Refused(r) => refused(rt, r),
         Shape::Passed(s) => {
             let n = s.n;
             let m = s.m;
-            with_room(bytes, n, m);
+            with_room(rt, bytes, n, m);
         }
     }
 }
 
-fn read(room: &mut [u8]) {
-    match input::read_all(room) {
-        Input::Failed => listing::unread(),
-        Input::Read(len) => run(&room[..len]),
+fn read(rt: &HostRuntime, room: &mut [u8]) {
+    match input::read_all(&mut rt.stdin(), room) {
+        Input::Failed(error) => listing::unread(rt, error),
+        Input::Read(len) => run(rt, &room[..len]),
+    }
+}
+
+// Whether the program was called with an argument.
+fn has_argument(rt: &HostRuntime) -> bool {
+    let mut room = [0u8; 1];
+    match rt.arg(1, &mut room) {
+        Err(FillError::NotPresent) => false,
+        _ => true,
     }
 }
 
 // There is room for a byte more than the longest record has, so that a longer input is refused as one of a wrong
 // length.
-fn main() {
-    if os::arg_count() > 1 {
-        listing::usage();
+fn main(rt: HostRuntime) {
+    if has_argument(&rt) {
+        listing::usage(&rt);
         return;
     }
     let mut room = [0u8; 53765];
-    read(&mut room);
+    read(&rt, &mut room);
 }

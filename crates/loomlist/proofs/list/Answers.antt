@@ -1,0 +1,18 @@
+-- `list` meets its contract: where Table refuses nothing, its parents are those of the record.
+use mathlib.Core.Path.{ap, ◌∙◌}
+use Prim.Native.Nat.{ℕ}
+use borrow.Author.Rules.{rules}
+use Rattle.record.specs.Answers.{verdict}
+use Rattle.queries.specs.Table.{Columns, table_of}
+use Rattle.queries.specs.Laws.Figured.{table_left}
+use Rattle.loomlist.proofs.list.Goals as goal
+
+pub figure-loops-requires : goal.figure-loops-requires
+figure-loops-requires c =
+    let bytes = c.args.bytes.now in
+    let (accepted, left) = table_left c.table.ensures (ap verdict c.in-Accepted.is) in (
+      c.requires.0,
+      accepted,
+      ap (λ (t : Columns). t.parents) left
+          ∙ ap (λ (x : ℕ). (table_of bytes x).parents) c.first_start.ensures,
+    )
