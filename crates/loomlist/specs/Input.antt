@@ -1,7 +1,6 @@
 -- How much was read.
 use Rattle.std.specs.Prelude.{ℕ, ◌≤◌}
 use Rattle.loomlist.specs.declared.input.Input.{Input}
-use Rattle.loomlist.specs.declared.input.Input.TheVariants as Input
 
 -- no fewer bytes than were there, and no more than there is room for
 abbrev pub Within : ℕ → ℕ → Input → Type 0

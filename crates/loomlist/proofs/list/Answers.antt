@@ -1,7 +1,6 @@
 -- `list` meets its contract: where Table refuses nothing, its parents are those of the record.
 use mathlib.Core.Path.{ap, ◌∙◌}
 use Prim.Native.Nat.{ℕ}
-use borrow.Author.Rules.{rules}
 use Rattle.record.specs.Answers.{verdict}
 use Rattle.queries.specs.Table.{Columns, table_of}
 use Rattle.queries.specs.Laws.Figured.{table_left}

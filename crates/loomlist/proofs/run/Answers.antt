@@ -1,6 +1,5 @@
 -- `run` meets its contract.
 use mathlib.Core.Path.{sym, ap, ◌∙◌}
-use borrow.Author.Rules.{rules}
 use Rattle.record.specs.Answers.{shape}
 use Rattle.record.specs.Laws.Sounded.{told_sound}
 use Rattle.loomlist.proofs.run.Goals as goal

@@ -1,7 +1,6 @@
 -- `listing::lines` meets its contract.
 use Prim.Native.Nat.{◌+◌, ◌*◌, ◌-◌, ◌≤◌}
 use mathlib.Core.Path.{◌≡◌}
-use borrow.Author.Rules.{rules}
 use lib.ListN.{length}
 use Rattle.loomlist.proofs.listing.lines.Given as goal
 

@@ -3,37 +3,27 @@ use Prim.Native.Nat.{◌+◌, ◌≤◌, ◌<◌}
 use mathlib.Core.Path.{◌≡◌}
 use Rattle.io.specs.Digits.{IsDigitCount}
 use native.Mathlib.Omega.{arith}
-use borrow.Author.Rules.{rules}
 use Rattle.loomlist.proofs.Digits.{few_digits}
 use Rattle.loomlist.proofs.listing.number.Goals as goal
 use Rattle.loomlist.proofs.listing.number.Goals.{After-decimal-k, After-put-end}
 
-pub decimal-k-requires : goal.decimal-k-requires
-decimal-k-requires c = search rules
-
-pub slice_bounds-digits-end : goal.slice_bounds-digits-end
-slice_bounds-digits-end c = search rules
-
-pub slice_bounds-put-end : goal.slice_bounds-put-end
-slice_bounds-put-end c = search rules
-
 digits : (c : After-decimal-k) → (c.decimal-k.result ≤ 20) × (c.args.x < 65536 → c.decimal-k.result ≤ 5)
 digits c =
     let x = c.args.x in
-    let fewest : IsDigitCount 10 1 x c.decimal-k.result = c.decimal-k.ensures.1.0 in
+    let fewest : IsDigitCount 10 1 x c.decimal-k.result = c.decimal-k.ensures.len in
     let f = c.ranges.x in
     (few_digits 20 (omega arith) (omega arith) fewest, λ h. few_digits 5 (omega arith) (omega arith) fewest)
 
 pub put-end-requires : goal.put-end-requires
 put-end-requires c =
     let (room, near) = c.requires in
-    let (long, is) = c.decimal-k.ensures.0 in
+    let (long, is) = c.decimal-k.ensures.in_bounds in
     let (d, _) = digits (goal.at.put-end-requires c).After-decimal-k in
     (omega arith, omega arith, omega arith)
 
 end : (c : After-put-end) → c.put-end.result ≡ c.args.at + c.decimal-k.result
 end c =
-    let (long, is) = c.decimal-k.ensures.0 in
+    let (long, is) = c.decimal-k.ensures.in_bounds in
     let e = c.put-end.ensures in
     omega arith
 
@@ -51,9 +41,6 @@ overflow_add-result c =
     let (d, _) = digits (goal.at.overflow_add-result c).After-decimal-k in
     let e = end (goal.at.overflow_add-result c).After-put-end in
     omega arith
-
-pub shape_of-out : goal.shape_of-out
-shape_of-out c = search rules
 
 pub returns : goal.returns
 returns c =
