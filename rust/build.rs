@@ -1,6 +1,5 @@
 //! Links the static library: the file that `CELDUGA_ARCHIVE` names, or `target/staticlib/libcelduga.a` in the project's
-//! root. Where that one is missing, or older than the crates that it is made from, `rt staticlib celduga` makes it
-//! first.
+//! root. Where that one is missing, or older than the crates that it is made from, `./build celduga` makes it first.
 
 use std::env;
 use std::fs;
@@ -12,7 +11,7 @@ use std::time::SystemTime;
 
 const GIVEN: &str = "CELDUGA_ARCHIVE";
 const ARCHIVE: &str = "target/staticlib/libcelduga.a";
-const MAKE: &str = "`rt staticlib celduga`";
+const MAKE: &str = "`./build celduga`";
 
 fn main() {
     println!("cargo:rerun-if-changed=build.rs");
@@ -104,8 +103,8 @@ fn unless_missing<T>(read: io::Result<T>) -> io::Result<Option<T>> {
 
 /// Makes the archive in the project's root.
 fn make(root: &Path, why: &str) -> Result<(), String> {
-    let mut rt = Command::new("rt")
-        .args(["staticlib", "celduga"])
+    let mut rt = Command::new(root.join("build"))
+        .arg("celduga")
         .current_dir(root)
         .stdin(Stdio::null())
         .stdout(Stdio::piped())

@@ -47,7 +47,7 @@ class Site:
         log = self.tools / "calls"
         lines = log.read_text().splitlines() if log.exists() else []
         log.unlink(missing_ok=True)
-        demand(set(lines) <= {"staticlib celduga"}, f"rt is called otherwise: {lines}")
+        demand(set(lines) <= {"celduga lib"}, f"rt is called otherwise: {lines}")
         return len(lines)
 
     def same_files(self, below, prefix):

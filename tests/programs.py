@@ -68,15 +68,15 @@ def built(file, command, variable):
 
 
 def archive():
-    return built(ARCHIVE, "rt staticlib celduga", "CELDUGA_ARCHIVE")
+    return built(ARCHIVE, "./build celduga", "CELDUGA_ARCHIVE")
 
 
 def field_archive():
-    return built(FIELD_ARCHIVE, "rt staticlib bits_export", "CELDUGA_FIELD_ARCHIVE")
+    return built(FIELD_ARCHIVE, "./build bits_export", "CELDUGA_FIELD_ARCHIVE")
 
 
 def loomlist():
-    return built(LOOMLIST, "rt check loomlist", "CELDUGA_LOOMLIST")
+    return built(LOOMLIST, "./build loomlist", "CELDUGA_LOOMLIST")
 
 
 def linked(compiler, source, program):
@@ -104,26 +104,28 @@ def rust_program(room, name, source):
 
 def tree(folder):
     """A copy of the tree in this folder, without what was built."""
-    shutil.copytree(ROOT, folder, ignore=shutil.ignore_patterns("target", ".git", "__pycache__"), symlinks=True)
+    shutil.copytree(ROOT, folder, ignore=shutil.ignore_patterns("target", "out", ".git", "__pycache__"), symlinks=True)
     return folder
 
 
 def stand_in(folder):
-    """Puts an `rt` into this folder that stands in for the toolchain. Called in the root of a tree, it copies what the
-    gate has built into place and adds its words to the file `calls`; it fails for all other words."""
+    """Puts an `rt` into this folder that stands in for the toolchain. Called in the folder of a crate, it copies what
+    the gate has built into place and adds the crate and its words to the file `calls`; it fails for all other words."""
     folder.mkdir(parents=True)
     program = folder / "rt"
     files = ARCHIVE, FIELD_ARCHIVE, LOOMLIST, folder / "calls"
     archive, field_archive, loomlist, calls = (shlex.quote(str(file)) for file in files)
     program.write_text(f"""#!/bin/sh
 set -eu
-[ -f crates.txt ]
-echo "$*" >>{calls}
-case "$*" in
-    'staticlib celduga') mkdir -p target/staticlib && cp {archive} target/staticlib/libcelduga.a ;;
-    'staticlib bits_export') mkdir -p target/staticlib && cp {field_archive} target/staticlib/libbits_export.a ;;
-    'check loomlist') mkdir -p target/bin && cp {loomlist} target/bin/loomlist ;;
-    *) echo "rt $*: it is not known here" >&2 && exit 2 ;;
+[ -f ../../crates.txt ]
+called="${{PWD##*/}} $*"
+echo "$called" >>{calls}
+mkdir -p out
+case "$called" in
+    'celduga lib') cp {archive} out/libcelduga.a ;;
+    'bits_export lib') cp {field_archive} out/libbits_export.a ;;
+    'loomlist run') cp {loomlist} out/loomlist ;;
+    *) echo "rt $called: it is not known here" >&2 && exit 2 ;;
 esac
 """)
     program.chmod(0o755)

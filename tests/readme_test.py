@@ -27,10 +27,10 @@ FENCES = {"c", "rust", "toml", "sh", "text"}
 # They are what runs this test, and are looked for
 LOOKED_FOR = {"tests/run", ".ci/run"}
 # What a line may call. These print nothing; what the others print is either computed here or not compared.
-SILENT = {"rt", "cc", "c++", "cd", "cp", "mkdir", "export", "./install"}
+SILENT = {"rt", "cc", "c++", "cd", "cp", "mkdir", "export", "./build", "./install"}
 COMMANDS = SILENT | {"./sections", "target/bin/loomlist", "bench/run", "cargo", "pkg-config", "printf", "cat"}
 # What `rt` is called with, a crate behind it or not
-RT = {"check", "ci", "dev", "fmt", "must-fail", "prove", "staticlib", "try", "version"}
+RT = {"check", "ci", "fmt", "lib", "must-fail", "tidy", "try", "version"}
 
 
 # The page

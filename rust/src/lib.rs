@@ -59,7 +59,7 @@
 //! # The library
 //!
 //! The build script links `target/staticlib/libcelduga.a` in the project's root. Where it is missing, or older than the
-//! crates that it is made from, `rt staticlib celduga` proves and makes it first, which takes minutes
+//! crates that it is made from, `./build celduga` proves and makes it first, which takes minutes
 //! (`cargo build -vv` shows it at work); `rt` is the toolchain of Rattle, the language that the library is written in.
 //! Where the environment variable `CELDUGA_ARCHIVE` names an archive (a relative path counts from the package's
 //! folder), that one is linked, and `rt` is not needed. The archive is for x86-64 Linux.
