@@ -5,6 +5,7 @@ use Rattle.std.specs.Prelude.{◌≡◌, false, ℕ, ◌-◌, ◌≤◌}
 use mathlib.Core.List.{List}
 use Rattle.std.proofs.Math.Decide.{dec_lt}
 use native.Mathlib.Omega.{arith}
+use Rattle.graph.specs.Graph.{Blocks}
 use Rattle.graph.specs.Search.{forest}
 use Rattle.graph.specs.Forest.{child_mark}
 use Rattle.graph.specs.Counts.{count_edges, at_neither}
@@ -17,8 +18,11 @@ use Rattle.forest.specs.Operations.{no_start, loops}
 use Rattle.forest.specs.Laws.Figures.{formed, as_many, all_places, first_covered, covered, roots_from, loops_whole}
 
 module _ {bytes : List ℕ} (a : Accepted bytes) where
+  abbrev g : Blocks
+  g = blocks bytes
+
   pub loops_edges : (start : ℕ) → no_start (terminals bytes) start ≡ false
-      → loops bytes ≡ count_edges (blocks bytes) (at_neither (blocks bytes) (child_mark (forest (blocks bytes) (start - 1))))
+      → loops bytes ≡ count_edges g (at_neither g (child_mark (forest g (start - 1))))
   loops_edges start taken =
       let e = edges_outside (formed a) (covered a start taken) (wires bytes) (all_places a) in
       let r = roots_from a start taken in
