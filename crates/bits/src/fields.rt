@@ -92,7 +92,7 @@ pub fn read_long(bytes: &[u8], start: usize, width: usize) -> u64
 }
 
 // Four fields of 12 bits in a row.
-#[derive(Drop)]
+#[derive(Clone, Copy)]
 pub struct Four {
     pub a: usize,
     pub b: usize,

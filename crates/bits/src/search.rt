@@ -8,7 +8,7 @@ use super::table::in_byte;
 use super::words::{byte_at, byte_ones, byte_rest, part, word_ones};
 
 // A byte to go on from, and how many ones are left to go.
-#[derive(Drop)]
+#[derive(Clone, Copy)]
 pub struct Reached {
     pub at: usize,
     pub left: usize,

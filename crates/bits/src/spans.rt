@@ -13,7 +13,7 @@ use super::words::{ones_of, short_word};
 
 // What is left to search: the bits that hold the one, how many ones are left to go in them, and how many bits lie
 // before them.
-#[derive(Drop)]
+#[derive(Clone, Copy)]
 struct Half {
     bits: u64,
     left: usize,
@@ -107,7 +107,7 @@ fn lesser(a: usize, b: usize) -> usize
 }
 
 // A part of a string: so many bits, and their number.
-#[derive(Drop)]
+#[derive(Clone, Copy)]
 struct Part {
     width: usize,
     bits: u64,
@@ -138,7 +138,7 @@ fn part_at(bytes: &[u8], at: usize, end: usize) -> Part
 }
 
 // The bits from bit `from` on, so many, their number, and how many ones are left to go in them.
-#[derive(Drop)]
+#[derive(Clone, Copy)]
 struct Window {
     from: usize,
     width: usize,
@@ -189,7 +189,7 @@ fn next_from(bytes: &[u8], from: usize, end: usize) -> usize
 }
 
 // The places of a string between a one and the next, counted from 0: the first, and the one behind the last.
-#[derive(Drop)]
+#[derive(Clone, Copy)]
 pub struct Span {
     pub from: usize,
     pub to: usize,
@@ -241,7 +241,7 @@ pub fn nth_from(bytes: &[u8], start: usize, places: usize, k: usize) -> usize
 }
 
 // The only one of a string.
-#[derive(Drop)]
+#[derive(Clone, Copy)]
 pub enum Lone {
     None,
     At(usize),

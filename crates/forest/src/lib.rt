@@ -20,7 +20,7 @@ pub mod start; // start.rt: rule 14, and the first start
 pub mod lengths; // lengths.rt: the lengths of a section and of the index
 
 // A visit number, from 1: the paper's depth-first index.
-#[derive(Drop)]
+#[derive(Clone, Copy)]
 pub struct Dfi(pub usize);
 
 // Build: writes the index of an accepted record, for the search that begins at the start. What the work slice and the

@@ -10,7 +10,7 @@ ghost use Rattle.forest.specs.Lows.{LowStep, OwnLow, Lowers, LiftsOne, Searches,
 use adjacency::cells::{get, put};
 
 // 1 + the least number so far, and the bit of the way back, or 0 where it is not passed yet.
-#[derive(Drop)]
+#[derive(Clone, Copy)]
 pub struct Low {
     pub low: usize,
     pub back: usize,

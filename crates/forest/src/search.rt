@@ -10,14 +10,14 @@ ghost use Rattle.forest.specs.Steps.{Begun, Entering, PassedTo, StartTried, Next
 use adjacency::cells::{get, put};
 
 // 0 or 1 + the vertex at hand, and how many vertices are entered.
-#[derive(Drop)]
+#[derive(Clone, Copy)]
 pub struct Hand {
     pub cur: usize,
     pub k: usize,
 }
 
 // Where the search of all vertices stands: the vertex to try next as a start, and what is at hand.
-#[derive(Drop)]
+#[derive(Clone, Copy)]
 pub struct At {
     pub i: usize,
     pub cur: usize,

@@ -1,6 +1,6 @@
 -- The sections: each is named by its head, which is a root or stands below a bridge of the forest.
 --   sections_edges   as many sections as roots and bridges
-use Prim.Native.Nat.{ℕ, ◌+◌, ◌*◌, ◌<◌}
+use Prim.Native.Nat.{ℕ, ◌+◌, ◌<◌}
 use Rattle.std.specs.Prelude.{◌≡◌, refl, false, not, ◌||◌, eqb, length}
 use mathlib.Core.List.{Memᴰ}
 use Rattle.std.proofs.Common.{arith, eq-eqb, ne_eqb}

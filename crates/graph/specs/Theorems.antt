@@ -1,14 +1,14 @@
 -- The theorems, for the forest of any list of starts that covers the vertices, and for doubled neighbours too. Each is
 -- a citation of a law.
-use Rattle.std.specs.Prelude.{ℕ, suc, ◌-◌, ◌*◌, ◌/◌, ◌+◌, ◌≤◌, ◌<◌, min, ◌≡◌, ◌⊎◌, ◌↔◌, Bool, true, false, eqb, length, take}
-use Rattle.std.proofs.Common.{inr, arith}
+use Rattle.std.specs.Prelude.{ℕ, suc, ◌-◌, ◌*◌, ◌+◌, ◌≤◌, ◌<◌, min, ◌≡◌, ◌⊎◌, ◌↔◌, Bool, true, false, eqb, length, take}
+use Rattle.std.proofs.Common.{inr}
 use mathlib.Core.List.{List, [], ◌∷◌, Memᴰ, flatten}
 use Rattle.graph.specs.Graph.{Blocks, block, Place, mentions, position, pair, twin, WellFormed}
 use Rattle.graph.specs.Search.{Forest, PlaceTest, all, entered, search, count_up, starts_from, forest}
 use Rattle.graph.specs.Joined.{Chain, without, joined, bridge, DoublyJoined}
 use Rattle.graph.specs.Forest.{number, vertex_at, parent, roots, root_of, head, Ancestor, children}
 use Rattle.graph.specs.Forest.{child_mark, parent_mark}
-use Rattle.graph.specs.Counts.{when, sum, count_places, count_edges, at_neither, lowest, looms, sections}
+use Rattle.graph.specs.Counts.{when, sum, count_places, count_edges, at_neither, lowest, looms}
 use Rattle.graph.specs.Walk.{walk}
 use Rattle.graph.specs.Laws.Places.Mentions.{Mention}
 use Rattle.graph.specs.Laws.Places.Pairing.{InRange, Balanced, pair_told, both_ends}

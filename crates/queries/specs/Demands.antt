@@ -4,7 +4,7 @@
 -- index; the answers are those of the operations, as `Operations`, `Lookup` and `Filing` define them and as the
 -- contracts of the code say. Terminal v is vertex v - 1 of the graph; positions of a block and cells of a list count
 -- from 0.
-use Rattle.std.specs.Prelude.{◌≡◌, ◌⊎◌, ◌↔◌, Bool, true, false, List, [], map, ℕ, suc, ◌+◌, ◌-◌, ◌*◌, ◌/◌, ◌≤◌, ◌<◌, length, get_or, take}
+use Rattle.std.specs.Prelude.{◌≡◌, ◌⊎◌, ◌↔◌, Bool, true, false, List, map, ℕ, suc, ◌+◌, ◌-◌, ◌*◌, ◌/◌, ◌≤◌, ◌<◌, length, get_or, take}
 use Rattle.std.proofs.Common.{sym, ap, subst, ◌∙◌, arith}
 use Rattle.std.proofs.Math.Option.{none}
 use Rattle.bits.specs.Laws.Bytes.{AreBytes}
@@ -32,10 +32,10 @@ use Rattle.forest.specs.Operations.{build, built, first_start, loops, loop_figur
 use Rattle.forest.specs.Laws.Figures.{roots_from, loops_whole, figure_told}
 use Rattle.forest.proofs.Laws.Loops.{loops_few}
 use Rattle.forest.specs.Laws.Taken.{first_index}
-use Rattle.queries.specs.View.{section_bit, ones_of_b, number_bit, place_of, Alike}
+use Rattle.queries.specs.View.{section_bit, ones_of_b, number_bit, place_of}
 use Rattle.queries.specs.Answers.{unless_zero}
 use Rattle.queries.specs.Operations.{beside_rules, parent, head, ancestor, children, child, visit, visited}
-use Rattle.queries.specs.Written.{Written, forest_from, Terminal, VisitNumber, Once, HeadsTell, SameAnswers}
+use Rattle.queries.specs.Written.{Written, forest_from, Terminal, VisitNumber, Once, HeadsTell}
 use Rattle.queries.specs.Laws.Answered as Answered
 use Rattle.queries.specs.Laws.Built.{built_own, built_fill, built_rest}
 use Rattle.queries.specs.Laws.Edges.{e_told, p_told, p_as_e, e_as_p, p_none, p_once, b_told, b_both, b_doubled}
@@ -44,9 +44,8 @@ use Rattle.queries.specs.Laws.Figured.{loops_marked, table_loops}
 use Rattle.queries.specs.Laws.Sectioned as Sectioned
 use Rattle.queries.specs.Laws.Looked as Looked
 use Rattle.queries.specs.Laws.Looked.{head_gives, visit_gives}
-use Rattle.queries.specs.Lookup.{Lists, lists, bad_list, lookup, looked_up, BothAnswer, LookupCells}
+use Rattle.queries.specs.Lookup.{Lists, lookup, looked_up}
 use Rattle.queries.specs.Table.{parents_on, heads_on, table_on, table_of, Tabled}
-use Rattle.queries.specs.Given.{NeverGiven}
 
 -- where Build refuses nothing, it has written the index, with the start that it was given
 pub build_writes : (bytes : List ℕ) (start : ℕ) (work buffer : List ℕ) → build bytes start work buffer ≡ answered tt

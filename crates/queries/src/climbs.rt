@@ -15,14 +15,14 @@ use bits::spans::Lone;
 use record::{Refusal, Vertex};
 
 // The marked position, and the parent that stands there.
-#[derive(Drop)]
+#[derive(Clone, Copy)]
 pub struct Rise {
     pub at: usize,
     pub to: usize,
 }
 
 // One step up by P: refused, past a root, or to the parent.
-#[derive(Drop)]
+#[derive(Clone, Copy)]
 pub enum Step {
     Stuck,
     Top,
@@ -30,7 +30,7 @@ pub enum Step {
 }
 
 // One step of Head.
-#[derive(Drop)]
+#[derive(Clone, Copy)]
 pub enum Move {
     Refuse,
     Here,
@@ -38,7 +38,7 @@ pub enum Move {
 }
 
 // One step of Ancestor.
-#[derive(Drop)]
+#[derive(Clone, Copy)]
 pub enum Turn {
     Refuse,
     Yes,

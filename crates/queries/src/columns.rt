@@ -56,7 +56,7 @@ fn fill_order(bytes: &[u8], index: &[u8], n: usize, m: usize, visits: &[u16], or
 }
 
 // The parent of a vertex, 0 for a root, and its head.
-#[derive(Drop)]
+#[derive(Clone, Copy)]
 struct Placed {
     parent: usize,
     head: usize,

@@ -30,27 +30,27 @@ mod lookups; // lookups.rt: Lookup, behind order R and rule 10
 pub mod pair; // pair.rt: demand 3 over the running code
 
 // What stands above a terminal.
-#[derive(Drop)]
+#[derive(Clone, Copy)]
 pub enum Above {
     Root,
     Parent(Vertex),
     Refused(Refusal),
 }
 
-#[derive(Drop)]
+#[derive(Clone, Copy)]
 pub enum Found {
     Terminal(Vertex),
     Refused(Refusal),
 }
 
-#[derive(Drop)]
+#[derive(Clone, Copy)]
 pub enum Related {
     Yes,
     No,
     Refused(Refusal),
 }
 
-#[derive(Drop)]
+#[derive(Clone, Copy)]
 pub enum Numbered {
     Number(Dfi),
     Refused(Refusal),

@@ -20,14 +20,14 @@ use record::starts::fill_starts;
 use record::{Refusal, Verdict, Vertex};
 
 // A terminal's head and visit number.
-#[derive(Drop)]
+#[derive(Clone, Copy)]
 pub struct Seen {
     pub head: Vertex,
     pub visit: Dfi,
 }
 
 // What the single calls say of a terminal.
-#[derive(Drop)]
+#[derive(Clone, Copy)]
 pub enum Looked {
     Both(Seen),
     Refused(Refusal),

@@ -10,7 +10,7 @@ use super::Found;
 use record::{Verdict, Vertex};
 
 // What Build and the two calls of Head answer.
-#[derive(Drop)]
+#[derive(Clone, Copy)]
 pub struct Heads {
     pub built: Verdict,
     pub first: Found,

@@ -13,7 +13,7 @@ use record::starts::span_of;
 use record::{Refusal, Vertex};
 
 // The fields of a block: those from `from` on and before `to`.
-#[derive(Drop)]
+#[derive(Clone, Copy)]
 struct Fields {
     from: usize,
     to: usize,

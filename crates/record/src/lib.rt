@@ -25,12 +25,12 @@ pub mod clear; // clear.rt: bytes of zero
 mod writing; // writing.rt: a record written from two lists
 
 // A terminal number, from 1: document 01's vertex label.
-#[derive(Drop)]
+#[derive(Clone, Copy)]
 pub struct Vertex(pub usize);
 
 // Why a call refuses. The documents number these cases from 1 in this order. No operation gives 7, `DoubledNeighbour`:
 // a neighbour may stand several times in a block.
-#[derive(Drop)]
+#[derive(Clone, Copy)]
 pub enum Refusal {
     TooShort,
     OverLimit,
@@ -52,34 +52,34 @@ pub enum Refusal {
 }
 
 // Nothing is refused, or why.
-#[derive(Drop)]
+#[derive(Clone, Copy)]
 pub enum Verdict {
     Accepted,
     Refused(Refusal),
 }
 
-#[derive(Drop)]
+#[derive(Clone, Copy)]
 pub enum Counted {
     Count(usize),
     Refused(Refusal),
 }
 
 // A part of a list: how many numbers come before it, and how many it has.
-#[derive(Drop)]
+#[derive(Clone, Copy)]
 pub struct Part {
     pub from: usize,
     pub size: usize,
 }
 
 // The numbers of terminals and of wires.
-#[derive(Drop)]
+#[derive(Clone, Copy)]
 pub struct Sizes {
     pub n: usize,
     pub m: usize,
 }
 
 // The sizes of a record that passed the rules that were tried, or why it did not.
-#[derive(Drop)]
+#[derive(Clone, Copy)]
 pub enum Shape {
     Passed(Sizes),
     Refused(Refusal),

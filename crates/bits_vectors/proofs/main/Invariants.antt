@@ -1,6 +1,5 @@
 -- `main` meets its contract: each starting bit of a byte is tried.
 use Prim.Native.Nat.{◌≤◌, ◌-◌}
-use borrow.Author.Rules.{rules}
 use Rattle.bits_vectors.proofs.main.Given as goal
 
 abbrev pub invariant-loop-shift : goal.invariant-loop-shift

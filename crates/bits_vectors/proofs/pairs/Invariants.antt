@@ -1,6 +1,5 @@
 -- `pairs` meets its contract: each number asked is answered.
 use Prim.Native.Nat.{◌≤◌, ◌-◌}
-use borrow.Author.Rules.{rules}
 use lib.ListN.{length}
 use Rattle.bits_vectors.proofs.pairs.Given as goal
 

@@ -8,16 +8,15 @@ use Rattle.std.specs.Prelude.{◌≡◌, false, ℕ, ◌+◌, ◌-◌, ◌*◌, 
 use Rattle.std.proofs.Math.Path.{sym}
 use Rattle.std.proofs.Common.{ap, ◌∙◌}
 use mathlib.Core.List.{List, flatten}
-use Rattle.std.proofs.Math.Decide.{dec_lt}
 use native.Mathlib.Omega.{arith}
 use Rattle.graph.specs.Graph.{Blocks, WellFormed}
 use Rattle.graph.specs.Search.{Forest, starts_from, forest}
-use Rattle.graph.specs.Forest.{parent, roots, child_mark}
-use Rattle.graph.specs.Counts.{when, count_edges, at_neither}
-use Rattle.graph.specs.Laws.Joined.Spanning.{Covers, Spanning, search_spans}
+use Rattle.graph.specs.Forest.{parent, roots}
+use Rattle.graph.specs.Counts.{when}
+use Rattle.graph.specs.Laws.Joined.Spanning.{Covers, Spanning}
 use Rattle.graph.specs.Laws.Counts.Sums.{sum_same}
-use Rattle.graph.specs.Laws.Counts.Roots.{roots_parentless, roots_most}
-use Rattle.graph.specs.Theorems.{start_covers, as_many_looms, edges_outside, some_no_root}
+use Rattle.graph.specs.Laws.Counts.Roots.{roots_parentless}
+use Rattle.graph.specs.Theorems.{start_covers, as_many_looms, edges_outside}
 use Rattle.record.specs.Record.{terminals, wires, blocks}
 use Rattle.record.specs.Answers.{answered}
 use Rattle.record.specs.Operations.{Accepted}

@@ -1,5 +1,4 @@
 -- `large` meets its contract: the arrays have room for the record and its index.
-use borrow.Author.Rules.{rules}
 use Rattle.forest_vectors.proofs.Parts.{front}
 use Rattle.forest_vectors.proofs.large.Goals as goal
 

@@ -1,5 +1,4 @@
 -- `lent` meets its contract: the arrays have room for these lengths.
-use borrow.Author.Rules.{rules}
 use Rattle.forest_vectors.proofs.Parts.{front}
 use Rattle.forest_vectors.proofs.lent.Goals as goal
 

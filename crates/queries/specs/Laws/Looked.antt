@@ -13,20 +13,18 @@ use Prim.Native.Nat.{ℕ, zero, suc, ◌-◌, ◌≤◌, ◌<◌}
 use Rattle.record.specs.Record.{terminals}
 use Rattle.record.specs.Rules.{Rule, first_broken}
 use Rattle.record.specs.Answers.{Answer, refused, answered, said, otherwise, tried_then}
-use Rattle.record.specs.Operations.{other_length, out_of_range}
+use Rattle.record.specs.Operations.{out_of_range}
 use Rattle.record.specs.Laws.First.{first_broken_lem, first_kept, append_kept, both_kept, rule_kept}
 use Rattle.record.specs.Laws.Mapped.{map_at}
-use Rattle.record.specs.Laws.Told.{told_number, untold, told_back, untold_back, buffer_kept, buffer_written}
+use Rattle.record.specs.Laws.Told.{told_back, untold_back, buffer_kept, buffer_written}
 use Rattle.queries.specs.View.{view_of}
 use Rattle.queries.specs.Queries.{head_of, visit_of}
 use Rattle.queries.specs.Operations.{beside_rules, order_q, head, visit}
-use Rattle.queries.specs.Lookup.{Lists, lists, both, head_and_visit, asks, bad_list, lookup_rules, lookup}
-use Rattle.queries.specs.Lookup.{lookup_lists, looked_up, BothAnswer, LookupCells}
-use Rattle.queries.specs.Written.{Written, Terminal}
-use Rattle.queries.specs.Laws.Asked.{beside_numbered, beside_of, beside_unbroken, order_told}
-use Rattle.queries.specs.Laws.Answered.{beside_written, head_answer, visit_answer}
+use Rattle.queries.specs.Lookup.{Lists, both, head_and_visit, asks, bad_list, lookup_rules, lookup}
+use Rattle.queries.specs.Lookup.{lookup_lists, looked_up, LookupCells}
+use Rattle.queries.specs.Laws.Asked.{beside_numbered, beside_of, order_told}
 use Rattle.queries.specs.Laws.Twelve.{Twelve, head_twelve, visit_twelve}
-use Rattle.queries.specs.Laws.Asks.{asked_refused, asked_all, passed_to, all_answered}
+use Rattle.queries.specs.Laws.Asks.{all_answered}
 
 -- ---- two answers
 

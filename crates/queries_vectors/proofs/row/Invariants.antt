@@ -1,6 +1,5 @@
 -- `row` meets its contract: each number up to `last` is asked for.
 use Prim.Native.Nat.{◌≤◌, ◌+◌, ◌-◌}
-use borrow.Author.Rules.{rules}
 use Rattle.queries_vectors.proofs.row.Given as goal
 
 abbrev pub invariant-loop-k : goal.invariant-loop-k

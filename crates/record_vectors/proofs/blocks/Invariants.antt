@@ -1,6 +1,5 @@
 -- `blocks` meets its contract: each terminal up to `last` is asked for.
 use Prim.Native.Nat.{◌+◌, ◌-◌}
-use borrow.Author.Rules.{rules}
 use Rattle.record_vectors.proofs.blocks.Given as goal
 
 abbrev pub decreases-loop-v : goal.decreases-loop-v

@@ -1,6 +1,5 @@
 -- `degrees` meets its contract: each terminal up to `last` is asked for.
 use Prim.Native.Nat.{◌≤◌, ◌+◌, ◌-◌}
-use borrow.Author.Rules.{rules}
 use Rattle.record_vectors.proofs.degrees.Given as goal
 
 abbrev pub invariant-loop-v : goal.invariant-loop-v

@@ -1,7 +1,6 @@
 -- `file` meets its contract: the marks are enough for a buffer of this length.
 use mathlib.Core.Path.{sym}
 use native.Mathlib.Omega.{arith}
-use borrow.Author.Rules.{rules}
 use lib.Seq.{length-take-le}
 use Rattle.record_vectors.proofs.file.Goals as goal
 

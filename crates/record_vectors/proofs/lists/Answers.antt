@@ -1,7 +1,6 @@
 -- `lists` meets its contract: the marks are enough for a list of this length.
 use mathlib.Core.Path.{sym}
 use native.Mathlib.Omega.{arith}
-use borrow.Author.Rules.{rules}
 use lib.Seq.{length-take-le}
 use Rattle.record_vectors.proofs.lists.Goals as goal
 

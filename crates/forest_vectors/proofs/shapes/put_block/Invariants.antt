@@ -2,7 +2,6 @@
 use mathlib.Core.Path.{◌≡◌}
 use Prim.Native.Nat.{◌≤◌, ◌-◌}
 use lib.ListN.{length}
-use borrow.Author.Rules.{rules}
 use Rattle.forest_vectors.proofs.shapes.put_block.Given as goal
 
 abbrev pub invariant-loop-j : goal.invariant-loop-j

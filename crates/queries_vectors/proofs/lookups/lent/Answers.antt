@@ -1,6 +1,5 @@
 -- `lent` meets its contract: the arrays have room for these lengths.
 use mathlib.Core.Path.{sym}
-use borrow.Author.Rules.{rules}
 use lib.Seq.{length-take-le}
 use Rattle.queries_vectors.proofs.lookups.lent.Goals as goal
 

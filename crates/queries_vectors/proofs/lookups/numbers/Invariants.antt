@@ -1,6 +1,5 @@
 -- `numbers` meets its contract: the numbers, or the first six, are printed.
 use Prim.Native.Nat.{◌≤◌, ◌-◌}
-use borrow.Author.Rules.{rules}
 use lib.ListN.{length}
 use Rattle.queries_vectors.proofs.lookups.numbers.Given as goal
 
