@@ -31,10 +31,9 @@ fn archive() -> Result<PathBuf, String> {
     let root = Path::new(&package)
         .parent()
         .ok_or("the package has no folder around it")?;
-    for source in ["crates", "crates.txt"].map(|name| root.join(name)) {
-        if source.exists() {
-            println!("cargo:rerun-if-changed={}", source.display());
-        }
+    let sources = sources(root).map_err(|wrong| format!("the crates are not to be read: {wrong}"))?;
+    for source in sources.iter().filter(|source| source.exists()) {
+        println!("cargo:rerun-if-changed={}", source.display());
     }
     let archive = root.join(ARCHIVE);
     if let Some(why) = outdated(root, &archive).map_err(|wrong| format!("the crates are not to be read: {wrong}"))? {
@@ -66,14 +65,20 @@ fn outdated(root: &Path, archive: &Path) -> io::Result<Option<String>> {
     }))
 }
 
+/// crates.txt and the folders that are proved.
+fn sources(root: &Path) -> io::Result<Vec<PathBuf>> {
+    let crates = entries(&root.join("crates"))?.into_iter();
+    let mut found: Vec<PathBuf> = crates
+        .flat_map(|folder| ["src", "specs", "proofs"].map(|part| folder.join(part)))
+        .collect();
+    found.push(root.join("crates.txt"));
+    Ok(found)
+}
+
 /// What changed last among crates.txt and the files and folders that are proved. A folder changes when a file is taken
 /// out of it.
 fn newest(root: &Path) -> io::Result<Option<(SystemTime, PathBuf)>> {
-    let crates = entries(&root.join("crates"))?.into_iter();
-    let mut left: Vec<PathBuf> = crates
-        .flat_map(|folder| ["src", "specs", "proofs"].map(|part| folder.join(part)))
-        .collect();
-    left.push(root.join("crates.txt"));
+    let mut left = sources(root)?;
     let mut newest = None;
     while let Some(source) = left.pop() {
         if let Some(about) = unless_missing(fs::metadata(&source))? {
@@ -101,6 +106,14 @@ fn unless_missing<T>(read: io::Result<T>) -> io::Result<Option<T>> {
     }
 }
 
+/// What to do where the archive can't be made.
+fn unmade(why: &str, wrong: &str) -> String {
+    format!(
+        "{why}, and {MAKE}, which would make it, does not run: {wrong}\n\
+         Put `rt` of the Rattle toolchain on the path, or let the environment variable {GIVEN} name an archive."
+    )
+}
+
 /// Makes the archive in the project's root.
 fn make(root: &Path, why: &str) -> Result<(), String> {
     let mut rt = Command::new(root.join("build"))
@@ -110,12 +123,7 @@ fn make(root: &Path, why: &str) -> Result<(), String> {
         .stdout(Stdio::piped())
         .stderr(Stdio::piped())
         .spawn()
-        .map_err(|wrong| {
-            format!(
-                "{why}, and {MAKE}, which would make it, does not run: {wrong}\n\
-                 Put `rt` of the Rattle toolchain on the path, or let the environment variable {GIVEN} name an archive."
-            )
-        })?;
+        .map_err(|wrong| unmade(why, &wrong.to_string()))?;
     println!(
         "cargo:warning={why}: {MAKE} proves and makes it, which takes minutes the first time \
          (`cargo build -vv` shows it at work)"
@@ -128,6 +136,8 @@ fn make(root: &Path, why: &str) -> Result<(), String> {
     });
     match rt.wait() {
         Ok(status) if status.success() => Ok(()),
+        // the shell's word for a command that is not there
+        Ok(status) if status.code() == Some(127) => Err(unmade(why, "there is no `rt`")),
         Ok(status) => Err(format!("{why}, and {MAKE} fails: {status}")),
         Err(wrong) => Err(format!("{MAKE} is lost: {wrong}")),
     }

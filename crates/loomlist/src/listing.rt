@@ -35,9 +35,10 @@ fn complain(rt: &HostRuntime, what: &[u8], told: &[u8]) -> Result<(), Error> {
 
 // What failed and why, in one line.
 fn failed(rt: &HostRuntime, what: &[u8], error: Error) {
-    if let Ok(told) = format!(in rt.alloc(); "{error}") {
-        complain(rt, what, told.as_bytes()).ok();
-    }
+    match format!(in rt.alloc(); "{error}") {
+        Ok(told) => complain(rt, what, told.as_bytes()).ok(),
+        Err(_) => complain(rt, what, b"out of memory").ok(),
+    };
 }
 
 // Why the input could not be read.
