@@ -306,7 +306,7 @@ def names(file):
     """Every file or folder of the tree that a sentence names is there, but for what is built; `rt` is called in a known
     way, for a crate that is there. NAME stands for any."""
     tops = {entry.name for entry in ROOT.iterdir()} - {"target"}
-    crates = {line.split(":")[0] for line in (ROOT / "crates.txt").read_text().splitlines()} | {"NAME"}
+    crates = {line.split(":")[0].split()[0] for line in (ROOT / "crates.txt").read_text().splitlines()} | {"NAME"}
     for span in spans(file.read_text()):
         if re.fullmatch(r"[\w./-]+", span) and "/" in span and span.split("/")[0] in tops:
             demand(any(ROOT.glob(span.replace("NAME", "*").rstrip("/"))), f"there is no {span}")
