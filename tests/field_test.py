@@ -23,7 +23,7 @@ READER = "bits_read12"
 # The instructions
 
 # The names of some that lead to the next one
-STRAIGHT = re.compile(r"(mov\w*|(lea|add|sub|and|or|xor|not|neg|sh[lr]|ro[lr]|bswap|nop)[bwlq]?|endbr64)\b")
+STRAIGHT = re.compile(r"(mov\w*|(lea|add|sub|and|or|xor|not|neg|test|sh[lr]|ro[lr]|bswap|nop)[bwlq]?|set\w+|endbr64)\b")
 RETURN = re.compile(r"(repz? )?ret")
 
 
