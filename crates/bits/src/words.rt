@@ -2,7 +2,7 @@
 ghost use Rattle.std.specs.Prelude.{◌≡◌, [], ◌∷◌, reverse, ◌+◌, ◌*◌, ◌^◌, ◌<◌, ◌≤◌, length, take, drop, get_or};
 ghost use Rattle.std.specs.Int.Count.{ones};
 ghost use Rattle.bits.specs.Bits.{bits, count, field, put};
-ghost use Rattle.bits.specs.Steps.{joined, eight, byte_of, low_bytes, IsByte, IsRest};
+ghost use Rattle.bits.specs.Steps.{joined, eight, byte_of as the_byte_of, low_bytes, IsByte, IsRest};
 
 pub fn wide(b: u8) -> u64
     ensures { (result ≡ b) × (result < 256) }
@@ -47,7 +47,7 @@ fn low_word(bytes: &[u8], at: usize) -> u64
 // The byte of x above its k lowest bits.
 pub fn byte_of(x: u64, k: usize) -> u8
     requires { k < 64 }
-    ensures { result ≡ byte_of x k }
+    ensures { result ≡ the_byte_of x k }
 {
     ((x >> k) & 0xFF) as u8
 }

@@ -6,7 +6,7 @@ ghost use Rattle.std.specs.Prelude.{◌≡◌};
 ghost use Rattle.record.specs.Answers.{answered};
 ghost use Rattle.record.specs.Operations.{Accepted};
 ghost use Rattle.record.specs.Steps.{Sound};
-ghost use Rattle.forest.specs.Operations.{first_start, loop_figure};
+ghost use Rattle.forest.specs.Operations.{first_start as first_start_of, loop_figure};
 ghost use Rattle.queries.specs.Table.{table_of};
 ghost use Rattle.loomlist.specs.Listing.{Sized};
 
@@ -24,7 +24,7 @@ mod listing; // listing.rt: what is printed
 fn figure(bytes: &[u8], n: usize, m: usize, parents: &[u16]) -> usize
     requires { (Sound bytes.now n m)
         × (Accepted bytes.now)
-        × (parents.now ≡ (table_of bytes.now (first_start n)).parents) }
+        × (parents.now ≡ (table_of bytes.now (first_start_of n)).parents) }
     ensures { answered result ≡ loop_figure bytes.now }
 {
     loops_by(m, parents)

@@ -4,7 +4,7 @@ ghost use Rattle.bits.specs.Bits.{bit};
 ghost use Rattle.record.specs.Answers.{verdict};
 ghost use Rattle.record.specs.Operations.{other_length};
 ghost use Rattle.record.specs.Steps.{Sound};
-ghost use Rattle.forest.specs.Index.{index_length};
+ghost use Rattle.forest.specs.Index.{index_length as index_length_of};
 ghost use Rattle.queries.specs.Filling.{Ready};
 ghost use Rattle.queries.specs.Table.{columns, misfits, table_on, TableDone};
 
@@ -76,7 +76,7 @@ fn lent_length(
 ) -> usize
     requires { (n ≤ 4096) × (m ≤ 16384) }
     ensures { result
-        ≡ index_length n m
+        ≡ index_length_of n m
         + bit (misfits n
         (columns visits.now parents.now counts.now heads.now)) }
 {
@@ -101,7 +101,7 @@ fn table_by(
     heads: &mut [u16],
 ) -> Verdict
     requires { (Sound bytes.now n m)
-        × (other_length index.old (index_length n m)
+        × (other_length index.old (index_length_of n m)
         ≡ misfits n (columns visits.old parents.old counts.old heads.old)) }
     ensures { TableDone bytes.now start.0 work.old
         (columns visits.old parents.old counts.old heads.old)

@@ -4,8 +4,8 @@
 --   room                     arrays of zeros are room
 --   head_at_lem                  a climb that stops is what Head answers
 --   head_here, head_above    a climb that stops here, and one that goes on
---   WayTo, way-..            the vertices that a climb has passed, and where it stands
---   Climbed, climbed-..      what the loop keeps, from its begin to its end
+--   WayTo, way_..            the vertices that a climb has passed, and where it stands
+--   Climbed, climbed_..      what the loop keeps, from its begin to its end
 use mathlib.Core.Path.{◌≡◌, refl, sym, ap, subst, ◌∙◌}
 use mathlib.Core.Logic.{◌⊎◌, inl, inr}
 use mathlib.Core.List.{List, [], ◌∷◌}

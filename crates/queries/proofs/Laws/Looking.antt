@@ -1,7 +1,7 @@
 -- From the steps of the code to what Lookup answers.
 --   outside_told, head_refused, visit_refused, both_told, both_near    one terminal
 --   LookingAt    the terminals before cell i are answered, and their answers are in the lists
---   looking-..   from its begin to its end
+--   looking_..   from its begin to its end
 --   lookup-..    the call, by the rules that are tried in turn
 --   list_long, heads_misfit, visits_tested, lists_fit    rule 15
 use mathlib.Core.Path.{◌≡◌, refl, sym, ap₂, ◌∙◌}

@@ -1,5 +1,5 @@
 -- Lookup and the single calls.
---   both-..          the two answers of one terminal, and back
+--   both_..          the two answers of one terminal, and back
 --   head_cell, visit_cell_lem    the cells of an answered terminal
 --   head_gives, visit_gives  which refusals are left once order R and rule 10 are kept
 --   lookup_cells     where nothing is refused, each cell is its single call's answer

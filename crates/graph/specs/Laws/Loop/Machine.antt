@@ -1,9 +1,9 @@
 -- Theorem 8, the search as a program runs it: a stack of frames, each a vertex and the position in its block to try
 -- next, and the starts still to try.
 --   Frames, goals   the stack, and what it and the starts leave to try
---   Going           from here the search ends in H; the laws going-.. are its steps
+--   Going           from here the search ends in H; the laws going_.. are its steps
 --   going_passes    several neighbours in a row that are entered
---   work            what bounds the steps to come; it falls at each step, by the laws work-..
+--   work            what bounds the steps to come; it falls at each step, by the laws work_..
 --   work_passes     it does not grow where positions are passed over
 use Rattle.std.specs.Prelude.{ℕ, zero, suc, ◌+◌, ◌-◌, ◌*◌, ◌≤◌, ◌<◌, ◌≡◌, length, drop}
 use Rattle.std.proofs.Math.Path.{subst}
