@@ -1,5 +1,6 @@
 -- The queries: the definitions that the contracts cite, and the laws about them.
 pub mod View
+pub mod Seen
 pub mod Queries
 pub mod Operations
 pub mod Answers

@@ -16,6 +16,7 @@ use forest::Dfi;
 use record::range::out_of_range;
 use record::{Counted, Refusal, Shape, Verdict, Vertex};
 
+mod indexed; // indexed.rt: what the questions go over
 mod order; // order.rt: order R with rule 10, and order Q
 mod marks; // marks.rt: a mark of B, and stored numbers
 mod blocks; // blocks.rt: the marks of one block

@@ -1,5 +1,5 @@
 -- Answers: what an operation says, and the documents' number for each named case of the code's answers.
-use Rattle.std.specs.Prelude.{ℕ, zero, suc, eqb, true, false, List}
+use Rattle.std.specs.Prelude.{ℕ, zero, suc, eqb, true, false, List, Result, Ok, Err}
 use Rattle.record.specs.Record.{terminals, wires}
 use Rattle.record.specs.Rules.{Rule, first_broken}
 use Rattle.record.specs.declared.Sizes.{Sizes}
@@ -61,6 +61,11 @@ number NoStart = 14
 number BadList = 15
 number BadLists = 16
 number WrongRecordBuffer = 17
+
+-- what a call answers, in the documents' words: its value, or the number of its refusal
+abbrev pub answer : {A B : Type 0} → (A → B) → Result A Refusal → Answer B
+answer value (Ok a) = answered (value a)
+answer value (Err r) = refused (number r)
 
 -- an answer that only reports that nothing is refused
 abbrev pub verdict : Verdict → Answer (Unit {0})

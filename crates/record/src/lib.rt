@@ -11,6 +11,7 @@ ghost use Rattle.record.specs.Operations.{neighbours as neighbours_of, neighbour
 ghost use Rattle.record.specs.Filing.{file as file_of, filed};
 
 mod lengths; // lengths.rt: the length of a record
+pub mod layout; // layout.rt: a record that has passed some rules, with its sizes
 pub mod header; // header.rt: the header, and order R
 pub mod range; // range.rt: the range of rules 11 and 14
 pub mod starts; // starts.rt: where the blocks start
