@@ -6,6 +6,7 @@ ghost use Rattle.record.specs.Steps.{Sound, Laid, ArraysOf, Lent};
 
 use super::Verdict;
 use super::fields::read_fields;
+use super::layout::Layout;
 use super::rules::try_rules;
 use super::starts::fill_starts;
 
@@ -14,7 +15,7 @@ fn fill_arrays(bytes: &[u8], n: usize, m: usize, starts: &mut [u16], nbrs: &mut 
     requires { (Sound bytes.now n m) × (length starts.old ≡ n + 1) × (length nbrs.old ≡ 2 * m) }
     ensures { ArraysOf bytes.now starts.new nbrs.new n m }
 {
-    fill_starts(bytes, n, m, starts);
+    fill_starts(&Layout { bytes, n, m }, starts);
     read_fields(bytes, 28 + (n + 2 * m), nbrs);
 }
 

@@ -4,6 +4,7 @@ ghost use Rattle.record.specs.Answers.{counted};
 ghost use Rattle.record.specs.Operations.{degree as degree_of, PartOf};
 ghost use Rattle.record.specs.Steps.{Sound};
 
+use super::layout::Layout;
 use super::range::out_of_range;
 use super::starts::span_of;
 use super::{Counted, Part, Refusal, Vertex};
@@ -17,7 +18,7 @@ pub fn degree_in(bytes: &[u8], n: usize, m: usize, v: Vertex) -> Counted
     if out_of_range(n, t) {
         return Counted::Refused(Refusal::NoTerminal);
     }
-    let s = span_of(bytes, n, m, t - 1);
+    let s = span_of(&Layout { bytes, n, m }, t - 1);
     Counted::Count(s.to - s.from)
 }
 
@@ -33,7 +34,7 @@ pub fn part_in(bytes: &[u8], n: usize, m: usize, len: usize, v: Vertex) -> Part
     if len != 2 * m {
         return Part { from: 0, size: 0 };
     }
-    let s = span_of(bytes, n, m, t - 1);
+    let s = span_of(&Layout { bytes, n, m }, t - 1);
     let from = s.from - t;
     Part {
         from,

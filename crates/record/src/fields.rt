@@ -2,16 +2,17 @@
 ghost use Rattle.std.specs.Prelude.{◌≡◌, ◌+◌, ◌*◌, ◌≤◌, ◌<◌, length, get_or};
 ghost use Rattle.bits.specs.Bits.{bits as bits_of};
 ghost use Rattle.record.specs.Record.{fields_from, fields as fields_of};
-ghost use Rattle.record.specs.Steps.{Sound, Reading};
+ghost use Rattle.record.specs.Steps.{Reading};
 
+use super::layout::Layout;
 use adjacency::cells::put;
 
 // Field p, from 0.
-pub fn field(bytes: &[u8], n: usize, m: usize, p: usize) -> usize
-    requires { (Sound bytes.now n m) × (p < 2 * m) }
-    ensures { (result ≡ get_or (fields_of bytes.now) p 0) × (result < 4096) }
+pub fn field(layout: &Layout, p: usize) -> usize
+    requires { p < 2 * layout.now.m }
+    ensures { (result ≡ get_or (fields_of layout.now.bytes.now) p 0) × (result < 4096) }
 {
-    bits::fields::read12(bytes, 28 + (n + 2 * m) + 12 * p)
+    bits::fields::read12(layout.bytes, 28 + (layout.n + 2 * layout.m) + 12 * p)
 }
 
 // Four more fields, from field i on, where another one stands behind them: so a whole word does.

@@ -2,8 +2,9 @@
 ghost use Rattle.std.specs.Prelude.{◌≡◌, ◌+◌, ◌-◌, ◌%◌, ◌≤◌, ◌<◌, length, get_or};
 ghost use Rattle.record.specs.Record.{unary};
 ghost use Rattle.record.specs.Starts.{starts_of};
-ghost use Rattle.record.specs.Steps.{Sound, Filling, Entering};
+ghost use Rattle.record.specs.Steps.{Filling, Entering};
 
+use super::layout::Layout;
 use adjacency::cells::put;
 
 // The ones of w, the bits of D before place `end` that are still to be read: each enters the zeros before it as the
@@ -37,11 +38,12 @@ fn part_end(i: usize, places: usize) -> usize
 
 // The starts of all blocks, and the end of the last one, by one pass over D: part by part, and in each part from one to
 // one.
-pub fn fill_starts(bytes: &[u8], n: usize, m: usize, starts: &mut [u16])
-    requires { (Sound bytes.now n m) × (length starts.old ≡ n + 1) }
-    ensures { starts.new ≡ starts_of (unary bytes.now) }
+pub fn fill_starts(layout: &Layout, starts: &mut [u16])
+    requires { length starts.old ≡ layout.now.n + 1 }
+    ensures { starts.new ≡ starts_of (unary layout.now.bytes.now) }
 {
-    let places = n + 2 * m;
+    let bytes = layout.bytes;
+    let places = layout.n + 2 * layout.m;
     let mut i = 0;
     let mut k = 0;
     while i < places {
@@ -59,10 +61,10 @@ pub fn fill_starts(bytes: &[u8], n: usize, m: usize, starts: &mut [u16])
 }
 
 // The places of D between the one of block v, v counted from 0, and the next.
-pub fn span_of(bytes: &[u8], n: usize, m: usize, v: usize) -> bits::spans::Span
-    requires { (Sound bytes.now n m) × (v < n) }
-    ensures { (result.from ≡ get_or (starts_of (unary bytes.now)) v 0 + (v + 1))
-        × (result.to ≡ get_or (starts_of (unary bytes.now)) (v + 1) 0 + (v + 1)) }
+pub fn span_of(layout: &Layout, v: usize) -> bits::spans::Span
+    requires { v < layout.now.n }
+    ensures { (result.from ≡ get_or (starts_of (unary layout.now.bytes.now)) v 0 + (v + 1))
+        × (result.to ≡ get_or (starts_of (unary layout.now.bytes.now)) (v + 1) 0 + (v + 1)) }
 {
-    bits::spans::span_from(bytes, 28, n + 2 * m, v + 1)
+    bits::spans::span_from(layout.bytes, 28, layout.n + 2 * layout.m, v + 1)
 }

@@ -31,7 +31,7 @@ pub overflow_sub-t : goal.overflow_sub-t
 overflow_sub-t c = let z = (upto (goal.at.overflow_sub-t c).Else-out_of_range).0 in omega arith
 
 pub span_of-s-requires : goal.span_of-s-requires
-span_of-s-requires c = let (z, u) = upto (goal.at.span_of-s-requires c).Else-out_of_range in (c.requires, omega arith)
+span_of-s-requires c = let (z, u) = upto (goal.at.span_of-s-requires c).Else-out_of_range in omega arith
 
 pub overflow_sub-result : goal.overflow_sub-result
 overflow_sub-result c =

@@ -5,7 +5,6 @@ use Rattle.record.proofs.fields.field.Goals as goal
 
 pub returns : goal.returns
 returns c = (
-  c.read12.ensures.0 ∙ sound_field c.requires.0 c.args.p
-      c.requires.1,
+  c.read12.ensures.0 ∙ sound_field c.args.layout.now.sound c.args.p c.requires,
   c.read12.ensures.1,
 )

@@ -11,18 +11,16 @@ use Rattle.record.proofs.starts.fill_starts.Goals as goal
 pub loop-i-init : goal.loop-i-init
 loop-i-init c =
     let args = c.args in
-    let pre = c.requires in
-    let e = sound_ones pre.0 in
-    let f = pre.1 in
-    filling_start (unary args.bytes.now) args.starts.now (omega arith)
+    let e = sound_ones c.args.layout.now.sound in
+    let f = c.requires in
+    filling_start (unary args.layout.now.bytes.now) args.starts.now (omega arith)
 
 pub enter_ones-k-requires : goal.enter_ones-k-requires
 enter_ones-k-requires c =
-    let pre = c.requires in
     let loop = c.loop-i in
-    let e = sound_places pre.0 in
+    let e = sound_places c.args.layout.now.sound in
     let end = c.part_end-end.result in
-    let part = c.read_long.ensures ∙ sound_part pre.0 (end - loop.i) loop.i (omega arith) in
+    let part = c.read_long.ensures ∙ sound_part c.args.layout.now.sound (end - loop.i) loop.i (omega arith) in
     (omega arith, entering_start end loop.invariant (omega arith) (omega arith) part)
 
 pub loop-i-preserved : goal.loop-i-preserved
@@ -37,21 +35,20 @@ put-requires c =
     let b = filling_bounds loop.invariant in
     let s = loop.invariant.size in
     let u = loop.invariant.upto in
-    let e = sound_places c.requires.0 in
+    let e = sound_places c.args.layout.now.sound in
     omega arith
 
 pub shape_of-starts : goal.shape_of-starts
 shape_of-starts c =
-    let pre = c.requires in
     let loop = c.loop-i in
     let l = ap length c.put.ensures ∙ length-set loop.starts loop.k _ in
     let s = loop.invariant.size in
-    let e = sound_ones pre.0 in
-    let p = pre.1 in
+    let e = sound_ones c.args.layout.now.sound in
+    let p = c.requires in
     omega arith
 
 pub returns : goal.returns
 returns c =
-    let e = sound_places c.requires.0 in
+    let e = sound_places c.args.layout.now.sound in
     let h = c.loop-i-test.false in
     filling_end c.loop-i.invariant (omega arith) c.put.ensures

@@ -5,10 +5,8 @@ use Rattle.record.proofs.starts.span_of.Goals as goal
 
 pub span_from-requires : goal.span_from-requires
 span_from-requires c =
-    let pre = c.requires in
-    (omega arith, sound_one pre.0 pre.1, omega arith, omega arith)
+    (omega arith, sound_one c.args.layout.now.sound c.requires, omega arith, omega arith)
 
 pub returns : goal.returns
 returns c =
-    let pre = c.requires in
-    sound_span pre.0 pre.1 c.span_from.ensures
+    sound_span c.args.layout.now.sound c.requires c.span_from.ensures
