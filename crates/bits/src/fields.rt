@@ -39,48 +39,24 @@ fn cut(x: u64, low: usize, width: usize) -> usize
     ((x >> low) & ((1 << width) - 1)) as usize
 }
 
-// The field of `width` bits from bit `start` on, by one formula in `start`. Three bytes are joined: the one in which it
+// The field of WIDTH bits from bit `start` on, by one formula in `start`. Three bytes are joined: the one in which it
 // begins, the next, and the one in which it ends. Where that is the next again, its second copy is shifted out.
-fn formula(bytes: &[u8], start: usize, width: usize) -> usize
-    requires { (9 ≤ width) × (width ≤ 16) × (start + width ≤ 8 * length bytes.now) }
-    ensures { result ≡ field_formula width bytes.now start }
+fn formula<const WIDTH: usize>(bytes: &[u8], start: usize) -> usize
+    requires { (9 ≤ WIDTH) × (WIDTH ≤ 16) × (start + WIDTH ≤ 8 * length bytes.now) }
+    ensures { result ≡ field_formula WIDTH bytes.now start }
 {
     let first = start / 8;
     let off = start % 8;
-    let last = first + (off + width - 1) / 8;
-    cut(join3(bytes, first, last), 24 - width - off, width)
+    let last = first + (off + WIDTH - 1) / 8;
+    cut(join3(bytes, first, last), 24 - WIDTH - off, WIDTH)
 }
 
-// The same: what the formula gives is the field.
-fn read_field(bytes: &[u8], start: usize, width: usize) -> usize
-    requires { (9 ≤ width) × (width ≤ 16) × (start + width ≤ 8 * length bytes.now) }
-    ensures { (result ≡ field width (bits bytes.now) start) × (result < 2 ^ width) }
+// The field of WIDTH bits from bit `start` on: what the formula gives is the field.
+pub fn read<const WIDTH: usize>(bytes: &[u8], start: usize) -> usize
+    requires { (9 ≤ WIDTH) × (WIDTH ≤ 16) × (start + WIDTH ≤ 8 * length bytes.now) }
+    ensures { (result ≡ field WIDTH (bits bytes.now) start) × (result < 2 ^ WIDTH) }
 {
-    formula(bytes, start, width)
-}
-
-// The field of 12 bits from bit `start` on.
-pub fn read12(bytes: &[u8], start: usize) -> usize
-    requires { start + 12 ≤ 8 * length bytes.now }
-    ensures { (result ≡ field 12 (bits bytes.now) start) × (result < 4096) }
-{
-    read_field(bytes, start, 12)
-}
-
-// The field of 13 bits from bit `start` on.
-pub fn read13(bytes: &[u8], start: usize) -> usize
-    requires { start + 13 ≤ 8 * length bytes.now }
-    ensures { (result ≡ field 13 (bits bytes.now) start) × (result < 8192) }
-{
-    read_field(bytes, start, 13)
-}
-
-// The field of 15 bits from bit `start` on.
-pub fn read15(bytes: &[u8], start: usize) -> usize
-    requires { start + 15 ≤ 8 * length bytes.now }
-    ensures { (result ≡ field 15 (bits bytes.now) start) × (result < 32768) }
-{
-    read_field(bytes, start, 15)
+    formula::<WIDTH>(bytes, start)
 }
 
 // The field of `width` bits from bit `start` on, where the 64 bits from its first byte on hold it.
@@ -142,56 +118,29 @@ pub fn clear_first(bytes: &mut [u8])
     bytes[0] = bytes[0] & 0x7F;
 }
 
-// The field of `width` bits from bit `start` on becomes v, and nothing else changes. The two bytes or the three that
-// hold it are joined.
-fn write_field(bytes: &mut [u8], start: usize, width: usize, v: usize)
-    requires { (9 ≤ width) × (width ≤ 16) × (start + width ≤ 8 * length bytes.old) × (v < 2 ^ width) }
-    ensures { (bits bytes.new ≡ put width v (bits bytes.old) start)
+// The field of WIDTH bits from bit `start` on becomes v, and nothing else changes. The two bytes or the three that hold
+// it are joined.
+pub fn write<const WIDTH: usize>(bytes: &mut [u8], start: usize, v: usize)
+    requires { (9 ≤ WIDTH) × (WIDTH ≤ 16) × (start + WIDTH ≤ 8 * length bytes.old) × (v < 2 ^ WIDTH) }
+    ensures { (bits bytes.new ≡ put WIDTH v (bits bytes.old) start)
         × (length bytes.new ≡ length bytes.old) }
 {
     let first = start / 8;
-    let end = start % 8 + width;
+    let end = start % 8 + WIDTH;
     let next = first + 1;
     if end <= 16 {
         let x = join2(bytes, first, next);
-        let y = replaced(x, width, 16 - end, v as u64);
+        let y = replaced(x, WIDTH, 16 - end, v as u64);
         bytes[first] = byte_of(y, 8);
         bytes[next] = byte_of(y, 0);
     } else {
         let last = first + 2;
         let x = join3(bytes, first, last);
-        let y = replaced(x, width, 24 - end, v as u64);
+        let y = replaced(x, WIDTH, 24 - end, v as u64);
         bytes[first] = byte_of(y, 16);
         bytes[next] = byte_of(y, 8);
         bytes[last] = byte_of(y, 0);
     }
-}
-
-// The field of 12 bits from bit `start` on becomes v, and nothing else changes.
-pub fn write12(bytes: &mut [u8], start: usize, v: usize)
-    requires { (start + 12 ≤ 8 * length bytes.old) × (v < 4096) }
-    ensures { (bits bytes.new ≡ put 12 v (bits bytes.old) start)
-        × (length bytes.new ≡ length bytes.old) }
-{
-    write_field(bytes, start, 12, v);
-}
-
-// The field of 13 bits from bit `start` on becomes v, and nothing else changes.
-pub fn write13(bytes: &mut [u8], start: usize, v: usize)
-    requires { (start + 13 ≤ 8 * length bytes.old) × (v < 8192) }
-    ensures { (bits bytes.new ≡ put 13 v (bits bytes.old) start)
-        × (length bytes.new ≡ length bytes.old) }
-{
-    write_field(bytes, start, 13, v);
-}
-
-// The field of 15 bits from bit `start` on becomes v, and nothing else changes.
-pub fn write15(bytes: &mut [u8], start: usize, v: usize)
-    requires { (start + 15 ≤ 8 * length bytes.old) × (v < 32768) }
-    ensures { (bits bytes.new ≡ put 15 v (bits bytes.old) start)
-        × (length bytes.new ≡ length bytes.old) }
-{
-    write_field(bytes, start, 15, v);
 }
 
 // The two fields of 12 bits in the three bytes from byte `at` on become a and b, and nothing else changes.

@@ -10,5 +10,5 @@ pub extern "C" fn bits_read12(bytes: &[u8], start: usize) -> usize
     requires { start + 12 ≤ 8 * length bytes.now }
     ensures { result ≡ field 12 (bits_of bytes.now) start }
 {
-    bits::fields::read12(bytes, start)
+    bits::fields::read::<12>(bytes, start)
 }

@@ -91,13 +91,13 @@ fn fields(rt: &impl Print, bytes: &[u8], start: usize) -> io::Result<()>
         }
     }
     if start + 12 <= held {
-        value(rt, bits::fields::read12(bytes, start))?;
+        value(rt, bits::fields::read::<12>(bytes, start))?;
     }
     if start + 13 <= held {
-        value(rt, bits::fields::read13(bytes, start))?;
+        value(rt, bits::fields::read::<13>(bytes, start))?;
     }
     if start + 15 <= held {
-        value(rt, bits::fields::read15(bytes, start))?;
+        value(rt, bits::fields::read::<15>(bytes, start))?;
     }
     text(rt, b"\n")?;
     Ok(())
@@ -109,7 +109,7 @@ fn write(rt: &impl Print, start: usize, v: usize) -> io::Result<()>
 {
     let mut bytes = [0x00, 0x00, 0x00, 0x00, 0xFF, 0xFF, 0xFF, 0xFF];
     let buffer: &mut [u8] = &mut bytes;
-    bits::fields::write12(buffer, start, v);
+    bits::fields::write::<12>(buffer, start, v);
     label(rt, b"field ", start)?;
     show_bytes(rt, buffer)?;
     bits::fields::set_bit(buffer, start);

@@ -33,7 +33,7 @@ fn write_last(section: &mut [u8], v: usize, d: Dfi)
     ensures section_after { bits section.new ≡ put 12 (d.0 - 1) (bits section.old) (12 * v) }
     ensures section_len_unchanged { length section.new ≡ length section.old }
 {
-    bits::fields::write12(section, 12 * v, d.0 - 1);
+    bits::fields::write::<12>(section, 12 * v, d.0 - 1);
 }
 
 // Writes the visit numbers less 1, 12 bits each, two in three bytes, and fills the last byte up with zero bits. What

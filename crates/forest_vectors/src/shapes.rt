@@ -159,7 +159,7 @@ fn put_field(bytes: &mut [u8], start: usize, v: usize)
     requires { (start < 4294967296) × (v < 4096) }
 {
     if (start + 11) / 8 < bytes.len() {
-        bits::fields::write12(bytes, start, v);
+        bits::fields::write::<12>(bytes, start, v);
     }
 }
 

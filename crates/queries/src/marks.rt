@@ -29,7 +29,7 @@ pub fn stored(index: &[u8], n: usize, m: usize, u: usize) -> usize
     requires { (Framed index.now n m) × (u < n) }
     ensures { (result ≡ number_of n m index.now u) × (result < 4096) }
 {
-    bits::fields::read12(index, 8 * (3 * mark_bytes(n, m)) + 12 * u)
+    bits::fields::read::<12>(index, 8 * (3 * mark_bytes(n, m)) + 12 * u)
 }
 
 // The numbers stored for vertex u and the three after it, where another one stands behind them: so a whole word does.

@@ -12,7 +12,7 @@ pub fn field(layout: &Layout, p: usize) -> usize
     requires { p < 2 * layout.now.m }
     ensures { (result ≡ get_or (fields_of layout.now.bytes.now) p 0) × (result < 4096) }
 {
-    bits::fields::read12(layout.bytes, 28 + (layout.n + 2 * layout.m) + 12 * p)
+    bits::fields::read::<12>(layout.bytes, 28 + (layout.n + 2 * layout.m) + 12 * p)
 }
 
 // Four more fields, from field i on, where another one stands behind them: so a whole word does.
@@ -48,7 +48,7 @@ pub fn read_fields(bytes: &[u8], start: usize, list: &mut [u16])
 {
     let mut i = read_fours(bytes, start, list);
     while i < list.len() {
-        put(list, i, bits::fields::read12(bytes, start + 12 * i));
+        put(list, i, bits::fields::read::<12>(bytes, start + 12 * i));
         i += 1;
     }
 }

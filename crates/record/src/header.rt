@@ -36,8 +36,8 @@ pub fn order_r(bytes: &[u8]) -> Shape
     if bytes.len() < 4 {
         return Shape::Refused(Refusal::TooShort);
     }
-    let n = bits::fields::read13(bytes, 0);
-    let m = bits::fields::read15(bytes, 13);
+    let n = bits::fields::read::<13>(bytes, 0);
+    let m = bits::fields::read::<15>(bytes, 13);
     if 4096 < n {
         return Shape::Refused(Refusal::OverLimit);
     }

@@ -9,7 +9,7 @@ ghost use Rattle.record.specs.Steps.{Listed, Numbers, unary_bits, Laying};
 
 use super::clear::clear;
 use adjacency::cells::get;
-use bits::fields::{Four, set_bit, write12, write13, write15};
+use bits::fields::{Four, set_bit, write};
 
 // n and m.
 fn write_header(bytes: &mut [u8], n: usize, m: usize)
@@ -17,8 +17,8 @@ fn write_header(bytes: &mut [u8], n: usize, m: usize)
     ensures begun { Begun bytes.new (header_bits n m) }
     ensures bytes_len_unchanged { length bytes.new ≡ length bytes.old }
 {
-    write13(bytes, 0, n);
-    write15(bytes, 13, m);
+    write::<13>(bytes, 0, n);
+    write::<15>(bytes, 13, m);
 }
 
 // D, from bit 28 on: for each degree a one, and then as many zeros, which stand there.
@@ -93,7 +93,7 @@ fn write_fields(neighbours: &[u16], bytes: &mut [u8], start: usize)
 {
     let mut i = write_fours(neighbours, bytes, start);
     while i < neighbours.len() {
-        write12(bytes, start + 12 * i, number(neighbours, i));
+        write::<12>(bytes, start + 12 * i, number(neighbours, i));
         i += 1;
     }
 }

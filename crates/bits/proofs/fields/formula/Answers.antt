@@ -6,7 +6,7 @@ use Rattle.bits.proofs.fields.formula.Goals as goal
 
 pub returns : goal.returns
 unfolding field_formula
-returns c =
+returns g c =
     let a = c.args in
-    let k = 24 - a.width - a.start % 8 in
-    c.cut.ensures.0 ∙ ap (λ (n : ℕ). n / 2 ^ k % 2 ^ a.width) c.join3.ensures.0
+    let k = 24 - g.row.WIDTH - a.start % 8 in
+    c.cut.ensures.0 ∙ ap (λ (n : ℕ). n / 2 ^ k % 2 ^ g.row.WIDTH) c.join3.ensures.0

@@ -3,13 +3,13 @@ use native.Mathlib.Omega.{arith}
 use Rattle.queries.specs.Laws.Framed.{numbers_fit, number_at}
 use Rattle.queries.proofs.marks.stored.Goals as goal
 
-pub read12-requires : goal.read12-requires
-read12-requires c =
+pub read-requires : goal.read-requires
+read-requires c =
     let pre = c.requires in
-    omega (arith, c.mark_bytes.ensures.0, numbers_fit pre.0)
+    (omega arith, omega arith, omega (arith, c.mark_bytes.ensures.0, numbers_fit pre.0))
 
 pub returns : goal.returns
 returns c =
     let pre = c.requires in
-    let read12 = c.read12.ensures in
-    (number_at pre.0 pre.1 (omega (arith, c.mark_bytes.ensures.0)) read12.0, read12.1)
+    let read = c.read.ensures in
+    (number_at pre.0 pre.1 (omega (arith, c.mark_bytes.ensures.0)) read.0, read.1)

@@ -5,6 +5,6 @@ use Rattle.record.proofs.fields.field.Goals as goal
 
 pub returns : goal.returns
 returns c = (
-  c.read12.ensures.0 ∙ sound_field c.args.layout.now.sound c.args.p c.requires,
-  c.read12.ensures.1,
+  c.read.ensures.0 ∙ sound_field c.args.layout.now.sound c.args.p c.requires,
+  c.read.ensures.1,
 )

@@ -16,13 +16,13 @@ loop-i-init c =
 pub loop-i-smaller : goal.loop-i-smaller
 loop-i-smaller c =
     let loop = c.loop-i in
-    let e = ap length c.put.ensures ∙ length-set loop.list loop.i c.read12.result in
+    let e = ap length c.put.ensures ∙ length-set loop.list loop.i c.read.result in
     omega arith
 
 pub loop-i-preserved : goal.loop-i-preserved
 loop-i-preserved c =
-    let read12 = c.read12 in
-    reads_more c.loop-i.invariant read12.result (omega arith) read12.ensures.0 c.put.ensures
+    let read = c.read in
+    reads_more c.loop-i.invariant read.result (omega arith) read.ensures.0 c.put.ensures
 
 pub shape_of-list : goal.shape_of-list
 shape_of-list c = c.loop-i.invariant.size ∙ c.read_fours-i.ensures.size

@@ -30,16 +30,16 @@ unfolding terminals wires
 returns-then-bytes-record_length c =
     let bytes = c.args.bytes.now in
     let e = c.record_length.ensures
-    ∙ ap₂ record_length c.read13-n.ensures.0
-    c.read15-m.ensures.0 in
+    ∙ ap₂ record_length c.read-n.ensures.0
+    c.read-m.ensures.0 in
     told (sizes_of bytes) (rule_3 bytes (omega arith) (omega arith) (omega arith) (λ z. c.if-bytes-record_length.true (z ∙ sym e)))
 
 pub bad_unary-requires : goal.bad_unary-requires
 unfolding terminals wires
 bad_unary-requires c =
     record {
-      is_n = c.read13-n.ensures.0;
-      is_m = c.read15-m.ensures.0;
+      is_n = c.read-n.ensures.0;
+      is_m = c.read-m.ensures.0;
       n_fits = c.if-n-gt4096.false;
       m_fits = c.if-m-gt16384.false;
       sized = c.if-bytes-record_length.false ∙ c.record_length.ensures;
@@ -49,10 +49,10 @@ pub returns-then-bad_unary : goal.returns-then-bad_unary
 unfolding terminals wires
 returns-then-bad_unary c =
     let bytes = c.args.bytes.now in
-    let read13 = c.read13-n in
+    let read_n = c.read-n in
     let e = c.record_length.ensures
-    ∙ ap₂ record_length read13.ensures.0
-    c.read15-m.ensures.0 in
+    ∙ ap₂ record_length read_n.ensures.0
+    c.read-m.ensures.0 in
     told (sizes_of bytes)
     (rule_4 bytes (omega arith) (omega arith) (omega arith) (c.if-bytes-record_length.false ∙ e)
     c.bad_unary.ensures c.if-bad_unary.true)
@@ -61,12 +61,12 @@ pub returns : goal.returns
 unfolding terminals wires
 returns c =
     let bytes = c.args.bytes.now in
-    let read13 = c.read13-n in
-    let read15 = c.read15-m in
+    let read_n = c.read-n in
+    let read_m = c.read-m in
     let e = c.record_length.ensures
-    ∙ ap₂ record_length read13.ensures.0 read15.ensures.0 in
+    ∙ ap₂ record_length read_n.ensures.0 read_m.ensures.0 in
     let sized : ℕ → ℕ → Answer Sizes = λ x y. answered (record { n = x; m = y }) in
-    ap₂ sized read13.ensures.0 read15.ensures.0
+    ap₂ sized read_n.ensures.0 read_m.ensures.0
     ∙ untold (sizes_of bytes)
     (rules_kept bytes (omega arith) (omega arith) (omega arith) (c.if-bytes-record_length.false ∙ e)
     c.bad_unary.ensures c.if-bad_unary.false)

@@ -14,12 +14,12 @@ loop-i-init c =
     let p = c.requires in
     (laying_same c.write_fours-i.ensures.laying (omega arith), refl)
 
-pub write12-requires : goal.write12-requires
-write12-requires c =
+pub write-requires : goal.write-requires
+write-requires c =
     let f = c.write_fours-i.ensures.bytes_len_unchanged in
     let e = c.loop-i.invariant.1 in
     let p = c.requires in
-    (omega arith, c.number.ensures.1)
+    (omega arith, omega arith, omega arith, c.number.ensures.1)
 
 pub loop-i-preserved : goal.loop-i-preserved
 loop-i-preserved c =
@@ -29,7 +29,7 @@ loop-i-preserved c =
     let f = c.write_fours-i.ensures.bytes_len_unchanged in
     let e = loop.invariant.1 in
     let p = c.requires in
-    let w = c.write12.ensures in
+    let w = c.write.ensures in
     let x = c.number.ensures.0 ∙ sym (map_at (λ v. v - 1) a.neighbours.now loop.i (omega arith)) in
     let more = laying_more loop.invariant.0 (rw (length_bits _) (omega arith)) (omega arith) w.1 _ (omega arith) x
     w.0 in

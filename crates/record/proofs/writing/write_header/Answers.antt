@@ -11,9 +11,9 @@ unfolding header_bits
 returns c =
     let n = c.args.n in
     let m = c.args.m in
-    let first = begun_put c.requires.3 13 n refl (omega arith) c.write13.ensures.0
-    c.write13.ensures.1 in
-    let l = c.write13.ensures.1 in
-    let second = begun_put first 15 m (sym (length_to_bits 13 n)) (omega arith) c.write15.ensures.0
-    c.write15.ensures.1 in
-    record { begun = second; bytes_len_unchanged = c.write15.ensures.1 ∙ l }
+    let first = begun_put c.requires.3 13 n refl (omega arith) c.write.ensures.0
+    c.write.ensures.1 in
+    let l = c.write.ensures.1 in
+    let second = begun_put first 15 m (sym (length_to_bits 13 n)) (omega arith) c.write-2.ensures.0
+    c.write-2.ensures.1 in
+    record { begun = second; bytes_len_unchanged = c.write-2.ensures.1 ∙ l }
