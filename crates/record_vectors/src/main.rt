@@ -4,403 +4,482 @@
 
 ghost use Rattle.std.specs.Prelude.{◌≤◌};
 
-use print::{label, number, refused, show_bytes, show_numbers, text, value};
-use record::{Counted, Verdict, Vertex};
-use std::io;
+use print::{show_bytes, show_numbers};
+use record::{Counted, Refusal, Verdict, Vertex};
+use std::{fmt, io};
 
-fn verdict(rt: &impl Print, answer: Verdict) -> io::Result<()> {
+// What an operation answers: its value, or the refusal's number.
+#[derive(Drop)]
+struct Told<T>(Result<T, Refusal>);
+
+impl<T: fmt::Display> fmt::Display for Told<T> {
+    fn fmt<W: fmt::Write>(&self, f: &mut fmt::Formatter<W>) -> fmt::Result {
+        match &self.0 {
+            Ok(value) => write!(f, "{value}"),
+            Err(r) => write!(f, "refused {}", record::number_of(*r)),
+        }
+    }
+}
+
+fn verdict(answer: Verdict) -> Told<&'static str> {
     match answer {
-        Verdict::Accepted => text(rt, b"accepted")?,
-        Verdict::Refused(r) => refused(rt, record::number_of(r))?,
+        Verdict::Accepted => Told(Ok("accepted")),
+        Verdict::Refused(r) => Told(Err(r)),
     }
-    Ok(())
 }
 
-fn counted(rt: &impl Print, answer: Counted) -> io::Result<()> {
+fn counted(answer: Counted) -> Told<usize> {
     match answer {
-        Counted::Count(k) => number(rt, k)?,
-        Counted::Refused(r) => refused(rt, record::number_of(r))?,
+        Counted::Count(k) => Told(Ok(k)),
+        Counted::Refused(r) => Told(Err(r)),
     }
-    Ok(())
 }
 
-fn check(rt: &impl Print, name: &[u8], bytes: &[u8]) -> io::Result<()> {
-    text(rt, name)?;
-    text(rt, b" check: ")?;
-    verdict(rt, record::check(bytes))?;
-    text(rt, b"\n")?;
-    Ok(())
+// A record, and the sizes to ask with.
+#[derive(Clone, Copy)]
+struct Case<'a> {
+    name: &'a str,
+    bytes: &'a [u8],
+    n: usize,
+    m: usize,
+    ghost small: { (n ≤ 6) × (m ≤ 5) },
 }
 
-fn degree(rt: &impl Print, name: &[u8], bytes: &[u8], v: usize) -> io::Result<()> {
-    text(rt, name)?;
-    label(rt, b" degree ", v)?;
-    text(rt, b" ")?;
-    counted(rt, record::degree(bytes, Vertex(v)))?;
-    text(rt, b"\n")?;
-    Ok(())
-}
-
-// Degree of terminals 0 to `last`.
-fn degrees(rt: &impl Print, name: &[u8], bytes: &[u8], last: usize) -> io::Result<()>
-    requires { last ≤ 7 }
-{
-    let mut v = 0;
-    while v <= last {
-        degree(rt, name, bytes, v)?;
-        v += 1;
+impl Case<'_> {
+    fn check(&self, rt: &impl Print) -> io::Result<()> {
+        let name = self.name;
+        println!(rt; "{name} check: {}", verdict(record::check(self.bytes)))
     }
-    Ok(())
-}
 
-// Unpack, with the list after it.
-fn unpack(rt: &impl Print, name: &[u8], bytes: &[u8], list: &mut [u16]) -> io::Result<()> {
-    text(rt, name)?;
-    label(rt, b" unpack ", list.len())?;
-    text(rt, b" ")?;
-    verdict(rt, record::unpack(bytes, list))?;
-    text(rt, b",")?;
-    show_numbers(rt, list)?;
-    Ok(())
-}
-
-fn neighbours(
-    rt: &impl Print,
-    name: &[u8],
-    bytes: &[u8],
-    list: &[u16],
-    v: usize,
-) -> io::Result<()> {
-    text(rt, name)?;
-    text(rt, b" neighbours")?;
-    value(rt, list.len())?;
-    label(rt, b" ", v)?;
-    show_numbers(rt, record::neighbours(bytes, list, Vertex(v)))?;
-    Ok(())
-}
-
-// Neighbours of terminals `first` to `last`.
-fn blocks(
-    rt: &impl Print,
-    name: &[u8],
-    bytes: &[u8],
-    list: &[u16],
-    first: usize,
-    last: usize,
-) -> io::Result<()>
-    requires { last ≤ 7 }
-{
-    let mut v = first;
-    while v <= last {
-        neighbours(rt, name, bytes, list, v)?;
-        v += 1;
+    fn degree(&self, rt: &impl Print, v: usize) -> io::Result<()> {
+        let name = self.name;
+        println!(rt;
+            "{name} degree {v}: {}",
+            counted(record::degree(self.bytes, Vertex(v)))
+        )
     }
-    Ok(())
-}
 
-// Unpack and Neighbours, with a list of this length. It holds marks at first: a refused Unpack leaves them.
-fn lists(
-    rt: &impl Print,
-    name: &[u8],
-    bytes: &[u8],
-    length: usize,
-    first: usize,
-    last: usize,
-) -> io::Result<()>
-    requires { (length ≤ 11) × (last ≤ 7) }
-{
-    let mut marks = [901, 902, 903, 904, 905, 906, 907, 908, 909, 910, 911];
-    let list: &mut [u16] = &mut marks[..length];
-    unpack(rt, name, bytes, list)?;
-    blocks(rt, name, bytes, list, first, last)?;
-    Ok(())
-}
-
-// All calls on one record, for terminals 0 to n + 1, and lists of 2·m numbers, one less and one more.
-fn run(rt: &impl Print, name: &[u8], bytes: &[u8], n: usize, m: usize) -> io::Result<()>
-    requires { (n ≤ 6) × (m ≤ 5) }
-{
-    check(rt, name, bytes)?;
-    degrees(rt, name, bytes, n + 1)?;
-    lists(rt, name, bytes, 2 * m, 0, n + 1)?;
-    if 0 < m {
-        lists(rt, name, bytes, 2 * m - 1, 1, 1)?;
+    // Unpack, with the list after it.
+    fn unpack(&self, rt: &impl Print, list: &mut [u16]) -> io::Result<()> {
+        let name = self.name;
+        let answer = verdict(record::unpack(self.bytes, list));
+        print!(rt; "{name} unpack {}: {answer},", list.len())?;
+        show_numbers(rt, list)
     }
-    lists(rt, name, bytes, 2 * m + 1, 1, 1)?;
+
+    fn neighbours(&self, rt: &impl Print, list: &[u16], v: usize) -> io::Result<()> {
+        let name = self.name;
+        print!(rt; "{name} neighbours {} {v}:", list.len())?;
+        show_numbers(rt, record::neighbours(self.bytes, list, Vertex(v)))
+    }
+
+    // Unpack, and Neighbours of terminals `first` to `last`, with a list of this length. It holds marks at first: a
+    // refused Unpack leaves them.
+    fn lists(&self, rt: &impl Print, length: usize, first: usize, last: usize) -> io::Result<()>
+        requires { (length ≤ 11) × (last ≤ 7) }
+    {
+        let mut marks = [901, 902, 903, 904, 905, 906, 907, 908, 909, 910, 911];
+        let list = &mut marks[..length];
+        self.unpack(rt, list)?;
+        for v in first..=last {
+            self.neighbours(rt, list, v)?;
+        }
+        Ok(())
+    }
+
+    // All calls, for terminals 0 to n + 1, and lists of 2·m numbers, one less and one more.
+    fn ask(&self, rt: &impl Print) -> io::Result<()> {
+        self.check(rt)?;
+        let last = self.n + 1;
+        for v in 0..=last {
+            self.degree(rt, v)?;
+        }
+        let ends = 2 * self.m;
+        self.lists(rt, ends, 0, last)?;
+        if 0 < ends {
+            self.lists(rt, ends - 1, 1, 1)?;
+        }
+        self.lists(rt, ends + 1, 1, 1)
+    }
+}
+
+fn ask_all(rt: &impl Print, cases: &[Case]) -> io::Result<()> {
+    for case in cases {
+        case.ask(rt)?;
+    }
     Ok(())
 }
 
 // Accepted records.
 fn accepted(rt: &impl Print) -> io::Result<()> {
-    run(
-        rt,
-        b"sample",
-        b"\x00\x30\x00\x59\x22\xA0\x02\x00\x10\x00\x00\x20\x01\x00\x30\x00\x00\x20\x05\x00\x40",
-        6,
-        5,
-    )?;
-    run(rt, b"empty", b"\x00\x00\x00\x00", 0, 0)?;
-    run(rt, b"single", b"\x00\x08\x00\x08", 1, 0)?;
-    run(rt, b"isolated", b"\x00\x20\x00\x0F", 4, 0)?;
-    run(rt, b"wire", b"\x00\x10\x00\x1A\x00\x10\x00", 2, 1)?;
-    run(
-        rt,
-        b"triangle",
-        b"\x00\x18\x00\x39\x20\x00\x80\x10\x00\x00\x10\x00\x00\x08",
-        3,
-        3,
-    )?;
-    run(
-        rt,
-        b"star",
-        b"\x00\x28\x00\x48\x55\x00\x08\x01\x00\x18\x02\x00\x00\x00\x00\x00\x00\x00",
-        5,
-        4,
-    )?;
-    run(
-        rt,
-        b"hub",
-        b"\x00\x20\x00\x3A\xA0\x00\xC0\x0C\x00\xC0\x08\x00\x00\x04",
-        4,
-        3,
-    )?;
-    run(
-        rt,
-        b"components",
-        b"\x00\x28\x00\x4A\x92\x00\x08\x00\x00\x18\x02\x00\x20\x01\x00\x10\x01\x80",
-        5,
-        4,
-    )?;
-    run(rt, b"apart", b"\x00\x28\x00\x1D\xA0\x06\x00\x20", 5, 1)?;
-    Ok(())
+    let cases = [
+        Case {
+            name: "sample",
+            bytes: b"\x00\x30\x00\x59\x22\xA0\x02\x00\x10\x00\x00\x20\x01\x00\x30\x00\x00\x20\x05\x00\x40",
+            n: 6,
+            m: 5,
+        },
+        Case {
+            name: "empty",
+            bytes: b"\x00\x00\x00\x00",
+            n: 0,
+            m: 0,
+        },
+        Case {
+            name: "single",
+            bytes: b"\x00\x08\x00\x08",
+            n: 1,
+            m: 0,
+        },
+        Case {
+            name: "isolated",
+            bytes: b"\x00\x20\x00\x0F",
+            n: 4,
+            m: 0,
+        },
+        Case {
+            name: "wire",
+            bytes: b"\x00\x10\x00\x1A\x00\x10\x00",
+            n: 2,
+            m: 1,
+        },
+        Case {
+            name: "triangle",
+            bytes: b"\x00\x18\x00\x39\x20\x00\x80\x10\x00\x00\x10\x00\x00\x08",
+            n: 3,
+            m: 3,
+        },
+        Case {
+            name: "star",
+            bytes: b"\x00\x28\x00\x48\x55\x00\x08\x01\x00\x18\x02\x00\x00\x00\x00\x00\x00\x00",
+            n: 5,
+            m: 4,
+        },
+        Case {
+            name: "hub",
+            bytes: b"\x00\x20\x00\x3A\xA0\x00\xC0\x0C\x00\xC0\x08\x00\x00\x04",
+            n: 4,
+            m: 3,
+        },
+        Case {
+            name: "components",
+            bytes: b"\x00\x28\x00\x4A\x92\x00\x08\x00\x00\x18\x02\x00\x20\x01\x00\x10\x01\x80",
+            n: 5,
+            m: 4,
+        },
+        Case {
+            name: "apart",
+            bytes: b"\x00\x28\x00\x1D\xA0\x06\x00\x20",
+            n: 5,
+            m: 1,
+        },
+    ];
+    ask_all(rt, &cases)
 }
 
 // Accepted records with several wires between the same terminals: two; three; two with a single one behind them; two
 // with other mentions between theirs.
 fn doubled(rt: &impl Print) -> io::Result<()> {
-    run(
-        rt,
-        b"pair",
-        b"\x00\x10\x00\x29\x00\x04\x00\x40\x00\x00\x00",
-        2,
-        2,
-    )?;
-    run(
-        rt,
-        b"triple",
-        b"\x00\x10\x00\x38\x80\x01\x00\x10\x01\x00\x00\x00\x00\x00",
-        2,
-        3,
-    )?;
-    run(
-        rt,
-        b"tail",
-        b"\x00\x18\x00\x39\x10\x00\x80\x08\x00\x00\x10\x00\x00\x08",
-        3,
-        3,
-    )?;
-    run(
-        rt,
-        b"crossed",
-        b"\x00\x18\x00\x48\x88\x00\x20\x04\x00\x20\x04\x00\x00\x00\x00\x00\x02",
-        3,
-        4,
-    )?;
-    Ok(())
+    let cases = [
+        Case {
+            name: "pair",
+            bytes: b"\x00\x10\x00\x29\x00\x04\x00\x40\x00\x00\x00",
+            n: 2,
+            m: 2,
+        },
+        Case {
+            name: "triple",
+            bytes: b"\x00\x10\x00\x38\x80\x01\x00\x10\x01\x00\x00\x00\x00\x00",
+            n: 2,
+            m: 3,
+        },
+        Case {
+            name: "tail",
+            bytes: b"\x00\x18\x00\x39\x10\x00\x80\x08\x00\x00\x10\x00\x00\x08",
+            n: 3,
+            m: 3,
+        },
+        Case {
+            name: "crossed",
+            bytes: b"\x00\x18\x00\x48\x88\x00\x20\x04\x00\x20\x04\x00\x00\x00\x00\x00\x02",
+            n: 3,
+            m: 4,
+        },
+    ];
+    ask_all(rt, &cases)
 }
 
 // 1: under 4 bytes.
 fn too_short(rt: &impl Print) -> io::Result<()> {
-    run(rt, b"none", b"", 1, 1)?;
-    run(rt, b"one_byte", b"\x00", 1, 1)?;
-    run(rt, b"two_bytes", b"\x00\x30", 1, 1)?;
-    run(rt, b"three_bytes", b"\x00\x00\x00", 0, 0)?;
-    Ok(())
+    let cases = [
+        Case {
+            name: "none",
+            bytes: b"",
+            n: 1,
+            m: 1,
+        },
+        Case {
+            name: "one_byte",
+            bytes: b"\x00",
+            n: 1,
+            m: 1,
+        },
+        Case {
+            name: "two_bytes",
+            bytes: b"\x00\x30",
+            n: 1,
+            m: 1,
+        },
+        Case {
+            name: "three_bytes",
+            bytes: b"\x00\x00\x00",
+            n: 0,
+            m: 0,
+        },
+    ];
+    ask_all(rt, &cases)
 }
 
 // 2: n or m over its limit. The limits themselves have only a wrong length.
 fn over_limit(rt: &impl Print) -> io::Result<()> {
-    run(rt, b"wide", b"\x80\x08\x00\x00", 1, 0)?;
-    run(rt, b"wide_limit", b"\x80\x00\x00\x00", 1, 0)?;
-    run(rt, b"wired", b"\x00\x04\x00\x10", 0, 1)?;
-    run(rt, b"wired_limit", b"\x00\x04\x00\x00", 0, 1)?;
-    run(rt, b"all_ones", b"\xFF\xFF\xFF\xFF", 1, 1)?;
-    Ok(())
+    let cases = [
+        Case {
+            name: "wide",
+            bytes: b"\x80\x08\x00\x00",
+            n: 1,
+            m: 0,
+        },
+        Case {
+            name: "wide_limit",
+            bytes: b"\x80\x00\x00\x00",
+            n: 1,
+            m: 0,
+        },
+        Case {
+            name: "wired",
+            bytes: b"\x00\x04\x00\x10",
+            n: 0,
+            m: 1,
+        },
+        Case {
+            name: "wired_limit",
+            bytes: b"\x00\x04\x00\x00",
+            n: 0,
+            m: 1,
+        },
+        Case {
+            name: "all_ones",
+            bytes: b"\xFF\xFF\xFF\xFF",
+            n: 1,
+            m: 1,
+        },
+    ];
+    ask_all(rt, &cases)
 }
 
 // 3: a byte short, a byte long.
 fn wrong_length(rt: &impl Print) -> io::Result<()> {
-    run(
-        rt,
-        b"sample_short",
-        b"\x00\x30\x00\x59\x22\xA0\x02\x00\x10\x00\x00\x20\x01\x00\x30\x00\x00\x20\x05\x00",
-        6,
-        5,
-    )?;
-    run(
-        rt,
-        b"sample_long",
-        b"\x00\x30\x00\x59\x22\xA0\x02\x00\x10\x00\x00\x20\x01\x00\x30\x00\x00\x20\x05\x00\x40\x00",
-        6,
-        5,
-    )?;
-    run(rt, b"empty_long", b"\x00\x00\x00\x00\x00", 0, 0)?;
-    Ok(())
+    let cases = [
+        Case {
+            name: "sample_short",
+            bytes: b"\x00\x30\x00\x59\x22\xA0\x02\x00\x10\x00\x00\x20\x01\x00\x30\x00\x00\x20\x05\x00",
+            n: 6,
+            m: 5,
+        },
+        Case {
+            name: "sample_long",
+            bytes: b"\x00\x30\x00\x59\x22\xA0\x02\x00\x10\x00\x00\x20\x01\x00\x30\x00\x00\x20\x05\x00\x40\x00",
+            n: 6,
+            m: 5,
+        },
+        Case {
+            name: "empty_long",
+            bytes: b"\x00\x00\x00\x00\x00",
+            n: 0,
+            m: 0,
+        },
+    ];
+    ask_all(rt, &cases)
 }
 
 // 4: D with a one too few, a one too many, a zero in front; no terminal and a wire.
 fn bad_unary(rt: &impl Print) -> io::Result<()> {
-    run(
-        rt,
-        b"few_ones",
-        b"\x00\x30\x00\x59\x22\x80\x02\x00\x10\x00\x00\x20\x01\x00\x30\x00\x00\x20\x05\x00\x40",
-        6,
-        5,
-    )?;
-    run(
-        rt,
-        b"many_ones",
-        b"\x00\x30\x00\x59\x22\xB0\x02\x00\x10\x00\x00\x20\x01\x00\x30\x00\x00\x20\x05\x00\x40",
-        6,
-        5,
-    )?;
-    run(rt, b"zero_first", b"\x00\x10\x00\x16\x00\x10\x00", 2, 1)?;
-    run(rt, b"no_ones", b"\x00\x00\x00\x10\x00\x00\x00", 0, 1)?;
-    Ok(())
+    let cases = [
+        Case {
+            name: "few_ones",
+            bytes: b"\x00\x30\x00\x59\x22\x80\x02\x00\x10\x00\x00\x20\x01\x00\x30\x00\x00\x20\x05\x00\x40",
+            n: 6,
+            m: 5,
+        },
+        Case {
+            name: "many_ones",
+            bytes: b"\x00\x30\x00\x59\x22\xB0\x02\x00\x10\x00\x00\x20\x01\x00\x30\x00\x00\x20\x05\x00\x40",
+            n: 6,
+            m: 5,
+        },
+        Case {
+            name: "zero_first",
+            bytes: b"\x00\x10\x00\x16\x00\x10\x00",
+            n: 2,
+            m: 1,
+        },
+        Case {
+            name: "no_ones",
+            bytes: b"\x00\x00\x00\x10\x00\x00\x00",
+            n: 0,
+            m: 1,
+        },
+    ];
+    ask_all(rt, &cases)
 }
 
 // 5: a spare bit is set.
 fn spare_set(rt: &impl Print) -> io::Result<()> {
-    run(
-        rt,
-        b"spare_last",
-        b"\x00\x30\x00\x59\x22\xA0\x02\x00\x10\x00\x00\x20\x01\x00\x30\x00\x00\x20\x05\x00\x41",
-        6,
-        5,
-    )?;
-    run(
-        rt,
-        b"spare_first",
-        b"\x00\x18\x00\x39\x20\x00\x80\x10\x00\x00\x10\x00\x00\x0C",
-        3,
-        3,
-    )?;
-    run(rt, b"spare_single", b"\x00\x08\x00\x0A", 1, 0)?;
-    Ok(())
+    let cases = [
+        Case {
+            name: "spare_last",
+            bytes: b"\x00\x30\x00\x59\x22\xA0\x02\x00\x10\x00\x00\x20\x01\x00\x30\x00\x00\x20\x05\x00\x41",
+            n: 6,
+            m: 5,
+        },
+        Case {
+            name: "spare_first",
+            bytes: b"\x00\x18\x00\x39\x20\x00\x80\x10\x00\x00\x10\x00\x00\x0C",
+            n: 3,
+            m: 3,
+        },
+        Case {
+            name: "spare_single",
+            bytes: b"\x00\x08\x00\x0A",
+            n: 1,
+            m: 0,
+        },
+    ];
+    ask_all(rt, &cases)
 }
 
 // 6: a neighbour above n, or its own.
 fn stray(rt: &impl Print) -> io::Result<()> {
-    run(rt, b"over", b"\x00\x10\x00\x1A\x00\x20\x00", 2, 1)?;
-    run(rt, b"far_over", b"\x00\x10\x00\x1A\x00\x1F\xFF", 2, 1)?;
-    run(rt, b"own", b"\x00\x10\x00\x1A\x00\x00\x01", 2, 1)?;
-    run(
-        rt,
-        b"own_last",
-        b"\x00\x30\x00\x59\x22\xA0\x02\x00\x10\x00\x00\x20\x01\x00\x30\x00\x00\x20\x05\x00\x50",
-        6,
-        5,
-    )?;
-    Ok(())
+    let cases = [
+        Case {
+            name: "over",
+            bytes: b"\x00\x10\x00\x1A\x00\x20\x00",
+            n: 2,
+            m: 1,
+        },
+        Case {
+            name: "far_over",
+            bytes: b"\x00\x10\x00\x1A\x00\x1F\xFF",
+            n: 2,
+            m: 1,
+        },
+        Case {
+            name: "own",
+            bytes: b"\x00\x10\x00\x1A\x00\x00\x01",
+            n: 2,
+            m: 1,
+        },
+        Case {
+            name: "own_last",
+            bytes: b"\x00\x30\x00\x59\x22\xA0\x02\x00\x10\x00\x00\x20\x01\x00\x30\x00\x00\x20\x05\x00\x50",
+            n: 6,
+            m: 5,
+        },
+    ];
+    ask_all(rt, &cases)
 }
 
 // 8: a neighbour that does not mention the terminal.
 fn one_sided(rt: &impl Print) -> io::Result<()> {
-    run(
-        rt,
-        b"one_sided",
-        b"\x00\x18\x00\x29\x40\x02\x00\x40\x00\x00\x20",
-        3,
-        2,
-    )?;
-    run(
-        rt,
-        b"round",
-        b"\x00\x20\x00\x2A\xA0\x01\x00\x20\x03\x00\x00",
-        4,
-        2,
-    )?;
-    run(
-        rt,
-        b"round_twice",
-        b"\x00\x18\x00\x39\x20\x00\x80\x08\x01\x00\x10\x00\x00\x00",
-        3,
-        3,
-    )?;
-    run(
-        rt,
-        b"doubled_sided",
-        b"\x00\x18\x00\x2B\x00\x02\x00\x20\x00\x00\x20",
-        3,
-        2,
-    )?;
-    Ok(())
+    let cases = [
+        Case {
+            name: "one_sided",
+            bytes: b"\x00\x18\x00\x29\x40\x02\x00\x40\x00\x00\x20",
+            n: 3,
+            m: 2,
+        },
+        Case {
+            name: "round",
+            bytes: b"\x00\x20\x00\x2A\xA0\x01\x00\x20\x03\x00\x00",
+            n: 4,
+            m: 2,
+        },
+        Case {
+            name: "round_twice",
+            bytes: b"\x00\x18\x00\x39\x20\x00\x80\x08\x01\x00\x10\x00\x00\x00",
+            n: 3,
+            m: 3,
+        },
+        Case {
+            name: "doubled_sided",
+            bytes: b"\x00\x18\x00\x2B\x00\x02\x00\x20\x00\x00\x20",
+            n: 3,
+            m: 2,
+        },
+    ];
+    ask_all(rt, &cases)
 }
 
 // 8: two terminals that mention each other, one more often than the other.
 fn unequal(rt: &impl Print) -> io::Result<()> {
-    run(
-        rt,
-        b"more",
-        b"\x00\x10\x00\x28\x80\x04\x00\x40\x04\x00\x00",
-        2,
-        2,
-    )?;
-    run(
-        rt,
-        b"less",
-        b"\x00\x10\x00\x2A\x00\x04\x00\x00\x00\x00\x00",
-        2,
-        2,
-    )?;
-    run(
-        rt,
-        b"more_last",
-        b"\x00\x18\x00\x49\x20\x00\x40\x02\x00\x00\x04\x00\x00\x02\x00\x00\x02",
-        3,
-        4,
-    )?;
-    Ok(())
+    let cases = [
+        Case {
+            name: "more",
+            bytes: b"\x00\x10\x00\x28\x80\x04\x00\x40\x04\x00\x00",
+            n: 2,
+            m: 2,
+        },
+        Case {
+            name: "less",
+            bytes: b"\x00\x10\x00\x2A\x00\x04\x00\x00\x00\x00\x00",
+            n: 2,
+            m: 2,
+        },
+        Case {
+            name: "more_last",
+            bytes: b"\x00\x18\x00\x49\x20\x00\x40\x02\x00\x00\x04\x00\x00\x02\x00\x00\x02",
+            n: 3,
+            m: 4,
+        },
+    ];
+    ask_all(rt, &cases)
 }
 
 // Several rules broken at once: the first rule is told, wherever it is broken.
 fn several(rt: &impl Print) -> io::Result<()> {
-    run(
-        rt,
-        b"3_and_4",
-        b"\x00\x30\x00\x59\x22\x80\x02\x00\x10\x00\x00\x20\x01\x00\x30\x00\x00\x20\x05\x00",
-        6,
-        5,
-    )?;
-    run(
-        rt,
-        b"4_and_5",
-        b"\x00\x30\x00\x59\x22\x80\x02\x00\x10\x00\x00\x20\x01\x00\x30\x00\x00\x20\x05\x00\x41",
-        6,
-        5,
-    )?;
-    run(
-        rt,
-        b"5_and_6",
-        b"\x00\x18\x00\x39\x20\x00\x80\x40\x00\x00\x10\x00\x00\x09",
-        3,
-        3,
-    )?;
-    run(
-        rt,
-        b"6_after_8",
-        b"\x00\x10\x00\x29\x00\x04\x00\x40\x00\x00\x80",
-        2,
-        2,
-    )?;
-    run(
-        rt,
-        b"5_6_and_8",
-        b"\x00\x18\x00\x38\xA0\x00\x80\x08\x01\x00\x00\x01\x00\x41",
-        3,
-        3,
-    )?;
-    Ok(())
+    let cases = [
+        Case {
+            name: "3_and_4",
+            bytes: b"\x00\x30\x00\x59\x22\x80\x02\x00\x10\x00\x00\x20\x01\x00\x30\x00\x00\x20\x05\x00",
+            n: 6,
+            m: 5,
+        },
+        Case {
+            name: "4_and_5",
+            bytes: b"\x00\x30\x00\x59\x22\x80\x02\x00\x10\x00\x00\x20\x01\x00\x30\x00\x00\x20\x05\x00\x41",
+            n: 6,
+            m: 5,
+        },
+        Case {
+            name: "5_and_6",
+            bytes: b"\x00\x18\x00\x39\x20\x00\x80\x40\x00\x00\x10\x00\x00\x09",
+            n: 3,
+            m: 3,
+        },
+        Case {
+            name: "6_after_8",
+            bytes: b"\x00\x10\x00\x29\x00\x04\x00\x40\x00\x00\x80",
+            n: 2,
+            m: 2,
+        },
+        Case {
+            name: "5_6_and_8",
+            bytes: b"\x00\x18\x00\x38\xA0\x00\x80\x08\x01\x00\x00\x01\x00\x41",
+            n: 3,
+            m: 3,
+        },
+    ];
+    ask_all(rt, &cases)
 }
 
 // The most terminals, and no wire.
@@ -411,16 +490,21 @@ fn widest(rt: &impl Print) -> io::Result<()> {
     bytes[2] = 0x00;
     bytes[3] = 0x0F;
     bytes[515] = 0xF0;
-    run(rt, b"widest", &bytes, 0, 0)?;
-    degree(rt, b"widest", &bytes, 4096)?;
-    degree(rt, b"widest", &bytes, 4097)?;
-    Ok(())
+    let widest = Case {
+        name: "widest",
+        bytes: &bytes,
+        n: 0,
+        m: 0,
+    };
+    widest.ask(rt)?;
+    widest.degree(rt, 4096)?;
+    widest.degree(rt, 4097)
 }
 
 // File, with the buffer of this length after it. It holds marks at first: a refused call leaves them.
 fn file(
     rt: &impl Print,
-    name: &[u8],
+    name: &str,
     degrees: &[u16],
     neighbours: &[u16],
     length: usize,
@@ -428,41 +512,35 @@ fn file(
     requires { length ≤ 22 }
 {
     let mut marks = [0xA5; 22];
-    let bytes: &mut [u8] = &mut marks[..length];
-    text(rt, name)?;
-    label(rt, b" file ", length)?;
-    text(rt, b" ")?;
-    verdict(rt, record::file(degrees, neighbours, bytes))?;
-    text(rt, b",")?;
-    show_bytes(rt, bytes)?;
-    Ok(())
+    let bytes = &mut marks[..length];
+    let answer = verdict(record::file(degrees, neighbours, bytes));
+    print!(rt; "{name} file {length}: {answer},")?;
+    show_bytes(rt, bytes)
 }
 
 // Records from lists; and 17: a byte short, a byte long.
 fn filed(rt: &impl Print) -> io::Result<()> {
     let degrees = [2u16, 2, 3, 1, 1, 1];
     let neighbours = [3u16, 2, 1, 3, 2, 4, 1, 3, 6, 5];
-    file(rt, b"sample", &degrees, &neighbours, 21)?;
-    file(rt, b"sample", &degrees, &neighbours, 20)?;
-    file(rt, b"sample", &degrees, &neighbours, 22)?;
-    file(rt, b"empty", &[], &[], 4)?;
-    file(rt, b"apart", &[0, 1, 0, 1, 0], &[4, 2], 8)?;
-    file(rt, b"triple", &[3, 3], &[2, 2, 2, 1, 1, 1], 14)?;
-    Ok(())
+    for length in [21, 20, 22] {
+        file(rt, "sample", &degrees, &neighbours, length)?;
+    }
+    file(rt, "empty", &[], &[], 4)?;
+    file(rt, "apart", &[0, 1, 0, 1, 0], &[4, 2], 8)?;
+    file(rt, "triple", &[3, 3], &[2, 2, 2, 1, 1, 1], 14)
 }
 
 // 16: an odd sum; one that is the number of neighbours in 16 bits alone; a degree too many. 6: a neighbour that is 0,
 // or right in 12 bits alone. 8: a wire at one end only; with 17 too; and with 6 behind it, which is told.
 fn not_filed(rt: &impl Print) -> io::Result<()> {
-    file(rt, b"odd", &[1, 1, 1], &[2, 1, 2], 9)?;
-    file(rt, b"wrapped", &[65535, 3], &[2, 1], 7)?;
-    file(rt, b"many", &[0u16; 4097], &[], 4)?;
-    file(rt, b"zero", &[1, 1], &[2, 0], 7)?;
-    file(rt, b"cut", &[1, 1], &[2, 4097], 7)?;
-    file(rt, b"one_sided", &[2, 1, 1], &[2, 3, 1, 2], 11)?;
-    file(rt, b"8_and_17", &[2, 1, 1], &[2, 3, 1, 2], 10)?;
-    file(rt, b"6_after_8", &[2, 2], &[2, 2, 1, 3], 11)?;
-    Ok(())
+    file(rt, "odd", &[1, 1, 1], &[2, 1, 2], 9)?;
+    file(rt, "wrapped", &[65535, 3], &[2, 1], 7)?;
+    file(rt, "many", &[0u16; 4097], &[], 4)?;
+    file(rt, "zero", &[1, 1], &[2, 0], 7)?;
+    file(rt, "cut", &[1, 1], &[2, 4097], 7)?;
+    file(rt, "one_sided", &[2, 1, 1], &[2, 3, 1, 2], 11)?;
+    file(rt, "8_and_17", &[2, 1, 1], &[2, 3, 1, 2], 10)?;
+    file(rt, "6_after_8", &[2, 2], &[2, 2, 1, 3], 11)
 }
 
 fn main(rt: HostRuntime) -> io::Result<()> {
@@ -479,6 +557,5 @@ fn main(rt: HostRuntime) -> io::Result<()> {
     several(&rt)?;
     widest(&rt)?;
     filed(&rt)?;
-    not_filed(&rt)?;
-    Ok(())
+    not_filed(&rt)
 }
