@@ -1,18 +1,12 @@
 // Cells of 16 bits: read and written as numbers of the machine's width, and copied.
 ghost use Rattle.std.specs.Prelude.{◌≡◌, ◌<◌, length, get_or, set};
 
-fn wide(x: u16) -> usize
-    ensures { (result ≡ x) × (result < 65536) }
-{
-    x as usize
-}
-
 // Cell i.
 pub fn get(cells: &[u16], i: usize) -> usize
     requires { i < length cells.now }
     ensures { (result ≡ get_or cells.now i 0) × (result < 65536) }
 {
-    wide(cells[i])
+    usize::from(cells[i])
 }
 
 // Cell i becomes x.
@@ -28,9 +22,5 @@ pub fn copy(from: &[u16], to: &mut [u16])
     requires { length to.old ≡ length from.now }
     ensures { to.new ≡ from.now }
 {
-    let mut i = 0;
-    while i < from.len() {
-        to[i] = from[i];
-        i += 1;
-    }
+    to.copy_from_slice(from);
 }

@@ -6,50 +6,31 @@
 // neither falls.
 ghost use Rattle.std.specs.Prelude.{◌≡◌, ◌+◌, ◌-◌, ◌<◌, length};
 ghost use Rattle.graph.specs.Graph.{Blocks};
-ghost use Rattle.adjacency.specs.Arrays.{cut, Divided, Holds};
+ghost use Rattle.adjacency.specs.Arrays.{cut, Holds};
 ghost use Rattle.adjacency.specs.Reverse.{Turned, Turning, TurnedBefore, Matching, AtStarts};
 ghost use Rattle.adjacency.specs.Reverse.{Reversed, Kept, Orderly};
 ghost use Rattle.adjacency.specs.Tally.{Tells};
 
 use super::cells::{get, put};
-
-// In each part the start comes next.
-fn rewind(starts: &[u16], next: &mut [u16])
-    requires { (length starts.now < 4098) × (length next.old + 1 ≡ length starts.now) }
-    ensures { AtStarts starts.now next.new }
-{
-    let n = starts.len() - 1;
-    let mut v = 0;
-    while v < n {
-        let start = get(starts, v);
-        put(next, v, start);
-        v += 1;
-    }
-}
+use super::lists::Lists;
 
 // The neighbour at place p of block u gets u in its part. A no where it is no vertex, or u itself, or its part is
 // full.
-fn turn_place(
-    starts: &[u16],
-    nbrs: &[u16],
-    u: usize,
-    p: usize,
-    reverse: &mut [u16],
-    next: &mut [u16],
-) -> bool
-    requires { (Turning starts.now nbrs.now reverse.old next.old u p) × (Holds starts.now u p) }
-    ensures { Tells (Turning starts.now nbrs.now reverse.new next.new u (p + 1))
-        (Kept (cut starts.now nbrs.now)) result }
+fn turn_place(lists: &Lists, u: usize, p: usize, reverse: &mut [u16], next: &mut [u16]) -> bool
+    requires { let l = lists.now in
+        (Turning l.starts.now l.nbrs.now reverse.old next.old u p) × (Holds l.starts.now u p) }
+    ensures { let l = lists.now in Tells (Turning l.starts.now l.nbrs.now reverse.new next.new u (p + 1))
+        (Kept (cut l.starts.now l.nbrs.now)) result }
 {
-    let v = get(nbrs, p);
-    if starts.len() - 1 <= v {
+    let v = get(lists.nbrs, p);
+    if lists.starts.len() - 1 <= v {
         return false;
     }
     if v == u {
         return false;
     }
     let q = get(next, v);
-    if q == get(starts, v + 1) {
+    if q == get(lists.starts, v + 1) {
         return false;
     }
     put(reverse, q, u);
@@ -58,52 +39,49 @@ fn turn_place(
 }
 
 // The same for all places of block u.
-fn turn_block(starts: &[u16], nbrs: &[u16], u: usize, reverse: &mut [u16], next: &mut [u16]) -> bool
-    requires { (TurnedBefore starts.now nbrs.now reverse.old next.old u) × (u + 1 < length starts.now) }
-    ensures { Tells (TurnedBefore starts.now nbrs.now reverse.new next.new (u + 1))
-        (Kept (cut starts.now nbrs.now)) result }
+fn turn_block(lists: &Lists, u: usize, reverse: &mut [u16], next: &mut [u16]) -> bool
+    requires { let l = lists.now in
+        (TurnedBefore l.starts.now l.nbrs.now reverse.old next.old u) × (u + 1 < length l.starts.now) }
+    ensures { let l = lists.now in Tells (TurnedBefore l.starts.now l.nbrs.now reverse.new next.new (u + 1))
+        (Kept (cut l.starts.now l.nbrs.now)) result }
 {
-    let end = get(starts, u + 1);
-    let mut p = get(starts, u);
-    while p < end {
-        if !turn_place(starts, nbrs, u, p, reverse, next) {
+    let from = get(lists.starts, u);
+    let end = get(lists.starts, u + 1);
+    for p in from..end {
+        if !turn_place(lists, u, p, reverse, next) {
             return false;
         }
-        p += 1;
     }
     true
 }
 
 // The same for all blocks.
-fn turn_all(starts: &[u16], nbrs: &[u16], reverse: &mut [u16], next: &mut [u16]) -> bool
-    requires { (Divided starts.now nbrs.now) × (length reverse.old ≡ length nbrs.now)
-        × (AtStarts starts.now next.old) }
-    ensures { Tells (TurnedBefore starts.now nbrs.now reverse.new next.new
-        (length starts.now - 1))
-        (Kept (cut starts.now nbrs.now)) result }
+fn turn_all(lists: &Lists, reverse: &mut [u16], next: &mut [u16]) -> bool
+    requires { let l = lists.now in
+        (length reverse.old ≡ length l.nbrs.now) × (AtStarts l.starts.now next.old) }
+    ensures { let l = lists.now in Tells
+        (TurnedBefore l.starts.now l.nbrs.now reverse.new next.new (length l.starts.now - 1))
+        (Kept (cut l.starts.now l.nbrs.now)) result }
 {
-    let n = starts.len() - 1;
-    let mut u = 0;
-    while u < n {
-        if !turn_block(starts, nbrs, u, reverse, next) {
+    for u in 0..lists.starts.len() - 1 {
+        if !turn_block(lists, u, reverse, next) {
             return false;
         }
-        u += 1;
     }
     true
 }
 
 // For the vertex at place p of part u its own part is read on by one, and must have u there. The part is not at its
 // end: it has as many places as its vertex has mentions in all parts.
-fn match_place(starts: &[u16], reverse: &[u16], u: usize, p: usize, next: &mut [u16]) -> bool
-    requires { (Turned starts.now reverse.now reverse.now next.old p) × (Holds starts.now u p)
-        × (Reversed starts.now reverse.now) }
-    ensures { Tells (Turned starts.now reverse.now reverse.now next.new (p + 1))
-        (Orderly starts.now reverse.now) result }
+fn match_place(parts: &Lists, u: usize, p: usize, next: &mut [u16]) -> bool
+    requires { let l = parts.now in (Turned l.starts.now l.nbrs.now l.nbrs.now next.old p)
+        × (Holds l.starts.now u p) × (Reversed l.starts.now l.nbrs.now) }
+    ensures { let l = parts.now in Tells (Turned l.starts.now l.nbrs.now l.nbrs.now next.new (p + 1))
+        (Orderly l.starts.now l.nbrs.now) result }
 {
-    let w = get(reverse, p);
+    let w = get(parts.nbrs, p);
     let q = get(next, w);
-    if get(reverse, q) != u {
+    if get(parts.nbrs, q) != u {
         return false;
     }
     put(next, w, q + 1);
@@ -111,52 +89,51 @@ fn match_place(starts: &[u16], reverse: &[u16], u: usize, p: usize, next: &mut [
 }
 
 // The same for all places of part u.
-fn match_block(starts: &[u16], reverse: &[u16], u: usize, next: &mut [u16]) -> bool
-    requires { (Matching starts.now reverse.now next.old u) × (u + 1 < length starts.now)
-        × (Reversed starts.now reverse.now) }
-    ensures { Tells (Matching starts.now reverse.now next.new (u + 1))
-        (Orderly starts.now reverse.now) result }
+fn match_block(parts: &Lists, u: usize, next: &mut [u16]) -> bool
+    requires { let l = parts.now in (Matching l.starts.now l.nbrs.now next.old u)
+        × (u + 1 < length l.starts.now) × (Reversed l.starts.now l.nbrs.now) }
+    ensures { let l = parts.now in Tells (Matching l.starts.now l.nbrs.now next.new (u + 1))
+        (Orderly l.starts.now l.nbrs.now) result }
 {
-    let end = get(starts, u + 1);
-    let mut p = get(starts, u);
-    while p < end {
-        if !match_place(starts, reverse, u, p, next) {
+    let from = get(parts.starts, u);
+    let end = get(parts.starts, u + 1);
+    for p in from..end {
+        if !match_place(parts, u, p, next) {
             return false;
         }
-        p += 1;
     }
     true
 }
 
 // The same for all parts.
-fn match_all(starts: &[u16], reverse: &[u16], next: &mut [u16]) -> bool
-    requires { (Divided starts.now reverse.now) × (AtStarts starts.now next.old)
-        × (Reversed starts.now reverse.now) }
-    ensures { Tells (Matching starts.now reverse.now next.new
-        (length starts.now - 1))
-        (Orderly starts.now reverse.now) result }
+fn match_all(parts: &Lists, next: &mut [u16]) -> bool
+    requires { let l = parts.now in (AtStarts l.starts.now next.old) × (Reversed l.starts.now l.nbrs.now) }
+    ensures { let l = parts.now in Tells (Matching l.starts.now l.nbrs.now next.new (length l.starts.now - 1))
+        (Orderly l.starts.now l.nbrs.now) result }
 {
-    let n = starts.len() - 1;
-    let mut u = 0;
-    while u < n {
-        if !match_block(starts, reverse, u, next) {
+    for u in 0..parts.starts.len() - 1 {
+        if !match_block(parts, u, next) {
             return false;
         }
-        u += 1;
     }
     true
 }
 
 // Both passes, with room for the second row and for the places that come next.
-pub fn all_mutual(starts: &[u16], nbrs: &[u16], reverse: &mut [u16], next: &mut [u16]) -> bool
-    requires divided { Divided starts.now nbrs.now }
-    requires reverse_len { (length reverse.old ≡ length nbrs.now) × (length next.old + 1 ≡ length starts.now) }
-    ensures { let g : Blocks = cut starts.now nbrs.now in Tells (Kept g) (Kept g) result }
+pub fn all_mutual(lists: &Lists, reverse: &mut [u16], next: &mut [u16]) -> bool
+    requires reverse_len { (length reverse.old ≡ length lists.now.nbrs.now)
+        × (length next.old + 1 ≡ length lists.now.starts.now) }
+    ensures { let g : Blocks = cut lists.now.starts.now lists.now.nbrs.now in Tells (Kept g) (Kept g) result }
 {
-    rewind(starts, next);
-    if !turn_all(starts, nbrs, reverse, next) {
+    let begins = &lists.starts[..lists.starts.len() - 1];
+    next.copy_from_slice(begins);
+    if !turn_all(lists, reverse, next) {
         return false;
     }
-    rewind(starts, next);
-    match_all(starts, reverse, next)
+    next.copy_from_slice(begins);
+    let parts = Lists {
+        starts: lists.starts,
+        nbrs: reverse,
+    };
+    match_all(&parts, next)
 }

@@ -6,6 +6,7 @@ ghost use Rattle.record.specs.Answers.{verdict};
 ghost use Rattle.record.specs.Operations.{check_graph};
 
 use super::{Refusal, Verdict};
+use adjacency::lists::Lists;
 use adjacency::reverse::all_mutual;
 use adjacency::strays::some_stray;
 
@@ -16,10 +17,11 @@ pub fn try_rules(starts: &[u16], nbrs: &[u16], reverse: &mut [u16], next: &mut [
     requires reverse_len { (length reverse.old ≡ length nbrs.now) × (length next.old + 1 ≡ length starts.now) }
     ensures { let g : Blocks = cut starts.now nbrs.now in verdict result ≡ check_graph g }
 {
-    if all_mutual(starts, nbrs, reverse, next) {
+    let lists = Lists { starts, nbrs };
+    if all_mutual(&lists, reverse, next) {
         return Verdict::Accepted;
     }
-    if some_stray(starts, nbrs) {
+    if some_stray(&lists) {
         return Verdict::Refused(Refusal::StrayNeighbour);
     }
     Verdict::Refused(Refusal::OneSidedWire)

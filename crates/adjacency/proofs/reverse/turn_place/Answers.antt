@@ -10,13 +10,13 @@ pub get-v-requires : goal.get-v-requires
 get-v-requires c =
     turned_place c.requires.0.turned c.requires.1
 
-pub returns-then-starts-v : goal.returns-then-starts-v
-returns-then-starts-v c =
-    nay (λ k. no_vertex c.requires.0.turned.divided c.requires.1 c.get-v.ensures.0 k c.if-starts-v.true)
+pub returns-then-lists-v : goal.returns-then-lists-v
+returns-then-lists-v c =
+    nay (λ k. no_vertex c.args.lists.now.divided c.requires.1 c.get-v.ensures.0 k c.if-lists-v.true)
 
 pub returns-then-v-u : goal.returns-then-v-u
 returns-then-v-u c =
-    nay (λ k. no_own c.requires.0.turned.divided c.requires.1 c.get-v.ensures.0 k c.if-v-u.true)
+    nay (λ k. no_own c.args.lists.now.divided c.requires.1 c.get-v.ensures.0 k c.if-v-u.true)
 
 pub returns-then-q-get : goal.returns-then-q-get
 returns-then-q-get c =
@@ -26,7 +26,7 @@ returns-then-q-get c =
 pub put-requires : goal.put-requires
 put-requires c =
     let k = c.requires.1.inside in
-    let l = c.requires.0.turned.divided.few_blocks in
+    let l = c.args.lists.now.divided.few_blocks in
     let m = next_place c.requires.0.turned c.get-v.result (omega arith) c.get-q.ensures.0
     (λ e. c.if-q-get.false (e ∙ sym c.get.ensures.0)) in
     (m.1, omega arith)
