@@ -1,16 +1,11 @@
 -- Answers: what an operation says, and the documents' number for each named case of the code's answers.
 use Rattle.std.specs.Prelude.{ℕ, zero, suc, eqb, true, false, List, Result, Ok, Err}
-use Rattle.record.specs.Record.{terminals, wires}
 use Rattle.record.specs.Rules.{Rule, first_broken}
-use Rattle.record.specs.declared.Sizes.{Sizes}
-use Rattle.record.specs.declared.Shape.{Shape}
 use Rattle.record.specs.declared.Refusal.{Refusal}
 use Rattle.record.specs.declared.Refusal.TheVariants.{TooShort, OverLimit, WrongLength, BadUnary, SpareSet}
 use Rattle.record.specs.declared.Refusal.TheVariants.{StrayNeighbour, DoubledNeighbour, OneSidedWire, ShortWork}
 use Rattle.record.specs.declared.Refusal.TheVariants.{WrongBuffer, NoTerminal, BadIndex, NoChild, NoStart}
 use Rattle.record.specs.declared.Refusal.TheVariants.{BadList, BadLists, WrongRecordBuffer}
-use Rattle.record.specs.declared.Verdict.{Verdict}
-use Rattle.record.specs.declared.Counted.{Counted}
 
 -- a refusal with its number and no value, or a value
 pub data Answer (A : Type 0) : Type 0 where
@@ -68,19 +63,9 @@ answer value (Ok a) = answered (value a)
 answer value (Err r) = refused (number r)
 
 -- an answer that only reports that nothing is refused
-abbrev pub verdict : Verdict → Answer (Unit {0})
-verdict Verdict.Accepted = answered tt
-verdict (Verdict.Refused r) = refused (number r)
+abbrev pub verdict : Result (Unit {0}) Refusal → Answer (Unit {0})
+verdict r = answer (λ u. u) r
 
 -- a count
-abbrev pub counted : Counted → Answer ℕ
-counted (Counted.Count k) = answered k
-counted (Counted.Refused r) = refused (number r)
-
--- the sizes of a record that passed the rules that were tried
-abbrev pub shape : Shape → Answer Sizes
-shape (Shape.Passed s) = answered s
-shape (Shape.Refused r) = refused (number r)
-
-abbrev pub sizes_of : List ℕ → Sizes
-sizes_of bytes = record { n = terminals bytes; m = wires bytes }
+abbrev pub counted : Result ℕ Refusal → Answer ℕ
+counted r = answer (λ k. k) r

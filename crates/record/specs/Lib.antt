@@ -3,6 +3,7 @@ pub mod Record
 pub mod Starts
 pub mod Rules
 pub mod Answers
+pub mod Sized
 pub mod Operations
 pub mod Filing
 pub mod Laws

@@ -2,38 +2,35 @@
 ghost use Rattle.std.specs.Prelude.{◌≡◌, ◌+◌, ◌*◌, length};
 ghost use Rattle.record.specs.Answers.{verdict};
 ghost use Rattle.record.specs.Operations.{check as check_of};
-ghost use Rattle.record.specs.Steps.{Sound, Laid, ArraysOf, Lent};
+ghost use Rattle.record.specs.Steps.{ArraysOf, Lent};
 
-use super::Verdict;
+use super::Refusal;
 use super::fields::read_fields;
-use super::layout::Layout;
+use super::layout::{LaidOut, Layout};
 use super::rules::try_rules;
 use super::starts::fill_starts;
 
 // The two arrays are filled.
-fn fill_arrays(bytes: &[u8], n: usize, m: usize, starts: &mut [u16], nbrs: &mut [u16])
-    requires { (Sound bytes.now n m) × (length starts.old ≡ n + 1) × (length nbrs.old ≡ 2 * m) }
-    ensures { ArraysOf bytes.now starts.new nbrs.new n m }
+fn fill_arrays(l: &Layout, starts: &mut [u16], nbrs: &mut [u16])
+    requires { (length starts.old ≡ l.now.n + 1) × (length nbrs.old ≡ 2 * l.now.m) }
+    ensures { ArraysOf l.now.bytes.now starts.new nbrs.new l.now.n l.now.m }
 {
-    fill_starts(&Layout { bytes, n, m }, starts);
-    read_fields(bytes, 28 + (n + 2 * m), nbrs);
+    fill_starts(l, starts);
+    read_fields(l.bytes, 28 + (l.n + 2 * l.m), nbrs);
 }
 
 // Check, once order R and rule 5 let the record pass, with its arrays handed on.
 pub fn check_arrays(
-    bytes: &[u8],
-    n: usize,
-    m: usize,
+    laid: &LaidOut,
     starts: &mut [u16],
     nbrs: &mut [u16],
     reverse: &mut [u16],
     next: &mut [u16],
-) -> Verdict
-    requires laid { Laid bytes.now n m }
-    requires lent { Lent n m starts.old nbrs.old reverse.old next.old }
-    ensures { (verdict result ≡ check_of bytes.now)
-        × (ArraysOf bytes.now starts.new nbrs.new n m) }
+) -> Result<(), Refusal>
+    requires { Lent laid.now.layout.n laid.now.layout.m starts.old nbrs.old reverse.old next.old }
+    ensures { (verdict result ≡ check_of laid.now.layout.bytes.now)
+        × (ArraysOf laid.now.layout.bytes.now starts.new nbrs.new laid.now.layout.n laid.now.layout.m) }
 {
-    fill_arrays(bytes, n, m, starts, nbrs);
+    fill_arrays(&laid.layout, starts, nbrs);
     try_rules(starts, nbrs, reverse, next)
 }

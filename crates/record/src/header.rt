@@ -1,13 +1,15 @@
 // The header of a record, and order R.
-ghost use Rattle.std.specs.Prelude.{◌≡◌, not, ◌||◌, eqb};
+ghost use Rattle.std.specs.Prelude.{◌≡◌, IfOk, not, ◌||◌, eqb};
 ghost use Rattle.bits.specs.Bits.{count};
 ghost use Rattle.record.specs.Record.{terminals, unary};
 ghost use Rattle.record.specs.Rules.{order_r as order_r_of, begins_with_zero, spare_set as spare_set_of, layout_rules};
-ghost use Rattle.record.specs.Answers.{tried, shape, sizes_of};
-ghost use Rattle.record.specs.Steps.{Headed, Sound};
+ghost use Rattle.record.specs.Answers.{tried};
+ghost use Rattle.record.specs.Sized.{shape, laid_shape, sizes_of};
+ghost use Rattle.record.specs.Steps.{Headed};
 
+use super::Refusal;
+use super::layout::{LaidOut, Layout};
 use super::lengths::record_length;
-use super::{Refusal, Shape, Sizes};
 
 // Rule 4: D hasn't exactly n ones, or begins with a zero.
 fn bad_unary(bytes: &[u8], n: usize, m: usize) -> bool
@@ -29,53 +31,48 @@ fn bad_unary(bytes: &[u8], n: usize, m: usize) -> bool
     true
 }
 
-// Order R, with n and m handed on.
-pub fn order_r(bytes: &[u8]) -> Shape
-    ensures { shape result ≡ tried (order_r_of bytes.now) (sizes_of bytes.now) }
+// Order R, with the record's layout handed on.
+pub fn order_r(bytes: &[u8]) -> Result<Layout<'_>, Refusal>
+    ensures sizes { shape result ≡ tried (order_r_of bytes.now) (sizes_of bytes.now) }
+    ensures same { IfOk result (λ l. l.bytes.now ≡ bytes.now) }
 {
     if bytes.len() < 4 {
-        return Shape::Refused(Refusal::TooShort);
+        return Err(Refusal::TooShort);
     }
     let n = bits::fields::read::<13>(bytes, 0);
     let m = bits::fields::read::<15>(bytes, 13);
     if 4096 < n {
-        return Shape::Refused(Refusal::OverLimit);
+        return Err(Refusal::OverLimit);
     }
     if 16384 < m {
-        return Shape::Refused(Refusal::OverLimit);
+        return Err(Refusal::OverLimit);
     }
     if bytes.len() != record_length(n, m) {
-        return Shape::Refused(Refusal::WrongLength);
+        return Err(Refusal::WrongLength);
     }
     if bad_unary(bytes, n, m) {
-        return Shape::Refused(Refusal::BadUnary);
+        return Err(Refusal::BadUnary);
     }
-    Shape::Passed(Sizes { n, m })
+    Ok(Layout { bytes, n, m })
 }
 
 // Rule 5: a spare bit is set.
-fn spare_set(bytes: &[u8], n: usize, m: usize) -> bool
-    requires { Sound bytes.now n m }
-    ensures { result ≡ spare_set_of bytes.now }
+fn spare_set(l: &Layout) -> bool
+    ensures { result ≡ spare_set_of l.now.bytes.now }
 {
-    let used = 28 + (n + 2 * m) + 12 * (2 * m);
-    let spare = 8 * bytes.len() - used;
-    bits::rank(bytes, used, spare, spare) != 0
+    let used = 28 + (l.n + 2 * l.m) + 12 * (2 * l.m);
+    let spare = 8 * l.bytes.len() - used;
+    bits::rank(l.bytes, used, spare, spare) != 0
 }
 
-// Order R and rule 5, with n and m handed on.
-pub fn laid_out(bytes: &[u8]) -> Shape
-    ensures { shape result ≡ tried (layout_rules bytes.now) (sizes_of bytes.now) }
+// Order R and rule 5, with the record's layout handed on.
+pub fn laid_out(bytes: &[u8]) -> Result<LaidOut<'_>, Refusal>
+    ensures sizes { laid_shape result ≡ tried (layout_rules bytes.now) (sizes_of bytes.now) }
+    ensures same { IfOk result (λ l. l.layout.bytes.now ≡ bytes.now) }
 {
-    match order_r(bytes) {
-        Shape::Refused(r) => Shape::Refused(r),
-        Shape::Passed(s) => {
-            let n = s.n;
-            let m = s.m;
-            if spare_set(bytes, n, m) {
-                return Shape::Refused(Refusal::SpareSet);
-            }
-            Shape::Passed(Sizes { n, m })
-        }
+    let layout = order_r(bytes)?;
+    if spare_set(&layout) {
+        return Err(Refusal::SpareSet);
     }
+    Ok(LaidOut { layout })
 }

@@ -3,9 +3,10 @@
 // have one.
 #![tactic(auto)]
 
-ghost use Rattle.std.specs.Prelude.{◌≡◌};
+ghost use Rattle.std.specs.Prelude.{◌≡◌, IfOk};
 ghost use Rattle.record.specs.Rules.{check_rules};
-ghost use Rattle.record.specs.Answers.{number, verdict, counted, shape, tried, sizes_of};
+ghost use Rattle.record.specs.Answers.{number, verdict, counted, tried};
+ghost use Rattle.record.specs.Sized.{shape, sizes_of};
 ghost use Rattle.record.specs.Operations.{check as check_of, degree as degree_of, unpack as unpack_of, unpacked};
 ghost use Rattle.record.specs.Operations.{neighbours as neighbours_of, neighbours_before, PartOf, further};
 ghost use Rattle.record.specs.Filing.{file as file_of, filed};
@@ -25,44 +26,33 @@ mod list_rooms; // list_rooms.rt: rules 6 and 8 of two lists in room for their s
 pub mod clear; // clear.rt: bytes of zero
 mod writing; // writing.rt: a record written from two lists
 
+use layout::Layout;
+
 // A terminal number, from 1: document 01's vertex label.
 #[derive(Clone, Copy)]
 pub struct Vertex(pub usize);
 
-// Why a call refuses. The documents number these cases from 1 in this order. No operation gives 7, `DoubledNeighbour`:
-// a neighbour may stand several times in a block.
-#[derive(Clone, Copy)]
+// Why a call refuses, by the documents' numbers. No operation gives 7, `DoubledNeighbour`: a neighbour may stand several
+// times in a block.
+#[derive(Clone, Copy, Debug, PartialEq, Eq)]
 pub enum Refusal {
-    TooShort,
-    OverLimit,
-    WrongLength,
-    BadUnary,
-    SpareSet,
-    StrayNeighbour,
-    DoubledNeighbour,
-    OneSidedWire,
-    ShortWork,
-    WrongBuffer,
-    NoTerminal,
-    BadIndex,
-    NoChild,
-    NoStart,
-    BadList,
-    BadLists,
-    WrongRecordBuffer,
-}
-
-// Nothing is refused, or why.
-#[derive(Clone, Copy)]
-pub enum Verdict {
-    Accepted,
-    Refused(Refusal),
-}
-
-#[derive(Clone, Copy)]
-pub enum Counted {
-    Count(usize),
-    Refused(Refusal),
+    TooShort = 1,
+    OverLimit = 2,
+    WrongLength = 3,
+    BadUnary = 4,
+    SpareSet = 5,
+    StrayNeighbour = 6,
+    DoubledNeighbour = 7,
+    OneSidedWire = 8,
+    ShortWork = 9,
+    WrongBuffer = 10,
+    NoTerminal = 11,
+    BadIndex = 12,
+    NoChild = 13,
+    NoStart = 14,
+    BadList = 15,
+    BadLists = 16,
+    WrongRecordBuffer = 17,
 }
 
 // A part of a list: how many numbers come before it, and how many it has.
@@ -72,102 +62,50 @@ pub struct Part {
     pub size: usize,
 }
 
-// The numbers of terminals and of wires.
-#[derive(Clone, Copy)]
-pub struct Sizes {
-    pub n: usize,
-    pub m: usize,
-}
-
-// The sizes of a record that passed the rules that were tried, or why it did not.
-#[derive(Clone, Copy)]
-pub enum Shape {
-    Passed(Sizes),
-    Refused(Refusal),
-}
-
 // The documents' number of a refusal.
 pub fn number_of(r: Refusal) -> usize
     ensures { result ≡ number r }
 {
-    match r {
-        Refusal::TooShort => 1,
-        Refusal::OverLimit => 2,
-        Refusal::WrongLength => 3,
-        Refusal::BadUnary => 4,
-        Refusal::SpareSet => 5,
-        Refusal::StrayNeighbour => 6,
-        Refusal::DoubledNeighbour => 7,
-        Refusal::OneSidedWire => 8,
-        Refusal::ShortWork => 9,
-        Refusal::WrongBuffer => 10,
-        Refusal::NoTerminal => 11,
-        Refusal::BadIndex => 12,
-        Refusal::NoChild => 13,
-        Refusal::NoStart => 14,
-        Refusal::BadList => 15,
-        Refusal::BadLists => 16,
-        Refusal::WrongRecordBuffer => 17,
-    }
+    r as usize
 }
 
-// Check, with the sizes of an accepted record handed on. A list of 2·m numbers gets its neighbours, from 1.
-pub fn accept(bytes: &[u8], list: &mut [u16]) -> Shape
-    ensures { (shape result ≡ tried (check_rules bytes.now) (sizes_of bytes.now))
+// Check, with the layout of an accepted record handed on. A list of 2·m numbers gets its neighbours, from 1.
+pub fn accept<'a>(bytes: &'a [u8], list: &mut [u16]) -> Result<Layout<'a>, Refusal>
+    ensures told { (shape result ≡ tried (check_rules bytes.now) (sizes_of bytes.now))
         × (list.new ≡ unpacked bytes.now list.old) }
+    ensures same { IfOk result (λ l. l.bytes.now ≡ bytes.now) }
 {
-    match header::laid_out(bytes) {
-        Shape::Refused(r) => Shape::Refused(r),
-        Shape::Passed(s) => {
-            let n = s.n;
-            let m = s.m;
-            match rooms::in_room(bytes, n, m, list, 0) {
-                Verdict::Refused(r) => Shape::Refused(r),
-                Verdict::Accepted => Shape::Passed(Sizes { n, m }),
-            }
-        }
-    }
+    let laid = header::laid_out(bytes)?;
+    rooms::in_room(&laid, list, 0)?;
+    Ok(laid.layout)
 }
 
 // Check: whether the record is accepted.
-pub fn check(bytes: &[u8]) -> Verdict
+pub fn check(bytes: &[u8]) -> Result<(), Refusal>
     ensures { verdict result ≡ check_of bytes.now }
 {
-    let mut none = [0u16; 0];
-    match accept(bytes, &mut none) {
-        Shape::Refused(r) => Verdict::Refused(r),
-        Shape::Passed(_) => Verdict::Accepted,
-    }
+    accept(bytes, &mut [])?;
+    Ok(())
 }
 
 // Unpack: writes the neighbour numbers, from 1, to a list of 2·m numbers. A refused call leaves the list as it was.
-pub fn unpack(bytes: &[u8], list: &mut [u16]) -> Verdict
+pub fn unpack(bytes: &[u8], list: &mut [u16]) -> Result<(), Refusal>
     ensures { (verdict result ≡ unpack_of bytes.now list.old)
         × (list.new ≡ unpacked bytes.now list.old) }
 {
-    match accept(bytes, list) {
-        Shape::Refused(r) => Verdict::Refused(r),
-        Shape::Passed(s) => {
-            if list.len() != 2 * s.m {
-                return Verdict::Refused(Refusal::WrongBuffer);
-            }
-            Verdict::Accepted
-        }
+    let layout = accept(bytes, list)?;
+    if list.len() != 2 * layout.m {
+        return Err(Refusal::WrongBuffer);
     }
+    Ok(())
 }
 
 // Degree: how many wires terminal v has.
-pub fn degree(bytes: &[u8], v: Vertex) -> Counted
+pub fn degree(bytes: &[u8], v: Vertex) -> Result<usize, Refusal>
     ensures { counted result ≡ degree_of bytes.now v.0 }
 {
-    match header::order_r(bytes) {
-        Shape::Refused(r) => Counted::Refused(r),
-        Shape::Passed(s) => {
-            let n = s.n;
-            let m = s.m;
-            blocks::degree_in(bytes, n, m, v)
-        }
-    }
+    let layout = header::order_r(bytes)?;
+    blocks::degree_in(&layout, v)
 }
 
 // Where terminal v's part of an unpacked list of len numbers stands; nothing, at the front, where Neighbours refuses.
@@ -175,12 +113,8 @@ pub fn part_of(bytes: &[u8], len: usize, v: Vertex) -> Part
     ensures { PartOf bytes.now len v.0 result.from result.size }
 {
     match header::order_r(bytes) {
-        Shape::Refused(_) => Part { from: 0, size: 0 },
-        Shape::Passed(s) => {
-            let n = s.n;
-            let m = s.m;
-            blocks::part_in(bytes, n, m, len, v)
-        }
+        Err(_) => Part { from: 0, size: 0 },
+        Ok(layout) => blocks::part_in(&layout, len, v),
     }
 }
 
@@ -198,21 +132,17 @@ pub fn neighbours<'a, 'b>(bytes: &'a [u8], list: &'b [u16], v: Vertex) -> &'b [u
 
 // File: writes the record that a list of degrees and one list of neighbours, numbers from 1, give. A refused call
 // leaves the buffer as it was.
-pub fn file(degrees: &[u16], neighbours: &[u16], bytes: &mut [u8]) -> Verdict
+pub fn file(degrees: &[u16], neighbours: &[u16], bytes: &mut [u8]) -> Result<(), Refusal>
     ensures { (verdict result ≡ file_of degrees.now neighbours.now bytes.old)
         × (bytes.new ≡ filed degrees.now neighbours.now bytes.old) }
 {
     if lists::bad_lists(degrees, neighbours) {
-        return Verdict::Refused(Refusal::BadLists);
+        return Err(Refusal::BadLists);
     }
-    match list_rooms::in_room(degrees, neighbours, 0) {
-        Verdict::Refused(r) => Verdict::Refused(r),
-        Verdict::Accepted => {
-            if bytes.len() != lengths::record_length(degrees.len(), neighbours.len() / 2) {
-                return Verdict::Refused(Refusal::WrongRecordBuffer);
-            }
-            writing::write_record(degrees, neighbours, bytes);
-            Verdict::Accepted
-        }
+    list_rooms::in_room(degrees, neighbours, 0)?;
+    if bytes.len() != lengths::record_length(degrees.len(), neighbours.len() / 2) {
+        return Err(Refusal::WrongRecordBuffer);
     }
+    writing::write_record(degrees, neighbours, bytes);
+    Ok(())
 }

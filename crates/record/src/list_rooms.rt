@@ -4,7 +4,7 @@ ghost use Rattle.record.specs.Answers.{verdict};
 ghost use Rattle.record.specs.Operations.{check_graph};
 ghost use Rattle.record.specs.Steps.{Listed, graph_from, Roomy};
 
-use super::Verdict;
+use super::Refusal;
 use super::lists::try_lists;
 
 // In the front parts of arrays with room to spare.
@@ -15,7 +15,7 @@ fn try_in(
     nbrs: &mut [u16],
     reverse: &mut [u16],
     next: &mut [u16],
-) -> Verdict
+) -> Result<(), Refusal>
     requires listed { Listed degrees.now neighbours.now }
     requires roomy { Roomy (length degrees.now) (length neighbours.now / 2) starts.old nbrs.old reverse.old next.old }
     ensures { verdict result ≡ check_graph (graph_from degrees.now neighbours.now) }
@@ -34,7 +34,7 @@ fn try_in(
 }
 
 // Room for 128 terminals and 512 places.
-fn in_small(degrees: &[u16], neighbours: &[u16]) -> Verdict
+fn in_small(degrees: &[u16], neighbours: &[u16]) -> Result<(), Refusal>
     requires { (Listed degrees.now neighbours.now) × (length degrees.now ≤ 128) × (length neighbours.now ≤ 512) }
     ensures { verdict result ≡ check_graph (graph_from degrees.now neighbours.now) }
 {
@@ -53,7 +53,7 @@ fn in_small(degrees: &[u16], neighbours: &[u16]) -> Verdict
 }
 
 // Room for 512 terminals and 2,048 places. Cells to spare keep the rows out of each other's cache sets.
-fn in_middle(degrees: &[u16], neighbours: &[u16]) -> Verdict
+fn in_middle(degrees: &[u16], neighbours: &[u16]) -> Result<(), Refusal>
     requires { (Listed degrees.now neighbours.now) × (length degrees.now ≤ 512) × (length neighbours.now ≤ 2048) }
     ensures { verdict result ≡ check_graph (graph_from degrees.now neighbours.now) }
 {
@@ -72,7 +72,7 @@ fn in_middle(degrees: &[u16], neighbours: &[u16]) -> Verdict
 }
 
 // Room for 8,192 places.
-fn in_large(degrees: &[u16], neighbours: &[u16]) -> Verdict
+fn in_large(degrees: &[u16], neighbours: &[u16]) -> Result<(), Refusal>
     requires { (Listed degrees.now neighbours.now) × (length neighbours.now ≤ 8192) }
     ensures { verdict result ≡ check_graph (graph_from degrees.now neighbours.now) }
 {
@@ -91,7 +91,7 @@ fn in_large(degrees: &[u16], neighbours: &[u16]) -> Verdict
 }
 
 // Room for all lists that rule 16 lets pass.
-fn in_full(degrees: &[u16], neighbours: &[u16]) -> Verdict
+fn in_full(degrees: &[u16], neighbours: &[u16]) -> Result<(), Refusal>
     requires { Listed degrees.now neighbours.now }
     ensures { verdict result ≡ check_graph (graph_from degrees.now neighbours.now) }
 {
@@ -111,7 +111,7 @@ fn in_full(degrees: &[u16], neighbours: &[u16]) -> Verdict
 
 // The room for the lists' size, tried from room k on. The function calls itself, so that the rooms are not laid out in
 // its own frame.
-pub fn in_room(degrees: &[u16], neighbours: &[u16], k: usize) -> Verdict
+pub fn in_room(degrees: &[u16], neighbours: &[u16], k: usize) -> Result<(), Refusal>
     requires { Listed degrees.now neighbours.now }
     ensures { verdict result ≡ check_graph (graph_from degrees.now neighbours.now) }
 {

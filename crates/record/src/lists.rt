@@ -7,7 +7,7 @@ ghost use Rattle.record.specs.Operations.{check_graph};
 ghost use Rattle.record.specs.Filing.{bad_lists as bad_lists_of};
 ghost use Rattle.record.specs.Steps.{Listed, vertex_of as the_vertex_of, graph_from, Lent};
 
-use super::Verdict;
+use super::Refusal;
 use super::rules::try_rules;
 use adjacency::cells::{get, put};
 
@@ -88,7 +88,7 @@ pub fn try_lists(
     nbrs: &mut [u16],
     reverse: &mut [u16],
     next: &mut [u16],
-) -> Verdict
+) -> Result<(), Refusal>
     requires listed { Listed degrees.now neighbours.now }
     requires lent { Lent (length degrees.now) (length neighbours.now / 2) starts.old nbrs.old reverse.old next.old }
     ensures { verdict result ≡ check_graph (graph_from degrees.now neighbours.now) }

@@ -23,7 +23,8 @@ use Rattle.graph.specs.Laws.Places.Basics.{Told, pass, fail, told, and_parts}
 use Rattle.record.specs.Record.{terminals, wires, unary, blocks}
 use Rattle.record.specs.Rules.{first_broken, order_r}
 use Rattle.record.specs.Starts.{starts_of}
-use Rattle.record.specs.Answers.{refused, answered, tried, sizes_of}
+use Rattle.record.specs.Answers.{refused, answered, tried}
+use Rattle.record.specs.Sized.{sizes_of}
 use Rattle.record.specs.Operations.{other_length, out_of_range, degree_rules, degree, neighbours_given, neighbours}
 use Rattle.record.specs.Operations.{neighbours_before, PartOf}
 use Rattle.record.specs.Steps.{Sound}

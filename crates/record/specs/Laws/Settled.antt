@@ -4,15 +4,14 @@
 --   named            the refusal of a number
 --   number_bounds    the numbers that refusals have
 --   settled          what has a way back is settled
---   verdict_settles, counted_settles, shape_settles    the enums of this crate
-use Rattle.std.specs.Prelude.{◌≡◌, refl, List, [], ◌∷◌, ℕ, ◌-◌, ◌≤◌, get_or}
+--   result_of, answer_settles    a call's result, by its answer
+--   verdict_settles, counted_settles, shape_settles    the results of this crate
+use Rattle.std.specs.Prelude.{◌≡◌, refl, List, [], ◌∷◌, ℕ, ◌-◌, ◌≤◌, get_or, Result, Ok, Err}
 use Rattle.std.proofs.Common.{sym, ap, ◌∙◌, arith}
-use Rattle.record.specs.Answers.{Answer, refused, answered, number, verdict, counted, shape}
-use Rattle.record.specs.declared.Sizes.{Sizes}
+use Rattle.record.specs.Answers.{Answer, refused, answered, number, answer, verdict, counted}
+use Rattle.record.specs.Sized.{Sizes, sizes, shape}
 use Rattle.record.specs.declared.Refusal.{Refusal}
-use Rattle.record.specs.declared.Verdict.{Verdict}
-use Rattle.record.specs.declared.Counted.{Counted}
-use Rattle.record.specs.declared.Shape.{Shape}
+use Rattle.record.specs.declared.layout.Layout.{Layout}
 
 -- ---- refusals
 
@@ -81,44 +80,38 @@ number_bounds Refusal.BadList = (omega arith, omega arith)
 number_bounds Refusal.BadLists = (omega arith, omega arith)
 number_bounds Refusal.WrongRecordBuffer = (omega arith, omega arith)
 
--- ---- enums
+-- ---- answers
 
 pub settled : {A B : Type 0} (said : A → B) (back : B → A) → ((a : A) → back (said a) ≡ a) → (a : A) {b : B}
     → said a ≡ b → a ≡ back b
 settled said back h a e = sym (h a) ∙ ap back e
 
-pub verdict_of : Answer (Unit {0}) → Verdict
-verdict_of (answered a) = Verdict.Accepted
-verdict_of (refused k) = Verdict.Refused (named k)
+-- what a call says by an answer, where the value has a way back
+pub result_of : {A B : Type 0} → (B → A) → Answer B → Result A Refusal
+result_of back (answered b) = Ok (back b)
+result_of back (refused k) = Err (named k)
 
-pub verdict_settles : (r : Verdict) {a : Answer (Unit {0})} → verdict r ≡ a → r ≡ verdict_of a
-unfolding verdict_of
-verdict_settles = settled verdict verdict_of back
+pub answer_settles : {A B : Type 0} (value : A → B) (back : B → A) → ((a : A) → back (value a) ≡ a)
+    → (r : Result A Refusal) {b : Answer B} → answer value r ≡ b → r ≡ result_of back b
+unfolding result_of
+answer_settles {A} {B} value back h = settled (answer value) (result_of back) again
   where
-    back : (r : Verdict) → verdict_of (verdict r) ≡ r
-    back Verdict.Accepted = refl
-    back (Verdict.Refused r) = ap Verdict.Refused (named_number r)
+    again : (r : Result A Refusal) → result_of back (answer value r) ≡ r
+    again (Ok a) = ap Ok (h a)
+    again (Err r) = ap Err (named_number r)
 
-pub counted_of : Answer ℕ → Counted
-counted_of (answered k) = Counted.Count k
-counted_of (refused k) = Counted.Refused (named k)
+pub verdict_settles : (r : Result (Unit {0}) Refusal) {a : Answer (Unit {0})} → verdict r ≡ a → r ≡ result_of (λ u. u) a
+verdict_settles = answer_settles (λ u. u) (λ u. u) (λ u. refl)
 
-pub counted_settles : (r : Counted) {a : Answer ℕ} → counted r ≡ a → r ≡ counted_of a
-unfolding counted_of
-counted_settles = settled counted counted_of back
-  where
-    back : (r : Counted) → counted_of (counted r) ≡ r
-    back (Counted.Count k) = refl
-    back (Counted.Refused r) = ap Counted.Refused (named_number r)
+pub counted_settles : (r : Result ℕ Refusal) {a : Answer ℕ} → counted r ≡ a → r ≡ result_of (λ k. k) a
+counted_settles = answer_settles (λ k. k) (λ k. k) (λ k. refl)
 
-pub shape_of : Answer Sizes → Shape
-shape_of (answered s) = Shape.Passed s
-shape_of (refused k) = Shape.Refused (named k)
+-- the sizes of a layout, or why there is none
+pub sized : Result Layout Refusal → Result Sizes Refusal
+sized (Ok l) = Ok (sizes l)
+sized (Err r) = Err r
 
-pub shape_settles : (r : Shape) {a : Answer Sizes} → shape r ≡ a → r ≡ shape_of a
-unfolding shape_of
-shape_settles = settled shape shape_of back
-  where
-    back : (r : Shape) → shape_of (shape r) ≡ r
-    back (Shape.Passed s) = refl
-    back (Shape.Refused r) = ap Shape.Refused (named_number r)
+pub shape_settles : (r : Result Layout Refusal) {a : Answer Sizes} → shape r ≡ a → sized r ≡ result_of (λ s. s) a
+unfolding sized
+shape_settles (Ok l) e = answer_settles (λ s. s) (λ s. s) (λ s. refl) (Ok (sizes l)) e
+shape_settles (Err r) e = answer_settles (λ s. s) (λ s. s) (λ s. refl) (Err r) e

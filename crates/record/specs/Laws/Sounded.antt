@@ -29,10 +29,11 @@ use Rattle.bits.specs.Laws.Fields.{field_part}
 use Rattle.record.specs.Record.{terminals, wires, used_bits, record_length, unary, fields, blocks}
 use Rattle.record.specs.Starts.{starts_of}
 use Rattle.record.specs.Rules.{first_broken, order_r, spare_set, layout_rules, check_rules}
-use Rattle.record.specs.Answers.{answered, tried, sizes_of}
+use Rattle.record.specs.Answers.{answered, tried}
+use Rattle.record.specs.Sized.{sizes_of}
 use Rattle.record.specs.Operations.{Accepted, check}
 use Rattle.record.specs.Steps.{Sound, Laid}
-use Rattle.record.specs.declared.Sizes.{Sizes}
+use Rattle.record.specs.Sized.{Sizes}
 use Rattle.record.specs.Laws.First.{Shaped, shaped, both_kept, rule_kept, order_numbered, layout_numbered}
 use Rattle.record.specs.Laws.Parts.{start_select, start_next}
 use Rattle.record.specs.Laws.Told.{untold_back}

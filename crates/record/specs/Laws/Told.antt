@@ -1,13 +1,18 @@
--- How an answer tells the first broken rule, or that none is broken; and the result buffer then.
+-- How an answer tells the first broken rule, or that none is broken, and what it tells at the exit of a `?`; and the
+-- result buffer then.
 use Rattle.std.proofs.Math.Path.{◌≡◌, refl}
 use Rattle.std.proofs.Common.{sym, ap, ◌∙◌, arith}
-use Rattle.std.specs.Prelude.{List, ◌++◌}
+use Rattle.std.specs.Prelude.{List, ◌++◌, Result}
+use Rattle.std.specs.Result.{IsErrAnd}
+use Rattle.std.proofs.lemmas.Result.{err_from_is_err_and}
 use Prim.Native.Nat.{ℕ, zero, suc, ◌≤◌}
 use borrow.Author.Tests.{eq-eqb, ne_eqb}
 use Rattle.std.proofs.Math.Dec.{eqb}
 use Rattle.std.proofs.Math.Bool.{true, false}
 use Rattle.record.specs.Rules.{Rule, first_broken}
+use Rattle.record.specs.declared.Refusal.{Refusal}
 use Rattle.record.specs.Answers.{Answer, refused, answered, outcome, tried, otherwise, tried_then, buffer_after}
+use Rattle.record.specs.Answers.{number, answer}
 use Rattle.record.specs.Laws.First.{Numbered, append_kept, append_broken}
 
 module _ {A : Type 0} where
@@ -51,6 +56,11 @@ module _ {A B : Type 0} (rules : List Rule) (a : A) (b : B) where
 
   pub untold_same : {x : A} → answered x ≡ tried rules a → answered b ≡ tried rules b
   untold_same e = untold b (untold_back (first_broken rules) a e).0
+
+-- the exit of a `?` tells the refusal that it met
+pub exit_told : {A B : Type 0} (value : A → B) (r : Result A Refusal) (e : Refusal) → IsErrAnd r (λ d. d ≡ e)
+    → answer value r ≡ refused (number e)
+exit_told value r e h = let (d, is, same) = err_from_is_err_and r h in rw (is, same)
 
 -- ---- rules, and then a further answer
 

@@ -13,8 +13,9 @@ use Rattle.bits.specs.Laws.Bytes.{length_bits}
 use Rattle.bits.specs.Laws.Rank.{held, length_string, rank_past}
 use Rattle.record.specs.Record.{terminals, wires, used_bits, record_length, unary}
 use Rattle.record.specs.Rules.{first_broken, order_r, begins_with_zero, spare_set, layout_rules}
-use Rattle.record.specs.Answers.{refused, answered, tried, sizes_of}
-use Rattle.record.specs.declared.Sizes.{Sizes}
+use Rattle.record.specs.Answers.{refused, answered, tried}
+use Rattle.record.specs.Sized.{sizes_of}
+use Rattle.record.specs.Sized.{Sizes}
 use Rattle.record.specs.Steps.{Headed}
 use Rattle.record.specs.Laws.First.{first_broken_lem, first_kept, append_kept, order_numbered}
 use Rattle.record.specs.Laws.Told.{told, untold, untold_back, told_append}

@@ -8,10 +8,11 @@ use borrow.Author.Tests.{eq-eqb, ne_eqb}
 use lib.ListN.{length, get_or}
 use Rattle.record.specs.Record.{wires, fields}
 use Rattle.record.specs.Rules.{first_broken, layout_rules, check_rules}
-use Rattle.record.specs.Answers.{Answer, refused, answered, tried, sizes_of}
+use Rattle.record.specs.Answers.{Answer, refused, answered, tried}
+use Rattle.record.specs.Sized.{sizes_of}
 use Rattle.record.specs.Operations.{other_length, check, unpack_rules, unpack, unpacked}
 use Rattle.record.specs.Steps.{Laid, ArraysOf, Short, Handed}
-use Rattle.record.specs.declared.Sizes.{Sizes}
+use Rattle.record.specs.Sized.{Sizes}
 use Rattle.record.specs.Laws.First.{first_broken_lem, first_kept, append_kept, append_broken, check_numbered}
 use Rattle.record.specs.Laws.Told.{told, untold, told_back, untold_back, told_append, told_same, buffer_kept}
 use Rattle.record.specs.Laws.Told.{buffer_written}

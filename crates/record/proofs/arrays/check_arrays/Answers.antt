@@ -5,9 +5,10 @@ use mathlib.Core.List.{List}
 use Prim.Native.Nat.{ℕ, ◌+◌}
 use lib.ListN.{length}
 use Rattle.adjacency.specs.Arrays.{Divided}
-use Rattle.record.specs.Steps.{ArraysOf, Lent}
+use Rattle.record.specs.Steps.{ArraysOf, Laid, Lent}
 use Rattle.record.specs.Laws.Unpacked.{divided_of, starts_of_lem, nbrs_of, check_told}
 use Rattle.record.proofs.arrays.check_arrays.Goals as goal
+use Rattle.record.proofs.arrays.check_arrays.Goals.{Start}
 
 -- the room is as long as the arrays ask
 tried_by : {bytes starts nbrs reverse next starts' nbrs' : List ℕ} {n m : ℕ} → Lent n m starts nbrs reverse next
@@ -22,10 +23,13 @@ tried_by l r =
 
 pub try_rules-requires : goal.try_rules-requires
 try_rules-requires c =
-    let (d, l) = tried_by c.requires.lent c.fill_arrays.ensures in record { divided = d; reverse_len = l }
+    let (d, l) = tried_by c.requires c.fill_arrays.ensures in record { divided = d; reverse_len = l }
+
+laid : (c : Start) → (let l = c.args.laid.now in Laid l.layout.bytes.now l.layout.n l.layout.m)
+laid c = record { sound = c.args.laid.now.layout.sound; clear = c.args.laid.now.clear }
 
 pub returns : goal.returns
 returns c = (
-  check_told c.requires.laid c.fill_arrays.ensures c.try_rules.ensures,
+  check_told (laid (goal.at.returns c).Start) c.fill_arrays.ensures c.try_rules.ensures,
   c.fill_arrays.ensures,
 )

@@ -4,5 +4,5 @@ use Rattle.record.proofs.arrays.fill_arrays.Goals as goal
 
 pub returns : goal.returns
 returns c =
-    arrays_read c.requires.0 c.requires.2 c.fill_starts.ensures
+    arrays_read c.args.l.now.sound c.requires.1 c.fill_starts.ensures
     c.read_fields.ensures

@@ -18,14 +18,14 @@ unfolding degree
 returns-then-out_of_range c =
     let args = c.args in
     let none = sym c.out_of_range.ensures ∙ c.if-out_of_range.true in
-    told (length (block (blocks args.bytes.now) (args.v.0 - 1)))
-    (outside c.requires args.v.0 none)
+    told (length (block (blocks args.l.now.bytes.now) (args.v.0 - 1)))
+    (outside c.args.l.now.sound args.v.0 none)
 
-inside : (c : Else-out_of_range) → out_of_range c.args.n c.args.v.0 ≡ false
+inside : (c : Else-out_of_range) → out_of_range c.args.l.now.n c.args.v.0 ≡ false
 inside c = sym c.out_of_range.ensures ∙ c.if-out_of_range.false
 
-upto : (c : Else-out_of_range) → (0 < c.args.v.0) × (c.args.v.0 ≤ c.args.n)
-upto c = range_inside c.args.n c.args.v.0 (inside c)
+upto : (c : Else-out_of_range) → (0 < c.args.v.0) × (c.args.v.0 ≤ c.args.l.now.n)
+upto c = range_inside c.args.l.now.n c.args.v.0 (inside c)
 
 pub overflow_sub-t : goal.overflow_sub-t
 overflow_sub-t c = let z = (upto (goal.at.overflow_sub-t c).Else-out_of_range).0 in omega arith
@@ -36,9 +36,9 @@ span_of-s-requires c = let (z, u) = upto (goal.at.span_of-s-requires c).Else-out
 pub overflow_sub-result : goal.overflow_sub-result
 overflow_sub-result c =
     let (f, t) = c.span_of-s.ensures in
-    (places_rise c.requires c.args.v.0 (inside (goal.at.overflow_sub-result c).Else-out_of_range) f t).1
+    (places_rise c.args.l.now.sound c.args.v.0 (inside (goal.at.overflow_sub-result c).Else-out_of_range) f t).1
 
 pub returns : goal.returns
 returns c =
     let (f, t) = c.span_of-s.ensures in
-    degree_spanned c.requires c.args.v.0 (inside (goal.at.returns c).Else-out_of_range) f t
+    degree_spanned c.args.l.now.sound c.args.v.0 (inside (goal.at.returns c).Else-out_of_range) f t

@@ -12,19 +12,19 @@ use Rattle.record.proofs.blocks.part_in.Goals.{Else-out_of_range}
 pub returns-then-out_of_range : goal.returns-then-out_of_range
 returns-then-out_of_range c =
     let args = c.args in
-    let pre = c.requires in
+    let pre = c.args.l.now.sound in
     part_outside pre args.v.0 (outside pre args.v.0 (sym c.out_of_range.ensures ∙ c.if-out_of_range.true))
 
-inside : (c : Else-out_of_range) → out_of_range c.args.n c.args.v.0 ≡ false
+inside : (c : Else-out_of_range) → out_of_range c.args.l.now.n c.args.v.0 ≡ false
 inside c = sym c.out_of_range.ensures ∙ c.if-out_of_range.false
 
-upto : (c : Else-out_of_range) → (0 < c.args.v.0) × (c.args.v.0 ≤ c.args.n)
-upto c = range_inside c.args.n c.args.v.0 (inside c)
+upto : (c : Else-out_of_range) → (0 < c.args.v.0) × (c.args.v.0 ≤ c.args.l.now.n)
+upto c = range_inside c.args.l.now.n c.args.v.0 (inside c)
 
-pub returns-then-len-m : goal.returns-then-len-m
-returns-then-len-m c =
+pub returns-then-len-l : goal.returns-then-len-l
+returns-then-len-l c =
     let args = c.args in
-    part_misfit c.requires args.v.0 (inside (goal.at.returns-then-len-m c).Else-out_of_range) c.if-len-m.true
+    part_misfit c.args.l.now.sound args.v.0 (inside (goal.at.returns-then-len-l c).Else-out_of_range) c.if-len-l.true
 
 pub overflow_sub-t : goal.overflow_sub-t
 overflow_sub-t c = let z = (upto (goal.at.overflow_sub-t c).Else-out_of_range).0 in omega arith
@@ -36,9 +36,14 @@ span_of-s-requires c = let (z, u) = upto (goal.at.span_of-s-requires c).Else-out
 pub overflow_sub-result : goal.overflow_sub-result
 overflow_sub-result c =
     let (f, t) = c.span_of-s.ensures in
-    (places_rise c.requires c.args.v.0 (inside (goal.at.overflow_sub-result c).Else-out_of_range) f t).1
+    (places_rise c.args.l.now.sound c.args.v.0 (inside (goal.at.overflow_sub-result c).Else-out_of_range) f t).0
 
 pub returns : goal.returns
 returns c =
     let (f, t) = c.span_of-s.ensures in
-    part_spanned c.requires c.args.v.0 (inside (goal.at.returns c).Else-out_of_range) f t c.if-len-m.false
+    part_spanned c.args.l.now.sound c.args.v.0 (inside (goal.at.returns c).Else-out_of_range) f t c.if-len-l.false
+
+pub overflow_sub-result-2 : goal.overflow_sub-result-2
+overflow_sub-result-2 c =
+    let (f, t) = c.span_of-s.ensures in
+    (places_rise c.args.l.now.sound c.args.v.0 (inside (goal.at.overflow_sub-result-2 c).Else-out_of_range) f t).1

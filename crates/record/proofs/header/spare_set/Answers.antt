@@ -7,7 +7,7 @@ use Rattle.record.proofs.header.spare_set.Goals as goal
 
 pub returns : goal.returns
 returns c =
-    spare_counted c.requires
+    spare_counted c.args.l.now.sound
     (8 * length
-    c.args.bytes.now - (28 + (c.args.n + 2 * c.args.m) + 12 * (2 * c.args.m))) refl
+    c.args.l.now.bytes.now - (28 + (c.args.l.now.n + 2 * c.args.l.now.m) + 12 * (2 * c.args.l.now.m))) refl
     c.rank.ensures

@@ -5,5 +5,5 @@ use Rattle.record.proofs.rooms.in_middle.Goals as goal
 
 pub unpack_in-requires : goal.unpack_in-requires
 unpack_in-requires c =
-    let f = c.requires.0.sound.n_fits in
-    (c.requires.0, roomy _ _ 576 2208 2400 512 (omega arith) (omega arith) (omega arith) (omega arith))
+    let f = c.args.laid.now.layout.sound.n_fits in
+    roomy _ _ 576 2208 2400 512 (omega arith) (omega arith) (omega arith) (omega arith)
