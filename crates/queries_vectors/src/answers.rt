@@ -1,55 +1,55 @@
-// How the program prints what the queries answer. A refusal is printed as its number in brackets.
-use print::{number, text, value};
+// How the program prints what the queries answer.
 use queries::{Above, Found, Numbered, Related};
 use record::{Counted, Refusal};
-use std::io;
+use std::fmt;
 
-fn refused(rt: &impl Print, r: Refusal) -> io::Result<()> {
-    text(rt, b" (")?;
-    number(rt, record::number_of(r))?;
-    text(rt, b")")?;
-    Ok(())
+// The value, or the refusal's number in brackets.
+#[derive(Drop)]
+pub struct Told<T>(pub Result<T, Refusal>);
+
+impl<T: fmt::Display> fmt::Display for Told<T> {
+    fn fmt<W: fmt::Write>(&self, f: &mut fmt::Formatter<W>) -> fmt::Result {
+        match &self.0 {
+            Ok(value) => write!(f, "{value}"),
+            Err(r) => write!(f, "({})", record::number_of(*r)),
+        }
+    }
 }
 
 // The parent, or 0 for a root.
-pub fn above(rt: &impl Print, answer: Above) -> io::Result<()> {
+pub fn above(answer: Above) -> Told<usize> {
     match answer {
-        Above::Root => value(rt, 0)?,
-        Above::Parent(p) => value(rt, p.0)?,
-        Above::Refused(r) => refused(rt, r)?,
+        Above::Root => Told(Ok(0)),
+        Above::Parent(p) => Told(Ok(p.0)),
+        Above::Refused(r) => Told(Err(r)),
     }
-    Ok(())
 }
 
-pub fn found(rt: &impl Print, answer: Found) -> io::Result<()> {
+pub fn found(answer: Found) -> Told<usize> {
     match answer {
-        Found::Terminal(v) => value(rt, v.0)?,
-        Found::Refused(r) => refused(rt, r)?,
+        Found::Terminal(v) => Told(Ok(v.0)),
+        Found::Refused(r) => Told(Err(r)),
     }
-    Ok(())
 }
 
-pub fn related(rt: &impl Print, answer: Related) -> io::Result<()> {
+pub fn related(answer: Related) -> Told<char> {
     match answer {
-        Related::Yes => text(rt, b" y")?,
-        Related::No => text(rt, b" n")?,
-        Related::Refused(r) => refused(rt, r)?,
+        Related::Yes => Told(Ok('y')),
+        Related::No => Told(Ok('n')),
+        Related::Refused(r) => Told(Err(r)),
     }
-    Ok(())
 }
 
-pub fn numbered(rt: &impl Print, answer: Numbered) -> io::Result<()> {
+pub fn numbered(answer: Numbered) -> Told<usize> {
     match answer {
-        Numbered::Number(i) => value(rt, i.0)?,
-        Numbered::Refused(r) => refused(rt, r)?,
+        Numbered::Number(i) => Told(Ok(i.0)),
+        Numbered::Refused(r) => Told(Err(r)),
     }
-    Ok(())
 }
 
-pub fn counted(rt: &impl Print, answer: Counted) -> io::Result<()> {
+pub fn counted(answer: Counted) -> Told<usize> {
     match answer {
-        Counted::Count(k) => value(rt, k)?,
-        Counted::Refused(r) => refused(rt, r)?,
+        Counted::Count(k) => Told(Ok(k)),
+        Counted::Refused(r) => Told(Err(r)),
     }
-    Ok(())
 }
