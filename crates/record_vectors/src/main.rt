@@ -5,7 +5,7 @@
 ghost use Rattle.std.specs.Prelude.{◌≤◌};
 
 use print::{show_bytes, show_numbers};
-use record::{Counted, Refusal, Verdict, Vertex};
+use record::{Refusal, Vertex};
 use std::{fmt, io};
 
 // What an operation answers: its value, or the refusal's number.
@@ -21,18 +21,8 @@ impl<T: fmt::Display> fmt::Display for Told<T> {
     }
 }
 
-fn verdict(answer: Verdict) -> Told<&'static str> {
-    match answer {
-        Verdict::Accepted => Told(Ok("accepted")),
-        Verdict::Refused(r) => Told(Err(r)),
-    }
-}
-
-fn counted(answer: Counted) -> Told<usize> {
-    match answer {
-        Counted::Count(k) => Told(Ok(k)),
-        Counted::Refused(r) => Told(Err(r)),
-    }
+fn verdict(answer: Result<(), Refusal>) -> Told<&'static str> {
+    Told(answer.map(|()| "accepted"))
 }
 
 // A record, and the sizes to ask with.
@@ -55,7 +45,7 @@ impl Case<'_> {
         let name = self.name;
         println!(rt;
             "{name} degree {v}: {}",
-            counted(record::degree(self.bytes, Vertex(v)))
+            Told(record::degree(self.bytes, Vertex(v)))
         )
     }
 
