@@ -6,13 +6,22 @@
 // neither falls.
 ghost use Rattle.std.specs.Prelude.{◌≡◌, ◌+◌, ◌-◌, ◌<◌, length};
 ghost use Rattle.graph.specs.Graph.{Blocks};
-ghost use Rattle.adjacency.specs.Arrays.{cut, Holds};
+ghost use Rattle.adjacency.specs.Arrays.{cut, Divided, Holds};
 ghost use Rattle.adjacency.specs.Reverse.{Turned, Turning, TurnedBefore, Matching, AtStarts};
 ghost use Rattle.adjacency.specs.Reverse.{Reversed, Kept, Orderly};
 ghost use Rattle.adjacency.specs.Tally.{Tells};
 
 use super::cells::{get, put};
 use super::lists::Lists;
+
+// A row that the starts cut into the blocks of some row, turned round.
+#[derive(Clone, Copy)]
+struct Parts<'a> {
+    starts: &'a [u16],
+    row: &'a [u16],
+    ghost divided: { Divided starts.now row.now },
+    ghost reversed: { ∥ Reversed starts.now row.now ∥₁ },
+}
 
 // The neighbour at place p of block u gets u in its part. A no where it is no vertex, or u itself, or its part is
 // full.
@@ -73,15 +82,14 @@ fn turn_all(lists: &Lists, reverse: &mut [u16], next: &mut [u16]) -> bool
 
 // For the vertex at place p of part u its own part is read on by one, and must have u there. The part is not at its
 // end: it has as many places as its vertex has mentions in all parts.
-fn match_place(parts: &Lists, u: usize, p: usize, next: &mut [u16]) -> bool
-    requires { let l = parts.now in (Turned l.starts.now l.nbrs.now l.nbrs.now next.old p)
-        × (Holds l.starts.now u p) × (Reversed l.starts.now l.nbrs.now) }
-    ensures { let l = parts.now in Tells (Turned l.starts.now l.nbrs.now l.nbrs.now next.new (p + 1))
-        (Orderly l.starts.now l.nbrs.now) result }
+fn match_place(parts: &Parts, u: usize, p: usize, next: &mut [u16]) -> bool
+    requires { let s = parts.now in (Turned s.starts.now s.row.now s.row.now next.old p) × (Holds s.starts.now u p) }
+    ensures { let s = parts.now in Tells (Turned s.starts.now s.row.now s.row.now next.new (p + 1))
+        (Orderly s.starts.now s.row.now) result }
 {
-    let w = get(parts.nbrs, p);
+    let w = get(parts.row, p);
     let q = get(next, w);
-    if get(parts.nbrs, q) != u {
+    if get(parts.row, q) != u {
         return false;
     }
     put(next, w, q + 1);
@@ -89,11 +97,10 @@ fn match_place(parts: &Lists, u: usize, p: usize, next: &mut [u16]) -> bool
 }
 
 // The same for all places of part u.
-fn match_block(parts: &Lists, u: usize, next: &mut [u16]) -> bool
-    requires { let l = parts.now in (Matching l.starts.now l.nbrs.now next.old u)
-        × (u + 1 < length l.starts.now) × (Reversed l.starts.now l.nbrs.now) }
-    ensures { let l = parts.now in Tells (Matching l.starts.now l.nbrs.now next.new (u + 1))
-        (Orderly l.starts.now l.nbrs.now) result }
+fn match_block(parts: &Parts, u: usize, next: &mut [u16]) -> bool
+    requires { let s = parts.now in (Matching s.starts.now s.row.now next.old u) × (u + 1 < length s.starts.now) }
+    ensures { let s = parts.now in Tells (Matching s.starts.now s.row.now next.new (u + 1))
+        (Orderly s.starts.now s.row.now) result }
 {
     let from = get(parts.starts, u);
     let end = get(parts.starts, u + 1);
@@ -106,10 +113,10 @@ fn match_block(parts: &Lists, u: usize, next: &mut [u16]) -> bool
 }
 
 // The same for all parts.
-fn match_all(parts: &Lists, next: &mut [u16]) -> bool
-    requires { let l = parts.now in (AtStarts l.starts.now next.old) × (Reversed l.starts.now l.nbrs.now) }
-    ensures { let l = parts.now in Tells (Matching l.starts.now l.nbrs.now next.new (length l.starts.now - 1))
-        (Orderly l.starts.now l.nbrs.now) result }
+fn match_all(parts: &Parts, next: &mut [u16]) -> bool
+    requires { AtStarts parts.now.starts.now next.old }
+    ensures { let s = parts.now in Tells (Matching s.starts.now s.row.now next.new (length s.starts.now - 1))
+        (Orderly s.starts.now s.row.now) result }
 {
     for u in 0..parts.starts.len() - 1 {
         if !match_block(parts, u, next) {
@@ -131,9 +138,9 @@ pub fn all_mutual(lists: &Lists, reverse: &mut [u16], next: &mut [u16]) -> bool
         return false;
     }
     next.copy_from_slice(begins);
-    let parts = Lists {
+    let parts = Parts {
         starts: lists.starts,
-        nbrs: reverse,
+        row: reverse,
     };
     match_all(&parts, next)
 }

@@ -6,6 +6,8 @@
 use Prim.Native.Nat.{ℕ, ◌+◌, ◌-◌, ◌≤◌, ◌<◌}
 use mathlib.Core.Path.{◌≡◌, refl, sym, ◌∙◌, ap}
 use mathlib.Core.List.{List, [], ◌∷◌}
+use mathlib.Core.Logic.{∥∥₁_elim}
+use native.Mathlib.Bridge.{le_prop}
 use native.Mathlib.Omega.{arith}
 use native.Mathlib.Decide.{ℕ_discrete, dec_lt}
 use lib.ListN.{length, get_or}
@@ -101,8 +103,11 @@ pub record ReadOn (starts : List ℕ) (w q : ℕ) : Type 0 where
   pub free : q ≡ get_or starts (w + 1) 0 → ⊥
 
 pub read_on : {starts reverse next : List ℕ} {u p w q : ℕ} → Turned starts reverse reverse next p → Holds starts u p
-    → Reversed starts reverse → w ≡ get_or reverse p 0 → q ≡ get_or next w 0
+    → ∥ Reversed starts reverse ∥₁ → w ≡ get_or reverse p 0 → q ≡ get_or next w 0
     → ReadOn starts w q
-read_on {starts} {u = u} {p} {w} t h r is-w is-q =
-    let k : w + 1 < length starts = rw is-w (r.known u p h) in
-    record { inside = k; free = λ e. not_full t h is-w k r.row r.size (λ x. r.same w x k) (sym is-q ∙ e) }
+read_on {starts} {reverse} {u = u} {p} {w} {q} t h some is-w is-q = ∥∥₁_elim some (hlevel le_prop) with_row
+  where
+    with_row : Reversed starts reverse → ReadOn starts w q
+    with_row r =
+        let k : w + 1 < length starts = rw is-w (r.known u p h) in
+        record { inside = k; free = λ e. not_full t h is-w k r.row r.size (λ x. r.same w x k) (sym is-q ∙ e) }

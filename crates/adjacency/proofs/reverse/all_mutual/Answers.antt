@@ -2,6 +2,7 @@
 use Rattle.adjacency.specs.Tally.{nay}
 use Rattle.adjacency.specs.Laws.Tells.{told_yes, told_no, told_on}
 use Rattle.adjacency.proofs.Laws.Nexts.{at_starts}
+use Rattle.adjacency.proofs.Laws.Turned.{turned_divided}
 use Rattle.adjacency.proofs.Laws.Mutual.{mutual_kept}
 use Rattle.adjacency.proofs.Laws.Reversed.{reversed}
 use Rattle.adjacency.proofs.Laws.Orderly.{orderly}
@@ -14,11 +15,13 @@ turn_all-requires c =
 pub returns-then-not-turn_all : goal.returns-then-not-turn_all
 returns-then-not-turn_all c = nay (told_no c.turn_all.ensures c.if-not-turn_all.true)
 
+pub invariant_of-parts : goal.invariant_of-parts
+invariant_of-parts c =
+    let turned = told_yes c.turn_all.ensures c.if-not-turn_all.false in
+    record { divided = turned_divided turned.turned; reversed = ∣ reversed turned ∣₁ }
+
 pub match_all-requires : goal.match_all-requires
-match_all-requires c = (
-  at_starts c.args.lists.now.divided.some c.copy_from_slice-2.ensures.after,
-  reversed (told_yes c.turn_all.ensures c.if-not-turn_all.false),
-)
+match_all-requires c = at_starts c.args.lists.now.divided.some c.copy_from_slice-2.ensures.after
 
 pub returns : goal.returns
 returns c =

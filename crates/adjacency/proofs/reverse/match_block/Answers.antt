@@ -13,7 +13,6 @@ pub match_place-requires : goal.match_place-requires
 match_place-requires c = (
   c.loop-p.invariant,
   block_holds c.args.u c.requires.1 c.get-from.ensures.0 c.get-end.ensures.0 c.loop-p.auto.p c.loop-p-test.true,
-  c.requires.2,
 )
 
 pub returns-then-not-match_place : goal.returns-then-not-match_place
