@@ -5,7 +5,6 @@ pub mod Parts
 pub mod Counts
 pub mod Loops
 pub mod Strays
-pub mod Nexts
 pub mod Totals
 pub mod Turned
 pub mod Mutual

@@ -1,16 +1,11 @@
 -- `reverse::all_mutual` meets its contract: turned round, and found again.
 use Rattle.adjacency.specs.Tally.{nay}
 use Rattle.adjacency.specs.Laws.Tells.{told_yes, told_no, told_on}
-use Rattle.adjacency.proofs.Laws.Nexts.{at_starts}
 use Rattle.adjacency.proofs.Laws.Turned.{turned_divided}
 use Rattle.adjacency.proofs.Laws.Mutual.{mutual_kept}
 use Rattle.adjacency.proofs.Laws.Reversed.{reversed}
 use Rattle.adjacency.proofs.Laws.Orderly.{orderly}
 use Rattle.adjacency.proofs.reverse.all_mutual.Goals as goal
-
-pub turn_all-requires : goal.turn_all-requires
-turn_all-requires c =
-    (c.requires.reverse_len.0, at_starts c.args.lists.now.divided.some c.copy_from_slice.ensures.after)
 
 pub returns-then-not-turn_all : goal.returns-then-not-turn_all
 returns-then-not-turn_all c = nay (told_no c.turn_all.ensures c.if-not-turn_all.true)
@@ -19,9 +14,6 @@ pub invariant_of-parts : goal.invariant_of-parts
 invariant_of-parts c =
     let turned = told_yes c.turn_all.ensures c.if-not-turn_all.false in
     record { divided = turned_divided turned.turned; reversed = ∣ reversed turned ∣₁ }
-
-pub match_all-requires : goal.match_all-requires
-match_all-requires c = at_starts c.args.lists.now.divided.some c.copy_from_slice-2.ensures.after
 
 pub returns : goal.returns
 returns c =

@@ -12,9 +12,6 @@ loop-u-init c =
     let d = c.args.parts.now.divided in
     turned_start d refl c.requires d.first
 
-pub match_block-requires : goal.match_block-requires
-match_block-requires c = (c.loop-u.invariant, omega arith)
-
 pub returns-then-not-match_block : goal.returns-then-not-match_block
 returns-then-not-match_block c = nay (told_no c.match_block.ensures c.if-not-match_block.true)
 

@@ -10,9 +10,6 @@ use Rattle.adjacency.proofs.reverse.turn_all.Goals as goal
 pub loop-u-init : goal.loop-u-init
 loop-u-init c = turning_start c.args.lists.now.divided c.requires.0 c.requires.1
 
-pub turn_block-requires : goal.turn_block-requires
-turn_block-requires c = (c.loop-u.invariant, omega arith)
-
 pub returns-then-not-turn_block : goal.returns-then-not-turn_block
 returns-then-not-turn_block c = nay (told_no c.turn_block.ensures c.if-not-turn_block.true)
 

@@ -1,20 +1,9 @@
 -- `reverse::turn_block` meets its contract: the places passed are turned round.
-use mathlib.Core.Path.{subst⁻¹}
-use Rattle.adjacency.specs.Reverse.{Turning}
 use Rattle.adjacency.specs.Tally.{yea, nay}
 use Rattle.adjacency.specs.Laws.Tells.{told_yes, told_no}
-use Rattle.adjacency.proofs.Laws.Loops.{block_holds, block_end}
+use Rattle.adjacency.proofs.Laws.Loops.{block_end}
 use Rattle.adjacency.proofs.Laws.Turned.{turning_on}
 use Rattle.adjacency.proofs.reverse.turn_block.Goals as goal
-
-pub loop-p-init : goal.loop-p-init
-loop-p-init c = subst⁻¹ (Turning _ _ _ _ _) c.get-from.ensures.0 c.requires.0
-
-pub turn_place-requires : goal.turn_place-requires
-turn_place-requires c = (
-  c.loop-p.invariant,
-  block_holds c.args.u c.requires.1 c.get-from.ensures.0 c.get-end.ensures.0 c.loop-p.auto.p c.loop-p-test.true,
-)
 
 pub returns-then-not-turn_place : goal.returns-then-not-turn_place
 returns-then-not-turn_place c = nay (told_no c.turn_place.ensures c.if-not-turn_place.true)

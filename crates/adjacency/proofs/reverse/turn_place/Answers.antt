@@ -31,13 +31,6 @@ put-requires c =
     (λ e. c.if-q-get.false (e ∙ sym c.get.ensures.0)) in
     (m.1, omega arith)
 
-pub put-requires-2 : goal.put-requires-2
-put-requires-2 c =
-    let s = c.requires.0.turned.cells in
-    let m = next_place c.requires.0.turned c.get-v.result (omega arith) c.get-q.ensures.0
-    (λ e. c.if-q-get.false (e ∙ sym c.get.ensures.0)) in
-    (omega arith, omega arith)
-
 pub returns : goal.returns
 returns c =
     yea (turning_more c.requires.0 c.requires.1 c.get-v.ensures.0 (omega arith) c.if-v-u.false
