@@ -3,7 +3,7 @@
 --   Headed, Sound, Laid          rules 1 to 3, order R, and rule 5 too let the record pass, and n and m are the
 --                                header's
 --   ArraysOf                     the graph of a record stands in two arrays
---   Lent, Roomy                  room for them, and for the rules over them: of the exact length, or more
+--   Lent, Room, Roomy            room for them, and for the rules over them: of the exact length, or more
 --   Short, Handed                a list that each number of it can be raised by one; Check, with the neighbours for a
 --                                list
 --   Filling, Entering, Reading   the arrays while they are filled
@@ -59,6 +59,13 @@ pub record Lent (n m : ℕ) (starts nbrs reverse next : List ℕ) : Type 0 where
   pub all_nbrs : length nbrs ≡ 2 * m
   pub all_reverse : length reverse ≡ 2 * m
   pub all_next : length next ≡ n
+
+-- a room of so many cells, for a graph of n terminals and m wires
+pub record Room (n m starts nbrs reverse next : ℕ) : Type 0 where
+  pub for_starts : (n + 1 ≤ starts) × (starts ≤ 40000)
+  pub for_nbrs : (2 * m ≤ nbrs) × (nbrs ≤ 40000)
+  pub for_reverse : (2 * m ≤ reverse) × (reverse ≤ 40000)
+  pub for_next : (n ≤ next) × (next ≤ 40000)
 
 -- arrays with room to spare
 pub record Roomy (n m : ℕ) (starts nbrs reverse next : List ℕ) : Type 0 where

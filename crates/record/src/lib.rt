@@ -76,7 +76,7 @@ pub fn accept<'a>(bytes: &'a [u8], list: &mut [u16]) -> Result<Layout<'a>, Refus
     ensures same { IfOk result (λ l. l.bytes.now ≡ bytes.now) }
 {
     let laid = header::laid_out(bytes)?;
-    rooms::in_room(&laid, list, 0)?;
+    rooms::in_room(&laid, list)?;
     Ok(laid.layout)
 }
 
@@ -139,7 +139,7 @@ pub fn file(degrees: &[u16], neighbours: &[u16], bytes: &mut [u8]) -> Result<(),
     if lists::bad_lists(degrees, neighbours) {
         return Err(Refusal::BadLists);
     }
-    list_rooms::in_room(degrees, neighbours, 0)?;
+    list_rooms::in_room(degrees, neighbours)?;
     if bytes.len() != lengths::record_length(degrees.len(), neighbours.len() / 2) {
         return Err(Refusal::WrongRecordBuffer);
     }
