@@ -5,13 +5,15 @@ use mathlib.Core.List.{List, [], ◌∷◌, ◌++◌, append_assoc}
 use Prim.Native.Nat.{ℕ, zero, suc, ◌+◌, ◌-◌, ◌*◌, ◌/◌, ◌%◌, ◌^◌, ◌≤◌, ◌<◌}
 use native.Mathlib.Nat.{lt_of_lt_of_le, div-mul-le_self, mul_assoc, add-mul, add_comm}
 use native.Mathlib.Nat.{max-eq_right, mod-eq_of_lt, mod-lt, add-zero, mul-mod_left}
-use native.Mathlib.Numerals.{add-one, add-two, towards_suc}
+use native.Mathlib.Numerals.{add-one, add-two}
 use native.Mathlib.Omega.{arith}
 use lib.Arith.{digits_lt}
 use lib.Bits.{bit_and, bit_or, or_step, or_zero_r, or_block, or_lt, or_shifted, and_mask}
+use borrow.Rule.Slice.PartMut.{put_mid}
 use lib.ListN.{length, take, drop, get_or, set, replicate}
 use lib.Pow.{shl_lt, shl-shr, shr-shr, split, pow-lt, pow_mono, pow-add, pow_pos}
-use lib.Seq.{sets, sets-eq}
+use lib.Seq.{sets, sets-eq, drop-drop}
+use Rattle.std.specs.Int.{w64, to_be_bytes}
 use Rattle.bits.specs.Bits.{to_bits, bits, value, field, put}
 use Rattle.bits.specs.Laws.Digits.{to_bits_agree, to_bits_append, to_bits_below}
 use Rattle.bits.specs.Laws.Bytes.{AreBytes, length_bits, bits_append, take_bits, drop_bits}
@@ -67,28 +69,45 @@ bits_two y = above 8 y (byte_of y 0 ∷ []) (bits_one y)
 bits_three : (y : ℕ) → bits (byte_of y 16 ∷ byte_of y 8 ∷ byte_of y 0 ∷ []) ≡ to_bits 24 y
 bits_three y = above 16 y (byte_of y 8 ∷ byte_of y 0 ∷ []) (bits_two y)
 
-bits_eight : (y : ℕ)
-    → bits
-    (byte_of y 56 ∷ byte_of y 48 ∷ byte_of y 40 ∷ byte_of y 32 ∷ byte_of y 24 ∷ byte_of y 16 ∷ byte_of y 8 ∷ byte_of y 0 ∷ [])
-    ≡ to_bits 64 y
+-- the lowest byte, and all eight, as the language has them
+pub low_byte : (y : ℕ) → y % 256 ≡ byte_of y 0
+unfolding byte_of
+low_byte y = omega arith
+
+abbrev eight_of : ℕ → List ℕ
+eight_of y =
+    byte_of y 56 ∷ byte_of y 48 ∷ byte_of y 40 ∷ byte_of y 32 ∷ byte_of y 24 ∷ byte_of y 16 ∷ byte_of y 8 ∷ byte_of y 0 ∷ []
+
+eight_bytes_of : (y : ℕ) → to_be_bytes w64 y ≡ eight_of y
+unfolding byte_of
+eight_bytes_of y =
+    ap (λ (b : ℕ). byte_of y 56 ∷ byte_of y 48 ∷ byte_of y 40 ∷ byte_of y 32 ∷ byte_of y 24 ∷ byte_of y 16 ∷ byte_of y 8 ∷ b ∷ [])
+    (low_byte y)
+
+bits_eight : (y : ℕ) → bits (eight_of y) ≡ to_bits 64 y
 bits_eight y = above 56 y _ (above 48 y _ (above 40 y _ (above 32 y _ (above 24 y _ (bits_three y)))))
 
 -- ---- stores
 
--- bytes vs stored from byte f on
-stored : (bytes vs : List ℕ) (f : ℕ) → f + length vs ≤ length bytes
-    → bits (sets bytes f vs) ≡ take (8 * f) (bits bytes) ++ (bits vs ++ drop (8 * f + 8 * length vs) (bits bytes))
-stored bytes vs f h =
+-- bytes vs in the place of those from byte f on
+pasted : (bytes vs : List ℕ) (f : ℕ) → f + length vs ≤ length bytes
+    → bits (take f bytes ++ (vs ++ drop (f + length vs) bytes))
+    ≡ take (8 * f) (bits bytes) ++ (bits vs ++ drop (8 * f + 8 * length vs) (bits bytes))
+pasted bytes vs f h =
     let e : 8 * f + 8 * length vs ≡ 8 * (f + length vs) = omega arith in
     rw (
-      sets-eq vs bytes f h,
-      append_assoc (take f bytes) vs (drop (f + length vs) bytes),
       bits_append (take f bytes) (vs ++ drop (f + length vs) bytes),
       bits_append vs (drop (f + length vs) bytes),
       e,
       take_bits f bytes,
       drop_bits (f + length vs) bytes,
     )
+
+-- and stored one by one
+stored : (bytes vs : List ℕ) (f : ℕ) → f + length vs ≤ length bytes
+    → bits (sets bytes f vs) ≡ take (8 * f) (bits bytes) ++ (bits vs ++ drop (8 * f + 8 * length vs) (bits bytes))
+stored bytes vs f h =
+    ap bits (sets-eq vs bytes f h ∙ append_assoc (take f bytes) vs (drop (f + length vs) bytes)) ∙ pasted bytes vs f h
 
 -- a field inside the bytes vs, which are those of the number y: the former ones' number with v put into it
 write : (bytes vs : List ℕ) (start w k v x y : ℕ) → start / 8 + length vs ≤ length bytes
@@ -187,19 +206,13 @@ beside_shifted a b ha hb =
     rw (mod-eq_of_lt e) (or_shifted a 12 b hb)
 
 -- what the eight bytes of a number leave
-pub write_word : (bytes : List ℕ) (at x : ℕ) {a b c d e f g h : ℕ} → at + 8 ≤ length bytes
-    → a ≡ byte_of x 56 → b ≡ byte_of x 48 → c ≡ byte_of x 40 → d ≡ byte_of x 32
-    → e ≡ byte_of x 24 → f ≡ byte_of x 16 → g ≡ byte_of x 8 → h ≡ byte_of x 0
-    → bits
-    (set (set (set (set (set (set (set (set bytes at a) (at + 1) b) (at + 2) c) (at + 3) d) (at + 4) e) (at + 5) f)
-    (at + 6) g) (at + 7) h)
-    ≡ put 64 x (bits bytes) (8 * at)
+pub write_word : (bytes : List ℕ) (at x n : ℕ) {vs : List ℕ} → at + 8 ≤ length bytes → n ≡ 8 → vs ≡ to_be_bytes w64 x
+    → bits (put_mid at n bytes vs) ≡ put 64 x (bits bytes) (8 * at)
 unfolding put
-write_word bytes at x k ea eb ec ed ee ef eg eh =
-    rw (ea, eb, ec, ed, ee, ef, eg, eh)
-    (simp towards_suc
-    (stored bytes _ at k
-    ∙ ap (λ (t : List Bool). take (8 * at) (bits bytes) ++ (t ++ drop (8 * at + 64) (bits bytes))) (bits_eight x)))
+write_word bytes at x n h e ev =
+    rw (e, ev ∙ eight_bytes_of x, drop-drop 8 at bytes)
+    (pasted bytes (eight_of x) at h
+    ∙ ap (λ (t : List Bool). take (8 * at) (bits bytes) ++ (t ++ drop (8 * at + 64) (bits bytes))) (bits_eight x))
 
 -- four numbers of 12 bits, joined by shifts
 pub four_shifted : (a b c d : ℕ) → a < 4096 → b < 4096 → c < 4096 → d < 4096

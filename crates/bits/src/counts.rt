@@ -11,10 +11,8 @@ fn ones_before(bytes: &[u8], n: usize) -> usize
 {
     let words = n / 64;
     let mut sum: usize = 0;
-    let mut i = 0;
-    while i < words {
+    for i in 0..words {
         sum += word_ones(bytes, 8 * i);
-        i += 1;
     }
     let rest = n % 64;
     if rest == 0 {

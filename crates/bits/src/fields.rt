@@ -5,7 +5,7 @@ ghost use Rattle.bits.specs.Bits.{bits, field, put};
 ghost use Rattle.bits.specs.Steps.{joined, two, three, FourAt, four_of, front_of as the_front_of, Blank, replace};
 ghost use Rattle.bits.specs.Formula.{field_formula};
 
-use super::words::{byte_at, byte_of, join, put_word, short_word, word};
+use super::words::{byte_at, put_word, short_word, word};
 
 // The bit `index`.
 pub fn read_bit(bytes: &[u8], index: usize) -> bool
@@ -20,7 +20,7 @@ fn join2(bytes: &[u8], at: usize, next: usize) -> u64
     requires { (at < length bytes.now) × (next < length bytes.now) }
     ensures { (result ≡ joined 0 (two bytes.now at next)) × (result < 65536) }
 {
-    join(join(0, bytes[at]), bytes[next])
+    u64::from(u16::from_be_bytes([bytes[at], bytes[next]]))
 }
 
 // Byte `at`, the next, and byte `last`, joined.
@@ -28,7 +28,7 @@ fn join3(bytes: &[u8], at: usize, last: usize) -> u64
     requires { (at + 2 ≤ length bytes.now) × (last < length bytes.now) }
     ensures { (result ≡ joined 0 (three bytes.now at last)) × (result < 16777216) }
 {
-    join(join2(bytes, at, at + 1), bytes[last])
+    u64::from(u32::from_be_bytes([0, bytes[at], bytes[at + 1], bytes[last]]))
 }
 
 // The `width` bits of x above its `low` lowest.
@@ -130,16 +130,16 @@ pub fn write<const WIDTH: usize>(bytes: &mut [u8], start: usize, v: usize)
     let next = first + 1;
     if end <= 16 {
         let x = join2(bytes, first, next);
-        let y = replaced(x, WIDTH, 16 - end, v as u64);
-        bytes[first] = byte_of(y, 8);
-        bytes[next] = byte_of(y, 0);
+        let y = replaced(x, WIDTH, 16 - end, v as u64).to_be_bytes();
+        bytes[first] = y[6];
+        bytes[next] = y[7];
     } else {
         let last = first + 2;
         let x = join3(bytes, first, last);
-        let y = replaced(x, WIDTH, 24 - end, v as u64);
-        bytes[first] = byte_of(y, 16);
-        bytes[next] = byte_of(y, 8);
-        bytes[last] = byte_of(y, 0);
+        let y = replaced(x, WIDTH, 24 - end, v as u64).to_be_bytes();
+        bytes[first] = y[5];
+        bytes[next] = y[6];
+        bytes[last] = y[7];
     }
 }
 
@@ -149,10 +149,10 @@ pub fn write_two(bytes: &mut [u8], at: usize, a: usize, b: usize)
     ensures { (bits bytes.new ≡ put 12 b (put 12 a (bits bytes.old) (8 * at)) (8 * at + 12))
         × (length bytes.new ≡ length bytes.old) }
 {
-    let x = (a as u64) << 12 | (b as u64);
-    bytes[at] = byte_of(x, 16);
-    bytes[at + 1] = byte_of(x, 8);
-    bytes[at + 2] = byte_of(x, 0);
+    let x = ((a as u64) << 12 | (b as u64)).to_be_bytes();
+    bytes[at] = x[5];
+    bytes[at + 1] = x[6];
+    bytes[at + 2] = x[7];
 }
 
 // Four numbers of 12 bits, joined.

@@ -53,16 +53,14 @@ fn place_of(bytes: &[u8], limit: usize, k: usize) -> usize
     ensures { result ≡ select_of (take limit (bits bytes.now)) k }
 {
     let reached = skip_from(bytes, 0, k);
-    let mut at = reached.at;
     let mut left = reached.left;
-    while at < bytes.len() {
+    for at in reached.at..bytes.len() {
         let b = byte_at(bytes, at);
         let c = byte_ones(b);
         if left <= c {
             return within(limit, at, in_byte(b, left));
         }
         left -= c;
-        at += 1;
     }
     0
 }

@@ -9,7 +9,7 @@ use super::counts::ones_from;
 use super::fields::read_long;
 use super::ones::{top, without};
 use super::search::skip_from;
-use super::words::{ones_of, short_word};
+use super::words::ones_of;
 
 // What is left to search: the bits that hold the one, how many ones are left to go in them, and how many bits lie
 // before them.
@@ -100,12 +100,6 @@ fn nth_in_word(x: u64, k: usize) -> usize
     in_word(x, k)
 }
 
-fn lesser(a: usize, b: usize) -> usize
-    ensures { result ≡ min a b }
-{
-    if a < b { a } else { b }
-}
-
 // A part of a string: so many bits, and their number.
 #[derive(Clone, Copy)]
 struct Part {
@@ -118,22 +112,10 @@ fn part_from(bytes: &[u8], at: usize, end: usize) -> Part
     requires { (at < end) × (end ≤ 8 * length bytes.now) }
     ensures { PartOf (bits bytes.now) at end result.width result.bits }
 {
-    let width = lesser(64 - at % 8, end - at);
+    let width = (64 - at % 8).min(end - at);
     Part {
         width,
         bits: read_long(bytes, at, width),
-    }
-}
-
-// The part from byte `at` on, to the end of 64 bits, or to bit `end`.
-fn part_at(bytes: &[u8], at: usize, end: usize) -> Part
-    requires { (8 * at < end) × (end ≤ 8 * length bytes.now) }
-    ensures { PartOf (bits bytes.now) (8 * at) end result.width result.bits }
-{
-    let width = lesser(64, end - 8 * at);
-    Part {
-        width,
-        bits: short_word(bytes, at, width),
     }
 }
 
@@ -163,9 +145,10 @@ fn window_of(bytes: &[u8], start: usize, end: usize, k: usize) -> Window
         };
     }
     let reached = skip_from(bytes, (start + first.width) / 8, k - c);
-    let part = part_at(bytes, reached.at, end);
+    let from = 8 * reached.at;
+    let part = part_from(bytes, from, end);
     Window {
-        from: 8 * reached.at,
+        from,
         width: part.width,
         bits: part.bits,
         left: reached.left,
@@ -179,7 +162,7 @@ fn next_from(bytes: &[u8], from: usize, end: usize) -> usize
 {
     let mut at = from;
     while at < end {
-        let part = part_at(bytes, at / 8, end);
+        let part = part_from(bytes, 8 * (at / 8), end);
         if part.bits != 0 {
             return at + part.width - 1 - top(part.bits);
         }

@@ -2,8 +2,6 @@
 ghost use Rattle.std.specs.Prelude.{◌≡◌, ◌<◌, ◌≤◌};
 ghost use Rattle.bits.specs.Bits.{to_bits, select};
 
-use super::words::wide;
-
 // Entry 8·b + k − 1: the place, 1 to 8, of the k-th one of byte b, or 0 where b has fewer than k ones.
 const PLACES: [u8; 2048] = [
     0, 0, 0, 0, 0, 0, 0, 0, // byte 0x00
@@ -270,5 +268,5 @@ pub fn in_byte(b: u64, k: usize) -> usize
     ensures { result ≡ select (to_bits 8 b) k }
 {
     let at = 8 * (b as usize) + k - 1;
-    wide(PLACES[at]) as usize
+    usize::from(PLACES[at])
 }

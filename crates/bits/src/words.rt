@@ -4,76 +4,37 @@ ghost use Rattle.std.specs.Int.Count.{ones};
 ghost use Rattle.bits.specs.Bits.{bits, count, field, put};
 ghost use Rattle.bits.specs.Steps.{joined, eight, byte_of as the_byte_of, low_bytes, IsByte, IsRest};
 
-pub fn wide(b: u8) -> u64
-    ensures { (result ≡ b) × (result < 256) }
+// The eight bytes from byte `at` on.
+fn eight_at(bytes: &[u8], at: usize) -> [u8; 8]
+    requires { at + 8 ≤ length bytes.now }
+    ensures { result ≡ eight bytes.now at }
 {
-    b as u64
+    [
+        bytes[at],
+        bytes[at + 1],
+        bytes[at + 2],
+        bytes[at + 3],
+        bytes[at + 4],
+        bytes[at + 5],
+        bytes[at + 6],
+        bytes[at + 7],
+    ]
 }
 
-// The bytes so far, and one more below them.
-pub fn join(acc: u64, b: u8) -> u64
-    requires { acc < 2 ^ 56 }
-    ensures { (result ≡ acc * 256 + b) × (b < 256) }
-{
-    acc << 8 | (b as u64)
-}
-
-// Eight bytes as one number.
-fn join8(a: u8, b: u8, c: u8, d: u8, e: u8, f: u8, g: u8, h: u8) -> u64
-    ensures { result ≡ joined 0 (a ∷ b ∷ c ∷ d ∷ e ∷ f ∷ g ∷ h ∷ []) }
-{
-    let high = join(join(join(join(0, a), b), c), d);
-    join(join(join(join(high, e), f), g), h)
-}
-
-// The eight bytes from byte `at` on as one number, the first byte lowest: the machine's own order, so that this is one
-// load.
+// They as one number, the first byte lowest: the machine's own order, so that this is one load.
 fn low_word(bytes: &[u8], at: usize) -> u64
     requires { at + 8 ≤ length bytes.now }
     ensures { result ≡ joined 0 (reverse (eight bytes.now at)) }
 {
-    join8(
-        bytes[at + 7],
-        bytes[at + 6],
-        bytes[at + 5],
-        bytes[at + 4],
-        bytes[at + 3],
-        bytes[at + 2],
-        bytes[at + 1],
-        bytes[at],
-    )
+    u64::from_le_bytes(eight_at(bytes, at))
 }
 
-// The byte of x above its k lowest bits.
-pub fn byte_of(x: u64, k: usize) -> u8
-    requires { k < 64 }
-    ensures { result ≡ the_byte_of x k }
-{
-    ((x >> k) & 0xFF) as u8
-}
-
-// The bytes of x in the other order.
-fn turned(x: u64) -> u64
-    ensures { result ≡ joined 0 (low_bytes 8 0 x) }
-{
-    join8(
-        byte_of(x, 0),
-        byte_of(x, 8),
-        byte_of(x, 16),
-        byte_of(x, 24),
-        byte_of(x, 32),
-        byte_of(x, 40),
-        byte_of(x, 48),
-        byte_of(x, 56),
-    )
-}
-
-// The eight bytes from byte `at` on as one number.
+// They as one number.
 pub fn word(bytes: &[u8], at: usize) -> u64
     requires { at + 8 ≤ length bytes.now }
     ensures { result ≡ joined 0 (eight bytes.now at) }
 {
-    turned(low_word(bytes, at))
+    u64::from_be_bytes(eight_at(bytes, at))
 }
 
 // The eight bytes from byte `at` on become those of x.
@@ -82,21 +43,14 @@ pub fn put_word(bytes: &mut [u8], at: usize, x: u64)
     ensures { (bits bytes.new ≡ put 64 x (bits bytes.old) (8 * at))
         × (length bytes.new ≡ length bytes.old) }
 {
-    bytes[at] = byte_of(x, 56);
-    bytes[at + 1] = byte_of(x, 48);
-    bytes[at + 2] = byte_of(x, 40);
-    bytes[at + 3] = byte_of(x, 32);
-    bytes[at + 4] = byte_of(x, 24);
-    bytes[at + 5] = byte_of(x, 16);
-    bytes[at + 6] = byte_of(x, 8);
-    bytes[at + 7] = byte_of(x, 0);
+    bytes[at..at + 8].copy_from_slice(&x.to_be_bytes());
 }
 
 // Byte `at`, or 0 past the end.
 fn byte_or_zero(bytes: &[u8], at: usize) -> u8
     ensures { result ≡ get_or bytes.now at 0 }
 {
-    if at < bytes.len() { bytes[at] } else { 0 }
+    bytes.get(at).copied().unwrap_or(0)
 }
 
 // The same with zeros after the bytes.
@@ -104,7 +58,7 @@ fn padded_word(bytes: &[u8], at: usize) -> u64
     requires { at ≤ length bytes.now }
     ensures { result ≡ joined 0 (eight bytes.now at) }
 {
-    join8(
+    u64::from_be_bytes([
         byte_or_zero(bytes, at),
         byte_or_zero(bytes, at + 1),
         byte_or_zero(bytes, at + 2),
@@ -113,7 +67,7 @@ fn padded_word(bytes: &[u8], at: usize) -> u64
         byte_or_zero(bytes, at + 5),
         byte_or_zero(bytes, at + 6),
         byte_or_zero(bytes, at + 7),
-    )
+    ])
 }
 
 // The same: of a whole word, or of zeros after the bytes where the slice ends before a whole word does.
@@ -141,7 +95,7 @@ pub fn byte_at(bytes: &[u8], at: usize) -> u64
     requires { at < length bytes.now }
     ensures { IsByte bytes.now at result }
 {
-    wide(bytes[at])
+    u64::from(bytes[at])
 }
 
 // The bytes from byte `at` on.

@@ -7,23 +7,23 @@ use Rattle.bits.specs.Laws.Bytes.{length_bits}
 use Rattle.bits.specs.Laws.Spans.{next_end}
 use Rattle.bits.proofs.Passes.{part_aligned, part_less, cleared_start, cleared_more, cleared_end, topped_next}
 use Rattle.bits.proofs.spans.next_from.Goals as goal
-use Rattle.bits.proofs.spans.next_from.Goals.{After-part_at-part, After-top}
+use Rattle.bits.proofs.spans.next_from.Goals.{After-part_from-part, After-top}
 
-part : (c : After-part_at-part)
-    → PartOf (bits c.args.bytes.now) c.loop-at.at c.args.end c.part_at-part.result.width
-    c.part_at-part.result.bits
-part c = part_aligned (c.loop-at.invariant.1 c.loop-at-test.true) c.part_at-part.ensures
+part : (c : After-part_from-part)
+    → PartOf (bits c.args.bytes.now) c.loop-at.at c.args.end c.part_from-part.result.width
+    c.part_from-part.result.bits
+part c = part_aligned (c.loop-at.invariant.1 c.loop-at-test.true) c.part_from-part.ensures
 
 found : (c : After-top)
-    → (c.top.result < c.part_at-part.result.width)
+    → (c.top.result < c.part_from-part.result.width)
     × NextAt (bits c.args.bytes.now) c.args.from c.args.end
-    (c.loop-at.at + c.part_at-part.result.width - 1 - c.top.result)
+    (c.loop-at.at + c.part_from-part.result.width - 1 - c.top.result)
 found c =
     let n = length_bits c.args.bytes.now in
     topped_next (record {
       held = omega arith;
       clear = c.loop-at.invariant.0;
-      part = (let it : PartOf (bits c.args.bytes.now) c.loop-at.at c.args.end c.part_at-part.result.width c.part_at-part.result.bits = part_aligned (c.loop-at.invariant.1 c.loop-at-test.true) c.part_at-part.ensures in it);
+      part = (let it : PartOf (bits c.args.bytes.now) c.loop-at.at c.args.end c.part_from-part.result.width c.part_from-part.result.bits = part_aligned (c.loop-at.invariant.1 c.loop-at-test.true) c.part_from-part.ensures in it);
       from = c.top.ensures.1;
       below = c.top.ensures.2;
     })
@@ -34,10 +34,10 @@ loop-at-init c =
     (cleared_start (bits a.bytes.now) a.from a.end c.requires.0, c.requires.1)
 
 pub overflow_add-result : goal.overflow_add-result
-overflow_add-result c = let p = part (goal.at.overflow_add-result c).After-part_at-part in omega arith
+overflow_add-result c = let p = part (goal.at.overflow_add-result c).After-part_from-part in omega arith
 
 pub overflow_sub-result : goal.overflow_sub-result
-overflow_sub-result c = let p = part (goal.at.overflow_sub-result c).After-part_at-part in omega arith
+overflow_sub-result c = let p = part (goal.at.overflow_sub-result c).After-part_from-part in omega arith
 
 pub top-requires : goal.top-requires
 top-requires c = let h = c.if-part-ne0.true in omega arith
@@ -49,15 +49,15 @@ pub returns-then-part-ne0 : goal.returns-then-part-ne0
 returns-then-part-ne0 c = (found (goal.at.returns-then-part-ne0 c).After-top).1
 
 pub overflow_add-at : goal.overflow_add-at
-overflow_add-at c = let p = part (goal.at.overflow_add-at c).After-part_at-part in omega arith
+overflow_add-at c = let p = part (goal.at.overflow_add-at c).After-part_from-part in omega arith
 
 pub loop-at-smaller : goal.loop-at-smaller
 loop-at-smaller c =
-    part_less (part (goal.at.loop-at-smaller c).After-part_at-part) c.loop-at-test.true
+    part_less (part (goal.at.loop-at-smaller c).After-part_from-part) c.loop-at-test.true
 
 pub loop-at-preserved : goal.loop-at-preserved
 loop-at-preserved c =
-    let p = part (goal.at.loop-at-preserved c).After-part_at-part in
+    let p = part (goal.at.loop-at-preserved c).After-part_from-part in
     let goes = c.loop-at-test.true in
     let inv = c.loop-at.invariant in
     let e = inv.1 goes in

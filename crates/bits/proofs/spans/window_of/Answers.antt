@@ -37,13 +37,13 @@ part_from-first-requires c =
 pub returns-then-k-c : goal.returns-then-k-c
 returns-then-k-c c = window_here (opened (goal.at.returns-then-k-c c).After-ones_of-c) c.if-k-c.true
 
-pub part_at-part-requires : goal.part_at-part-requires
-part_at-part-requires c = let l = before (goal.at.part_at-part-requires c).After-skip_from-reached in omega arith
+pub part_from-part-requires : goal.part_from-part-requires
+part_from-part-requires c = let l = before (goal.at.part_from-part-requires c).After-skip_from-reached in omega arith
 
-pub overflow_mul-result : goal.overflow_mul-result
-overflow_mul-result c = let l = before (goal.at.overflow_mul-result c).After-skip_from-reached in omega arith
+pub overflow_mul-from : goal.overflow_mul-from
+overflow_mul-from c = let l = before (goal.at.overflow_mul-from c).After-skip_from-reached in omega arith
 
 pub returns : goal.returns
 returns c =
     let o = opened (goal.at.returns c).After-ones_of-c in
-    window_there o c.if-k-c.false c.skip_from-reached.ensures c.part_at-part.ensures
+    window_there o c.if-k-c.false c.skip_from-reached.ensures c.part_from-part.ensures

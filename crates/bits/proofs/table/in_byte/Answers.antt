@@ -8,4 +8,4 @@ unfolding entries
 returns c =
     let a = c.args in
     let pre = c.requires in
-    c.wide.ensures.0 ∙ entry_rule a.b a.k pre.0 pre.1 pre.2
+    c.from.ensures ∙ entry_rule a.b a.k pre.0 pre.1 pre.2
