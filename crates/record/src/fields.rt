@@ -28,27 +28,17 @@ fn read_four(bytes: &[u8], start: usize, list: &mut [u16], i: usize)
     put(list, i + 3, x.d);
 }
 
-// As many fields as come in fours with another one behind them. Returns how many are read.
-fn read_fours(bytes: &[u8], start: usize, list: &mut [u16]) -> usize
-    requires { (start + 12 * length list.old ≤ 8 * length bytes.now) × (length list.old ≤ 32768) × (start ≤ 65536) }
-    ensures { Reading (bits_of bytes.now) start (length list.old) list.new result }
-{
-    let mut i = 0;
-    while i + 5 <= list.len() {
-        read_four(bytes, start, list, i);
-        i += 4;
-    }
-    i
-}
-
-// The fields from bit `start` on, as many as the list has room for: in fours, and the last ones by themselves.
+// The fields from bit `start` on, as many as the list has room for: in fours while another one stands behind them, and
+// the last ones by themselves.
 pub fn read_fields(bytes: &[u8], start: usize, list: &mut [u16])
     requires { (start + 12 * length list.old ≤ 8 * length bytes.now) × (length list.old ≤ 32768) × (start ≤ 65536) }
     ensures { list.new ≡ fields_from (bits_of bytes.now) start (length list.old) }
 {
-    let mut i = read_fours(bytes, start, list);
-    while i < list.len() {
+    let fours = list.len().saturating_sub(1) / 4;
+    for k in 0..fours {
+        read_four(bytes, start, list, 4 * k);
+    }
+    for i in 4 * fours..list.len() {
         put(list, i, bits::fields::read::<12>(bytes, start + 12 * i));
-        i += 1;
     }
 }

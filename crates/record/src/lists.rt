@@ -16,16 +16,11 @@ fn sum_of(degrees: &[u16]) -> usize
     requires { length degrees.now ≤ 4096 }
     ensures { result ≡ total degrees.now }
 {
-    let mut sum = 0;
-    let mut v = 0;
-    while v < degrees.len() {
-        sum += get(degrees, v);
-        v += 1;
-    }
-    sum
+    degrees.iter().map(|degree| usize::from(*degree)).sum()
 }
 
 // Rule 16.
+#[tactic(auto, using(std::proofs::lemmas::Grind::common_steps), unfolding(crate::specs::Filing::bad_lists, crate::specs::Operations::other_length))]
 pub fn bad_lists(degrees: &[u16], neighbours: &[u16]) -> bool
     ensures { result ≡ bad_lists_of degrees.now neighbours.now }
 {
@@ -33,13 +28,7 @@ pub fn bad_lists(degrees: &[u16], neighbours: &[u16]) -> bool
         return true;
     }
     let sum = sum_of(degrees);
-    if sum % 2 == 1 {
-        return true;
-    }
-    if 32768 < sum {
-        return true;
-    }
-    neighbours.len() != sum
+    sum % 2 == 1 || 32768 < sum || neighbours.len() != sum
 }
 
 // The starts of the blocks, and the end of the last one: the sums of the degrees before them.
@@ -48,24 +37,18 @@ fn fill_starts(degrees: &[u16], starts: &mut [u16])
     ensures { starts.new ≡ sums_of degrees.now }
 {
     let mut start = 0;
-    let mut v = 0;
-    while v < degrees.len() {
+    for v in 0..degrees.len() {
         put(starts, v, start);
         start += get(degrees, v);
-        v += 1;
     }
-    put(starts, v, start);
+    put(starts, degrees.len(), start);
 }
 
 // A neighbour counted from 0: 0, which is no terminal, becomes 65,535, which is no vertex.
-fn vertex_of(x: usize) -> usize
-    requires { x < 65536 }
-    ensures { (result ≡ the_vertex_of x) × (result < 65536) }
+fn vertex_of(x: u16) -> u16
+    ensures { result ≡ the_vertex_of x }
 {
-    if x == 0 {
-        return 65535;
-    }
-    x - 1
+    x.wrapping_sub(1)
 }
 
 // All neighbours, counted so.
@@ -73,10 +56,8 @@ fn fill_neighbours(neighbours: &[u16], nbrs: &mut [u16])
     requires { length nbrs.old ≡ length neighbours.now }
     ensures { nbrs.new ≡ map the_vertex_of neighbours.now }
 {
-    let mut i = 0;
-    while i < neighbours.len() {
-        put(nbrs, i, vertex_of(get(neighbours, i)));
-        i += 1;
+    for i in 0..neighbours.len() {
+        nbrs[i] = vertex_of(neighbours[i]);
     }
 }
 

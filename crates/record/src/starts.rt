@@ -2,59 +2,36 @@
 ghost use Rattle.std.specs.Prelude.{◌≡◌, ◌+◌, ◌-◌, ◌%◌, ◌≤◌, ◌<◌, length, get_or};
 ghost use Rattle.record.specs.Record.{unary};
 ghost use Rattle.record.specs.Starts.{starts_of};
-ghost use Rattle.record.specs.Steps.{Filling, Entering};
 
 use super::layout::Layout;
 use adjacency::cells::put;
-
-// The ones of w, the bits of D before place `end` that are still to be read: each enters the zeros before it as the
-// next start. Returns how many starts are entered. The record's bytes are here for the contract alone.
-fn enter_ones(bytes: &[u8], starts: &mut [u16], w: u64, end: usize, k: usize) -> usize
-    requires { (end ≤ 65536) × (Entering (unary bytes.now) starts.old w end k) }
-    ensures { Filling (unary bytes.now) starts.new end result }
-{
-    let mut left = w;
-    let mut next = k;
-    while left != 0 {
-        let h = bits::ones::top(left);
-        put(starts, next, end - (h + 1) - next);
-        left = bits::ones::without(left, h);
-        next += 1;
-    }
-    next
-}
 
 // Where the next part of D ends: with the 64 bits that begin with its first byte, or with D.
 fn part_end(i: usize, places: usize) -> usize
     requires { (i < places) × (places ≤ 65536) }
     ensures { (i < result) × ((28 + i) % 8 + (result - i) ≤ 64) × (result ≤ places) }
 {
-    let to = 8 * ((28 + i) / 8) + 36;
-    if to < places {
-        return to;
-    }
-    places
+    places.min(8 * ((28 + i) / 8) + 36)
 }
 
 // The starts of all blocks, and the end of the last one, by one pass over D: part by part, and in each part from one to
-// one.
+// one. Each one enters the zeros before it as the next start.
 pub fn fill_starts(layout: &Layout, starts: &mut [u16])
     requires { length starts.old ≡ layout.now.n + 1 }
     ensures { starts.new ≡ starts_of (unary layout.now.bytes.now) }
 {
-    let bytes = layout.bytes;
     let places = layout.n + 2 * layout.m;
     let mut i = 0;
     let mut k = 0;
     while i < places {
         let end = part_end(i, places);
-        k = enter_ones(
-            bytes,
-            starts,
-            bits::fields::read_long(bytes, 28 + i, end - i),
-            end,
-            k,
-        );
+        let mut left = bits::fields::read_long(layout.bytes, 28 + i, end - i);
+        while left != 0 {
+            let h = bits::ones::top(left);
+            put(starts, k, end - (h + 1) - k);
+            left = bits::ones::without(left, h);
+            k += 1;
+        }
         i = end;
     }
     put(starts, k, i - k);

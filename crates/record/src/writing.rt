@@ -7,9 +7,16 @@ ghost use Rattle.record.specs.Record.{record_length, header_bits, field_bits};
 ghost use Rattle.record.specs.Filing.{record_from};
 ghost use Rattle.record.specs.Steps.{Listed, Numbers, unary_bits, Laying};
 
-use super::clear::clear;
-use adjacency::cells::get;
 use bits::fields::{Four, set_bit, write};
+
+// The neighbours of a record, numbers from 1, and the bit from which their fields stand.
+#[derive(Clone, Copy)]
+struct Row<'a> {
+    neighbours: &'a [u16],
+    start: usize,
+    ghost numbers: { Numbers neighbours.now },
+    ghost few: { (length neighbours.now ≤ 32768) × (start ≤ 65536) },
+}
 
 // n and m.
 fn write_header(bytes: &mut [u8], n: usize, m: usize)
@@ -30,71 +37,53 @@ fn write_unary(degrees: &[u16], bytes: &mut [u8])
     ensures bytes_len_unchanged { length bytes.new ≡ length bytes.old }
 {
     let mut at = 28;
-    let mut v = 0;
-    while v < degrees.len() {
+    for degree in degrees {
         set_bit(bytes, at);
-        at += 1 + get(degrees, v);
-        v += 1;
+        at += 1 + usize::from(*degree);
     }
 }
 
 // Neighbour i, from 0.
-fn number(neighbours: &[u16], i: usize) -> usize
-    requires { (Numbers neighbours.now) × (i < length neighbours.now) }
-    ensures { (result ≡ get_or neighbours.now i 0 - 1) × (result < 4096) }
+fn number(row: &Row, i: usize) -> usize
+    requires { i < length row.now.neighbours.now }
+    ensures { (result ≡ get_or row.now.neighbours.now i 0 - 1) × (result < 4096) }
 {
-    get(neighbours, i) - 1
+    usize::from(row.neighbours[i]) - 1
 }
 
 // Four more fields, from field i on, where another one stands behind them: so a whole word does. What stands before
 // them in their first byte is handed over, and what stands so before the next is handed back.
-fn write_four(neighbours: &[u16], bytes: &mut [u8], start: usize, i: usize, front: u64) -> u64
-    requires numbers { (Numbers neighbours.now) × (i + 5 ≤ length neighbours.now) × (length neighbours.now ≤ 32768)
-        × (start ≤ 65536) × (start + 12 * length neighbours.now ≤ 8 * length bytes.old) }
-    requires laying { (Laying start (bits_of bytes.old) (map (λ v. v - 1) neighbours.now) bytes.old i)
-        × (front ≡ front_of (bits_of bytes.old) (start + 12 * i)) }
-    ensures { (Laying start (bits_of bytes.old) (map (λ v. v - 1) neighbours.now) bytes.new
-        (i + 4))
-        × (result ≡ front_of (bits_of bytes.new) (start + 12 * (i + 4)))
+fn write_four(row: &Row, bytes: &mut [u8], i: usize, front: u64) -> u64
+    requires fits { (i + 5 ≤ length row.now.neighbours.now)
+        × (row.now.start + 12 * length row.now.neighbours.now ≤ 8 * length bytes.old) }
+    requires laying { (Laying row.now.start (bits_of bytes.old) (map (λ v. v - 1) row.now.neighbours.now) bytes.old i)
+        × (front ≡ front_of (bits_of bytes.old) (row.now.start + 12 * i)) }
+    ensures { (Laying row.now.start (bits_of bytes.old) (map (λ v. v - 1) row.now.neighbours.now) bytes.new (i + 4))
+        × (result ≡ front_of (bits_of bytes.new) (row.now.start + 12 * (i + 4)))
         × (length bytes.new ≡ length bytes.old) }
 {
-    let a = number(neighbours, i);
-    let b = number(neighbours, i + 1);
-    let c = number(neighbours, i + 2);
-    let d = number(neighbours, i + 3);
-    bits::fields::write_four(bytes, start + 12 * i, front, Four { a, b, c, d })
+    let a = number(row, i);
+    let b = number(row, i + 1);
+    let c = number(row, i + 2);
+    let d = number(row, i + 3);
+    bits::fields::write_four(bytes, row.start + 12 * i, front, Four { a, b, c, d })
 }
 
-// As many fields as come in fours with another one behind them. Returns how many are written.
-fn write_fours(neighbours: &[u16], bytes: &mut [u8], start: usize) -> usize
-    requires { (Numbers neighbours.now) × (length neighbours.now ≤ 32768)
-        × (start ≤ 65536) × (start + 12 * length neighbours.now ≤ 8 * length bytes.old)
-        × (Blank (bits_of bytes.old) start) }
-    ensures laying { Laying start (bits_of bytes.old) (map (λ v. v - 1) neighbours.now) bytes.new result }
-    ensures bytes_len_unchanged { length bytes.new ≡ length bytes.old }
-{
-    let mut front = bits::fields::front_of(bytes, start);
-    let mut i = 0;
-    while i + 5 <= neighbours.len() {
-        front = write_four(neighbours, bytes, start, i, front);
-        i += 4;
-    }
-    i
-}
-
-// The fields from bit `start` on: in fours, and the last ones by themselves.
-fn write_fields(neighbours: &[u16], bytes: &mut [u8], start: usize)
-    requires { (Numbers neighbours.now) × (length neighbours.now ≤ 32768)
-        × (start ≤ 65536) × (start + 12 * length neighbours.now ≤ 8 * length bytes.old)
-        × (Blank (bits_of bytes.old) start) }
+// The fields of the row: in fours while another one stands behind them, and the last ones by themselves.
+fn write_fields(row: &Row, bytes: &mut [u8])
+    requires { (row.now.start + 12 * length row.now.neighbours.now ≤ 8 * length bytes.old)
+        × (Blank (bits_of bytes.old) row.now.start) }
     ensures begun { Begun bytes.new
-        (take start (bits_of bytes.old) ++ field_bits (map (λ v. v - 1) neighbours.now)) }
+        (take row.now.start (bits_of bytes.old) ++ field_bits (map (λ v. v - 1) row.now.neighbours.now)) }
     ensures bytes_len_unchanged { length bytes.new ≡ length bytes.old }
 {
-    let mut i = write_fours(neighbours, bytes, start);
-    while i < neighbours.len() {
-        write::<12>(bytes, start + 12 * i, number(neighbours, i));
-        i += 1;
+    let fours = row.neighbours.len().saturating_sub(1) / 4;
+    let mut front = bits::fields::front_of(bytes, row.start);
+    for k in 0..fours {
+        front = write_four(row, bytes, 4 * k, front);
+    }
+    for i in 4 * fours..row.neighbours.len() {
+        write::<12>(bytes, row.start + 12 * i, number(row, i));
     }
 }
 
@@ -106,8 +95,9 @@ pub fn write_record(degrees: &[u16], neighbours: &[u16], bytes: &mut [u8])
 {
     let n = degrees.len();
     let places = neighbours.len();
-    clear(bytes);
+    let start = 28 + (n + places);
+    bytes.fill(0);
     write_header(bytes, n, places / 2);
     write_unary(degrees, bytes);
-    write_fields(neighbours, bytes, 28 + (n + places));
+    write_fields(&Row { neighbours, start }, bytes);
 }

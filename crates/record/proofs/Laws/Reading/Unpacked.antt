@@ -1,10 +1,10 @@
 -- Fields that are read into a list.
-use mathlib.Core.Path.{◌≡◌, refl, sym, ap, ◌∙◌}
+use mathlib.Core.Path.{◌≡◌, sym, ap, ◌∙◌}
 use mathlib.Core.Bool.{Bool}
 use mathlib.Core.List.{List}
 use Prim.Native.Nat.{ℕ, ◌+◌, ◌*◌, ◌≤◌, ◌<◌}
 use native.Mathlib.Omega.{arith}
-use lib.ListN.{length, set}
+use lib.ListN.{set}
 use Rattle.bits.specs.Bits.{field}
 use Rattle.bits.specs.Steps.{FourAt}
 use Rattle.record.specs.Record.{fields_from}
@@ -19,9 +19,6 @@ module _ (s : List Bool) (start k : ℕ) where
       let u = o.upto in
       let e = o.size in
       record { upto = omega arith; size = omega arith; same = o.same }
-
-  pub reads_start : (list : List ℕ) → length list ≡ k → Reading s start k list 0
-  reads_start list e = record { upto = omega arith; size = e; same = refl }
 
 module _ {s : List Bool} {start k : ℕ} {list : List ℕ} {i : ℕ} (r : Reading s start k list i) where
   in_order : InOrder (fields_from s start k) list i

@@ -1,5 +1,4 @@
 -- What rule 16 tells, and what File answers and leaves.
---   many_bad, odd_bad, big_bad, other_bad   the grounds of rule 16, one after the other
 --   file_bad_lists                          rule 16 is broken
 --   file_refused                            rule 6 or 8 is
 --   file_numbers                            none of these is: each neighbour fits into a field
@@ -7,12 +6,10 @@
 use mathlib.Core.Path.{◌≡◌, ap, ◌∙◌}
 use mathlib.Core.Bool.{true, not}
 use mathlib.Core.List.{List, []}
-use Prim.Native.Nat.{ℕ, suc, ◌/◌, ◌%◌, ◌≤◌, ◌<◌}
+use Prim.Native.Nat.{ℕ, suc, ◌/◌}
 use native.Mathlib.Omega.{arith}
-use borrow.Author.Tests.{lt-ltb, le-ltb, eq-eqb, ne_eqb}
-use lib.Dec.{eqb}
+use borrow.Author.Tests.{eq-eqb, ne_eqb}
 use lib.ListN.{length}
-use Rattle.adjacency.specs.Reverse.{total}
 use Rattle.record.specs.Record.{record_length}
 use Rattle.record.specs.Rules.{first_broken, place_rules}
 use Rattle.record.specs.Answers.{refused, answered}
@@ -22,27 +19,6 @@ use Rattle.record.specs.Steps.{Listed, graph_from, Numbers}
 use Rattle.record.specs.Laws.First.{first_broken_lem, first_kept}
 use Rattle.record.specs.Laws.Told.{told, untold, told_back, untold_back, buffer_kept, buffer_written}
 use Rattle.record.specs.Laws.Filed.{known_numbers, between_kept, file_between, file_last, file_first}
-
--- ---- rule 16
-
-module _ (degrees neighbours : List ℕ) where
-  pub many_bad : 4096 < length degrees → true ≡ bad_lists degrees neighbours
-  unfolding bad_lists
-  many_bad h = rw (lt-ltb 4096 (length degrees) h)
-
-  module _ (few : length degrees ≤ 4096) {sum : ℕ} (is_sum : sum ≡ total degrees) where
-    pub odd_bad : sum % 2 ≡ 1 → true ≡ bad_lists degrees neighbours
-    unfolding bad_lists
-    odd_bad h = rw (le-ltb 4096 (length degrees) few, ← is_sum, eq-eqb (sum % 2) 1 h)
-
-    module _ (even : sum % 2 ≡ 1 → ⊥) where
-      pub big_bad : 32768 < sum → true ≡ bad_lists degrees neighbours
-      unfolding bad_lists
-      big_bad h = rw (le-ltb 4096 (length degrees) few, ← is_sum, ne_eqb (sum % 2) 1 even, lt-ltb 32768 sum h)
-
-      pub other_bad : sum ≤ 32768 → not (eqb (length neighbours) sum) ≡ bad_lists degrees neighbours
-      unfolding bad_lists other_length
-      other_bad h = rw (le-ltb 4096 (length degrees) few, ← is_sum, ne_eqb (sum % 2) 1 even, le-ltb 32768 sum h)
 
 -- ---- File
 

@@ -4,7 +4,6 @@
 --   laying_same   what stands before them stays, so that they are behind these bytes' own bits
 --   laying_on     and what is written on behind those is behind s
 --   laying_more   a field more, or four (laying_four)
---   laying_end    all are written
 use mathlib.Core.Path.{◌≡◌, sym, ap, ◌∙◌}
 use mathlib.Core.Bool.{Bool}
 use mathlib.Core.List.{List, [], ◌∷◌, ◌++◌, append_assoc, append-nil}
@@ -12,9 +11,9 @@ use Prim.Native.Nat.{ℕ, ◌+◌, ◌*◌, ◌≤◌, ◌<◌}
 use native.Mathlib.Numerals.{add-one}
 use native.Mathlib.Omega.{arith}
 use lib.ListN.{length, take, get_or, length-append}
-use lib.Seq.{take-suc, take_all, take-append-le, take-take, length-take-le}
+use lib.Seq.{take-suc, take-append-le, take-take, length-take-le}
 use Rattle.bits.specs.Bits.{to_bits, bits, put}
-use Rattle.bits.specs.Steps.{four_of, Blank, Begun}
+use Rattle.bits.specs.Steps.{four_of, Blank}
 use Rattle.bits.specs.Laws.Puts.{four_bits}
 use Rattle.bits.specs.Laws.Begun.{blank_begun, begun_blank, begun_put}
 use Rattle.record.specs.Record.{field_bits}
@@ -117,6 +116,3 @@ module _ {start : ℕ} {s : List Bool} {numbers bytes : List ℕ} {i : ℕ} (k :
         let whole = ap (λ (x : List Bool). take start s ++ x) more
         ∙ sym (append_assoc (take start s) (field_bits (take i numbers)) (to_bits 48 (four_of a b c d))) in
         record { upto = omega arith; begun = rw whole q }
-
-  pub laying_end : length numbers ≤ i → Begun bytes (take start s ++ field_bits numbers)
-  laying_end h = rw (take_all i numbers h) at k.begun

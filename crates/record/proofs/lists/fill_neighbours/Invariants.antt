@@ -1,13 +1,10 @@
 -- `lists::fill_neighbours` meets its contract: the list is filled from the front.
+use mathlib.Core.Path.{◌≡◌}
 use mathlib.Core.List.{map}
-use Prim.Native.Nat.{◌-◌}
-use lib.ListN.{length}
-use Rattle.adjacency.specs.Laws.InOrder.{InOrder}
+use lib.ListN.{length, take}
 use Rattle.record.specs.Steps.{vertex_of}
 use Rattle.record.proofs.lists.fill_neighbours.Given as goal
 
 abbrev pub invariant-loop-i : goal.invariant-loop-i
-invariant-loop-i l = InOrder (map vertex_of l.neighbours) l.nbrs l.i
-
-abbrev pub decreases-loop-i : goal.decreases-loop-i
-decreases-loop-i l = length l.neighbours - l.i
+invariant-loop-i l =
+    (length l.nbrs ≡ length l.neighbours) × (take l.i l.nbrs ≡ map vertex_of (take l.i l.neighbours))

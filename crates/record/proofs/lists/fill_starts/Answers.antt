@@ -1,49 +1,42 @@
--- `lists::fill_starts` meets its contract: each sum is entered, and the whole one at the end.
-use mathlib.Core.Path.{ap, ◌∙◌}
+-- `lists::fill_starts` meets its contract: each sum is entered, and those of the degrees that are left are still to be.
+use mathlib.Core.Path.{◌≡◌, ap, ◌∙◌}
+use mathlib.Core.List.{◌∷◌, append_assoc, sum}
+use Prim.Native.Nat.{suc, ◌+◌}
+use native.Mathlib.Numerals.{add-one}
 use native.Mathlib.Omega.{arith}
-use lib.ListN.{length, length-set}
-use Rattle.record.proofs.Laws.Reading.Summing.{starting_start, starting_more, starting_size}
-use Rattle.record.proofs.Laws.Reading.Summing.{starting_end, summing_most}
+use lib.ListN.{length, drop, length-set, drop_of_length-le}
+use lib.Seq.{take-suc-set, drop-cons, set_split}
+use Rattle.record.specs.Starts.{sums_from}
 use Rattle.record.proofs.lists.fill_starts.Goals as goal
 
-pub loop-v-init : goal.loop-v-init
-loop-v-init c =
-    starting_start c.args.degrees.now c.args.starts.now c.requires.1
-
-pub put-requires : goal.put-requires
-put-requires c =
-    let l = starting_size c.loop-v.invariant in
-    let s = summing_most c.loop-v.invariant.summing in
-    let f = c.requires.0 in
-    (omega arith, omega arith)
-
-pub overflow_add-start : goal.overflow_add-start
-overflow_add-start c =
-    let s = summing_most c.loop-v.invariant.summing in
-    let p = c.requires.0 in
-    let f = c.get-start.ensures.1 in
-    omega arith
-
 pub loop-v-preserved : goal.loop-v-preserved
+unfolding sums_from sum
 loop-v-preserved c =
-    starting_more c.loop-v.invariant c.get-start.result (omega arith) c.get-start.ensures.0 c.get-start.ensures.1
-    c.put.ensures
-
-pub put-requires-2 : goal.put-requires-2
-put-requires-2 c =
-    let l = starting_size c.loop-v.invariant in
-    let s = summing_most c.loop-v.invariant.summing in
-    let u = c.loop-v.invariant.summing.upto in
-    let f = c.requires.0 in
-    (omega arith, omega arith)
-
-pub shape_of-starts : goal.shape_of-starts
-shape_of-starts c =
-    let l = ap length c.put-2.ensures ∙ length-set c.loop-v.starts c.loop-v.v _ in
-    let s = starting_size c.loop-v.invariant in
-    let e = c.requires.1 in
-    omega arith
+    let degrees = c.args.degrees.now in
+    let loop = c.loop-v in
+    let inv = loop.invariant in
+    let (d, small) = c.get-start.ensures in
+    let h = c.loop-v-test.true in
+    let next : drop loop.v degrees ≡ c.get-start.result ∷ drop (loop.v + 1) degrees =
+    rw (add-one loop.v, d) (drop-cons degrees loop.v 0 h) in
+    let left = rw next at inv.left in
+    let entered = rw next at inv.entered in
+    let size = ap length c.put.ensures ∙ length-set loop.starts loop.v loop.start in
+    record {
+      size = size ∙ inv.size;
+      left = omega arith;
+      entered =
+          rw (c.put.ensures, add-one loop.v, take-suc-set loop.starts loop.v loop.start (omega arith), append_assoc)
+          (rw add-one at entered);
+    }
 
 pub returns : goal.returns
+unfolding sums_from
 returns c =
-    starting_end c.loop-v.invariant (omega arith) c.put-2.ensures
+    let loop = c.loop-v in
+    let inv = loop.invariant in
+    let n = length c.args.degrees.now in
+    let end : loop.v ≡ n = omega arith in
+    let none = drop_of_length-le c.args.degrees.now {i = n} (omega arith) in
+    let past = drop_of_length-le loop.starts {i = suc n} (omega arith) in
+    c.put-2.ensures ∙ rw (set_split loop.starts n loop.start (omega arith), past) (rw (end, none) at inv.entered)

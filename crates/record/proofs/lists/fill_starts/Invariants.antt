@@ -1,11 +1,15 @@
--- `lists::fill_starts` meets its contract: each sum is entered, and the whole one at the end.
-use Prim.Native.Nat.{◌-◌}
-use lib.ListN.{length}
-use Rattle.record.proofs.Laws.Reading.Summing.{Starting}
+-- `lists::fill_starts` meets its contract: each sum is entered, and those of the degrees that are left are still to be.
+use mathlib.Core.Path.{◌≡◌}
+use mathlib.Core.List.{◌++◌}
+use Prim.Native.Nat.{◌+◌}
+use lib.ListN.{length, take, drop}
+use Rattle.adjacency.specs.Reverse.{total}
+use Rattle.record.specs.Starts.{sums_from, sums_of}
 use Rattle.record.proofs.lists.fill_starts.Given as goal
 
 abbrev pub invariant-loop-v : goal.invariant-loop-v
-invariant-loop-v l = Starting l.degrees l.starts l.start l.v
-
-abbrev pub decreases-loop-v : goal.decreases-loop-v
-decreases-loop-v l = length l.degrees - l.v
+invariant-loop-v l = record {
+  size : length l.starts ≡ length l.degrees + 1;
+  left : l.start + total (drop l.v l.degrees) ≡ total l.degrees;
+  entered : take l.v l.starts ++ sums_from l.start (drop l.v l.degrees) ≡ sums_of l.degrees;
+}

@@ -1,23 +1,17 @@
--- `lists::sum_of` meets its contract: the degrees are added up one after the other.
-use native.Mathlib.Omega.{arith}
-use Rattle.record.proofs.Laws.Reading.Summing.{summing_start, summing_more, summing_end}
+-- `lists::sum_of` meets its contract: the sum of the iterator is the sum of the list.
+use Rattle.std.proofs.Common.{rules, ◌≡◌, refl, ap, ◌∙◌, ◌+◌, ℕ, List, [], ◌∷◌}
+use mathlib.Core.List.{sum}
+use Rattle.std.specs.List.{sum_by}
+use Rattle.std.proofs.lemmas.List.Sums.{sum_by-cons}
+use Rattle.adjacency.specs.Reverse.{total}
 use Rattle.record.proofs.lists.sum_of.Goals as goal
 
-pub loop-v-init : goal.loop-v-init
-loop-v-init c =
-    summing_start c.args.degrees.now
-
-pub overflow_add-sum : goal.overflow_add-sum
-overflow_add-sum c =
-    let s = c.loop-v.invariant.small in
-    let u = c.loop-v.invariant.upto in
-    let f = c.get-sum.ensures.1 in
-    omega arith
-
-pub loop-v-preserved : goal.loop-v-preserved
-loop-v-preserved c =
-    summing_more c.loop-v.invariant c.get-sum.result (omega arith) c.get-sum.ensures.0 c.get-sum.ensures.1
+added : (l : List ℕ) → sum_by (λ x. x) l ≡ total l
+unfolding sum
+added [] = refl
+added (x ∷ l) = sum_by-cons (λ y. y) x l ∙ ap (λ (s : ℕ). x + s) (added l)
 
 pub returns : goal.returns
 returns c =
-    summing_end c.loop-v.invariant (omega arith)
+    let h : c.sum.result ≡ sum_by (λ x. x) c.args.degrees.now = search rules in
+    h ∙ added _

@@ -1,54 +1,69 @@
--- `starts::fill_starts` meets its contract: the starts of the blocks whose ones were read are entered.
-use mathlib.Core.Path.{ap, ◌∙◌}
-use Prim.Native.Nat.{◌-◌}
+-- `starts::fill_starts` meets its contract: the starts of the blocks whose ones were read are entered, and in a part of
+-- D each turn enters the start of the highest one that is left.
+use mathlib.Core.Path.{◌∙◌}
+use Prim.Native.Nat.{◌+◌, ◌-◌, ◌≤◌, ◌<◌}
 use native.Mathlib.Omega.{arith}
-use lib.ListN.{length, length-set}
+use lib.ListN.{length}
 use Rattle.record.specs.Record.{unary}
-use Rattle.record.proofs.Laws.Reading.Filled.{filling_start, filling_bounds, filling_end, entering_start}
 use Rattle.record.specs.Laws.Sounded.{sound_places, sound_ones, sound_part}
+use Rattle.record.proofs.Laws.Reading.Filled.{filling_start, filling_bounds, filling_end}
+use Rattle.record.proofs.Laws.Reading.Filled.{entering_start, entering_bounds, entering_more, entering_end}
 use Rattle.record.proofs.starts.fill_starts.Goals as goal
+use Rattle.record.proofs.starts.fill_starts.Goals.{After-top-h}
 
 pub loop-i-init : goal.loop-i-init
 loop-i-init c =
-    let args = c.args in
-    let e = sound_ones c.args.layout.now.sound in
-    let f = c.requires in
-    filling_start (unary args.layout.now.bytes.now) args.starts.now (omega arith)
+    let layout = c.args.layout.now in
+    let n = sound_ones layout.sound in
+    let l = c.requires in
+    filling_start (unary layout.bytes.now) c.args.starts.now (omega arith)
 
-pub enter_ones-k-requires : goal.enter_ones-k-requires
-enter_ones-k-requires c =
+pub loop-left-init : goal.loop-left-init
+loop-left-init c =
     let loop = c.loop-i in
-    let e = sound_places c.args.layout.now.sound in
+    let sound = c.args.layout.now.sound in
     let end = c.part_end-end.result in
-    let part = c.read_long.ensures ∙ sound_part c.args.layout.now.sound (end - loop.i) loop.i (omega arith) in
-    (omega arith, entering_start end loop.invariant (omega arith) (omega arith) part)
+    let places = sound_places sound in
+    let part = c.read_long-left.ensures ∙ sound_part sound (end - loop.i) loop.i (omega arith) in
+    entering_start end loop.invariant (omega arith) (omega arith) part
+
+-- the highest one that is left has a place, and its start a cell
+bounds : (c : After-top-h)
+    → (c.loop-left.k + c.top-h.result + 1 ≤ c.part_end-end.result) × (c.loop-left.k < length c.loop-left.starts)
+bounds c = entering_bounds c.loop-left.invariant c.top-h.result c.top-h.ensures.1
+
+pub overflow_sub-end-in-loop-left : goal.overflow_sub-end-in-loop-left
+overflow_sub-end-in-loop-left c = let b = bounds (goal.at.overflow_sub-end-in-loop-left c).After-top-h in omega arith
+
+pub overflow_sub-end-in-loop-left-2 : goal.overflow_sub-end-in-loop-left-2
+overflow_sub-end-in-loop-left-2 c =
+    let b = bounds (goal.at.overflow_sub-end-in-loop-left-2 c).After-top-h in
+    omega arith
+
+pub put-requires : goal.put-requires
+put-requires c = let b = bounds (goal.at.put-requires c).After-top-h in omega arith
+
+pub overflow_add-k : goal.overflow_add-k
+overflow_add-k c = let b = bounds (goal.at.overflow_add-k c).After-top-h in omega arith
+
+pub loop-left-preserved : goal.loop-left-preserved
+loop-left-preserved c =
+    let (_, low, high) = c.top-h.ensures in
+    entering_more c.loop-left.invariant c.top-h.result low high c.put.ensures c.without-left.ensures
 
 pub loop-i-preserved : goal.loop-i-preserved
-loop-i-preserved c = c.enter_ones-k.ensures
+loop-i-preserved c = entering_end c.loop-left.invariant c.loop-left-test.false
 
 pub overflow_sub-i : goal.overflow_sub-i
 overflow_sub-i c = let b = filling_bounds c.loop-i.invariant in omega arith
 
-pub put-requires : goal.put-requires
-put-requires c =
-    let loop = c.loop-i in
-    let b = filling_bounds loop.invariant in
-    let s = loop.invariant.size in
-    let u = loop.invariant.upto in
-    let e = sound_places c.args.layout.now.sound in
-    omega arith
-
-pub shape_of-starts : goal.shape_of-starts
-shape_of-starts c =
-    let loop = c.loop-i in
-    let l = ap length c.put.ensures ∙ length-set loop.starts loop.k _ in
-    let s = loop.invariant.size in
-    let e = sound_ones c.args.layout.now.sound in
-    let p = c.requires in
+pub put-requires-2 : goal.put-requires-2
+put-requires-2 c =
+    let b = filling_bounds c.loop-i.invariant in
+    let places = sound_places c.args.layout.now.sound in
     omega arith
 
 pub returns : goal.returns
 returns c =
-    let e = sound_places c.args.layout.now.sound in
-    let h = c.loop-i-test.false in
-    filling_end c.loop-i.invariant (omega arith) c.put.ensures
+    let places = sound_places c.args.layout.now.sound in
+    filling_end c.loop-i.invariant (omega arith) c.put-2.ensures

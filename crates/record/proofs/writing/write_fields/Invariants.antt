@@ -1,15 +1,22 @@
--- `writing::write_fields` meets its contract: the fields are written on to the last.
+-- `writing::write_fields` meets its contract: the fields are written from the front, by fours, and then on to the last.
 use mathlib.Core.Path.{◌≡◌}
 use mathlib.Core.List.{map}
-use Prim.Native.Nat.{◌-◌}
+use Prim.Native.Nat.{◌+◌, ◌-◌, ◌*◌}
 use lib.ListN.{length}
 use Rattle.bits.specs.Bits.{bits}
+use Rattle.bits.specs.Steps.{front_of}
 use Rattle.record.specs.Steps.{Laying}
 use Rattle.record.proofs.writing.write_fields.Given as goal
 
-abbrev pub invariant-loop-i : goal.invariant-loop-i
-invariant-loop-i l =
-    (Laying l.start (bits l.initial.bytes) (map (λ v. v - 1) l.neighbours) l.bytes l.i) × (length l.bytes ≡ length l.initial.bytes)
+abbrev pub invariant-loop-k : goal.invariant-loop-k
+invariant-loop-k l = record {
+  laying : Laying l.row.start (bits l.initial.bytes) (map (λ v. v - 1) l.row.neighbours.now) l.bytes (4 * l.k);
+  front : l.front ≡ front_of (bits l.bytes) (l.row.start + 12 * (4 * l.k));
+  size : length l.bytes ≡ length l.initial.bytes;
+}
 
-abbrev pub decreases-loop-i : goal.decreases-loop-i
-decreases-loop-i l = length l.neighbours - l.i
+abbrev pub invariant-loop-i : goal.invariant-loop-i
+invariant-loop-i l = record {
+  laying : Laying l.row.start (bits l.fn.bytes) (map (λ v. v - 1) l.row.neighbours.now) l.bytes l.i;
+  size : length l.bytes ≡ length l.fn.bytes;
+}

@@ -1,7 +1,7 @@
 -- `writing::write_record` meets its contract: header, D and fields stand behind each other, and zeros behind them.
-use mathlib.Core.Path.{sym, ap, ◌∙◌}
-use native.Mathlib.Omega.{arith}
-use lib.ListN.{length, length-replicate}
+use mathlib.Core.Path.{sym, ◌∙◌}
+use Rattle.std.proofs.Common.{rules}
+use lib.ListN.{length}
 use Rattle.bits.specs.Laws.Begun.{begun_none, begun_blank, begun_on}
 use Rattle.record.specs.Laws.RoundTrip.{length_header_bits}
 use Rattle.record.proofs.Laws.Writing.Whole.{header_on, record_room, length_front, written}
@@ -10,28 +10,25 @@ use Rattle.record.proofs.writing.write_record.Goals as goal
 pub write_header-requires : goal.write_header-requires
 write_header-requires c =
     let l = c.requires.0 in
-    let size = ap length c.clear.ensures ∙ length-replicate _ 0 ∙ c.requires.2 in
-    let room = record_room l size in
-    (room.0, l.few, room.1, begun_none (length c.args.bytes.now) c.clear.ensures)
+    let filled = c.fill.ensures in
+    let room = record_room l (filled.len ∙ c.requires.2) in
+    (room.0, l.few, room.1, begun_none (length c.args.bytes.now) (filled.after (λ y e. e)))
 
 pub write_unary-requires : goal.write_unary-requires
 write_unary-requires c =
     let l = c.requires.0 in
     let h = c.write_header.ensures in
-    let size = h.bytes_len_unchanged ∙ ap length c.clear.ensures ∙ length-replicate _ 0 ∙ c.requires.2 in
-    ((record_room l size).2, l.fits, l.few, begun_blank h.begun 28 (sym (length_header_bits _ _)))
+    let room = record_room l (h.bytes_len_unchanged ∙ c.fill.ensures.len ∙ c.requires.2) in
+    (room.2, l.fits, l.few, begun_blank h.begun 28 (sym (length_header_bits _ _)))
 
 pub write_fields-requires : goal.write_fields-requires
 write_fields-requires c =
     let l = c.requires.0 in
-    let few = l.few in
-    let fits = l.fits in
-    let whole = l.whole in
     let h = c.write_header.ensures in
     let u = c.write_unary.ensures in
-    let size = u.bytes_len_unchanged ∙ h.bytes_len_unchanged ∙ ap length c.clear.ensures ∙ length-replicate _ 0 ∙ c.requires.2 in
+    let size = u.bytes_len_unchanged ∙ h.bytes_len_unchanged ∙ c.fill.ensures.len ∙ c.requires.2 in
     let front = header_on c.args.degrees.now c.args.neighbours.now h.begun u.begun in
-    (c.requires.1, omega arith, omega arith, (record_room l size).3, begun_blank front _ (length_front l))
+    ((record_room l size).3, begun_blank front _ (length_front l))
 
 pub returns : goal.returns
 returns c =
@@ -39,6 +36,7 @@ returns c =
     let h = c.write_header.ensures in
     let u = c.write_unary.ensures in
     let w = c.write_fields.ensures in
-    let size = w.bytes_len_unchanged ∙ u.bytes_len_unchanged ∙ h.bytes_len_unchanged ∙ ap length c.clear.ensures ∙ length-replicate _ 0 ∙ c.requires.2 in
+    let size =
+    w.bytes_len_unchanged ∙ u.bytes_len_unchanged ∙ h.bytes_len_unchanged ∙ c.fill.ensures.len ∙ c.requires.2 in
     let front = header_on c.args.degrees.now c.args.neighbours.now h.begun u.begun in
-    written l (λ i. (c.slice_known-5-1.given i).fits) size (begun_on front _ (length_front l) _ w.begun)
+    written l (search rules) size (begun_on front _ (length_front l) _ w.begun)
