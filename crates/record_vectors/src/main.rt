@@ -37,29 +37,27 @@ struct Case<'a> {
 
 impl Case<'_> {
     fn check(&self, rt: &impl Print) -> io::Result<()> {
-        let name = self.name;
-        println!(rt; "{name} check: {}", verdict(record::check(self.bytes)))
+        println!(rt;
+            "{} check: {}",
+            self.name,
+            verdict(record::check(self.bytes))
+        )
     }
 
     fn degree(&self, rt: &impl Print, v: usize) -> io::Result<()> {
-        let name = self.name;
-        println!(rt;
-            "{name} degree {v}: {}",
-            Told(record::degree(self.bytes, Vertex(v)))
-        )
+        let answer = Told(record::degree(self.bytes, Vertex(v)));
+        println!(rt; "{} degree {v}: {answer}", self.name)
     }
 
     // Unpack, with the list after it.
     fn unpack(&self, rt: &impl Print, list: &mut [u16]) -> io::Result<()> {
-        let name = self.name;
         let answer = verdict(record::unpack(self.bytes, list));
-        print!(rt; "{name} unpack {}: {answer},", list.len())?;
+        print!(rt; "{} unpack {}: {answer},", self.name, list.len())?;
         show_numbers(rt, list)
     }
 
     fn neighbours(&self, rt: &impl Print, list: &[u16], v: usize) -> io::Result<()> {
-        let name = self.name;
-        print!(rt; "{name} neighbours {} {v}:", list.len())?;
+        print!(rt; "{} neighbours {} {v}:", self.name, list.len())?;
         show_numbers(rt, record::neighbours(self.bytes, list, Vertex(v)))
     }
 
