@@ -1,21 +1,21 @@
 -- The cells of all parts counted together: as many are passed as places, so in the end every part is full.
 use Prim.Native.Nat.{ℕ, zero, suc, ◌+◌, ◌-◌, ◌≤◌, ◌<◌}
-use mathlib.Core.Path.{◌≡◌, sym, ◌∙◌, ap}
-use mathlib.Core.List.{List, [], ◌∷◌, sum}
+use mathlib.Core.Path.{refl, ◌≡◌, sym, ◌∙◌, ap}
+use mathlib.Core.List.{List, sum}
 use native.Mathlib.Numerals.{add-one}
 use native.Mathlib.Omega.{arith}
 use lib.ListN.{length, get_or, set, take}
 use lib.Seq.{ext_get_or, get_or-take, length-take-le, take-length}
 use borrow.Author.Count.{below_more}
+use Rattle.std.proofs.lemmas.Grind.{common_steps}
+use Rattle.std.proofs.lemmas.List.Recursion.{is_sum_by}
 use Rattle.adjacency.specs.Reverse.{total, TurnedBefore, AtStarts}
 use Rattle.adjacency.specs.Laws.Totals.{total_next}
 
 -- a cell goes up by one
 pub total_set : (l : List ℕ) (i : ℕ) → i < length l → total (set l i (get_or l i 0 + 1)) ≡ total l + 1
 unfolding sum
-total_set [] i h = absurd (omega arith)
-total_set (x ∷ l) zero h = omega arith
-total_set (x ∷ l) (suc i) h = let e = total_set l i (omega arith) in omega arith
+total_set l i h = grind (arith, common_steps, is_sum_by total (λ x. x) refl (λ _ _. omega arith))
 
 -- no cell of a part is passed yet
 pub total_start : {starts next : List ℕ} → AtStarts starts next → total next ≡ total (take (length next) starts)
