@@ -27,6 +27,7 @@ pub mod clear; // clear.rt: bytes of zero
 mod writing; // writing.rt: a record written from two lists
 
 use layout::Layout;
+use lists::Listing;
 
 // A terminal number, from 1: document 01's vertex label.
 #[derive(Clone, Copy)]
@@ -139,10 +140,14 @@ pub fn file(degrees: &[u16], neighbours: &[u16], bytes: &mut [u8]) -> Result<(),
     if lists::bad_lists(degrees, neighbours) {
         return Err(Refusal::BadLists);
     }
-    list_rooms::in_room(degrees, neighbours)?;
+    let lists = Listing {
+        degrees,
+        neighbours,
+    };
+    list_rooms::in_room(&lists)?;
     if bytes.len() != lengths::record_length(degrees.len(), neighbours.len() / 2) {
         return Err(Refusal::WrongRecordBuffer);
     }
-    writing::write_record(degrees, neighbours, bytes);
+    writing::write_record(&lists, bytes);
     Ok(())
 }

@@ -2,31 +2,28 @@
 ghost use Rattle.std.specs.Prelude.{◌≡◌, ◌/◌, ◌≤◌, length};
 ghost use Rattle.record.specs.Answers.{verdict};
 ghost use Rattle.record.specs.Operations.{check_graph};
-ghost use Rattle.record.specs.Steps.{Listed, graph_from, Room};
+ghost use Rattle.record.specs.Steps.{graph_from, Room};
 
 use super::Refusal;
-use super::lists::try_lists;
+use super::lists::{Listing, try_lists};
 
 // In a room of so many cells, in the front parts of its arrays. The room is in this function's frame alone: so short lists
 // take a small one.
 #[inline(never)]
 fn try_in<const STARTS: usize, const NBRS: usize, const REVERSE: usize, const NEXT: usize>(
-    degrees: &[u16],
-    neighbours: &[u16],
+    lists: &Listing,
 ) -> Result<(), Refusal>
-    requires listed { Listed degrees.now neighbours.now }
-    requires room { Room (length degrees.now) (length neighbours.now / 2) STARTS NBRS REVERSE NEXT }
-    ensures { verdict result ≡ check_graph (graph_from degrees.now neighbours.now) }
+    requires { Room (length lists.now.degrees.now) (length lists.now.neighbours.now / 2) STARTS NBRS REVERSE NEXT }
+    ensures { verdict result ≡ check_graph (graph_from lists.now.degrees.now lists.now.neighbours.now) }
 {
     let mut starts = [0u16; STARTS];
     let mut nbrs = [0u16; NBRS];
     let mut reverse = [0u16; REVERSE];
     let mut next = [0u16; NEXT];
-    let n = degrees.len();
-    let places = neighbours.len();
+    let n = lists.degrees.len();
+    let places = lists.neighbours.len();
     try_lists(
-        degrees,
-        neighbours,
+        lists,
         &mut starts[..n + 1],
         &mut nbrs[..places],
         &mut reverse[..places],
@@ -35,19 +32,18 @@ fn try_in<const STARTS: usize, const NBRS: usize, const REVERSE: usize, const NE
 }
 
 // The room for the lists' size, as `rooms::in_room` has it for a record's.
-pub fn in_room(degrees: &[u16], neighbours: &[u16]) -> Result<(), Refusal>
-    requires { Listed degrees.now neighbours.now }
-    ensures { verdict result ≡ check_graph (graph_from degrees.now neighbours.now) }
+pub fn in_room(lists: &Listing) -> Result<(), Refusal>
+    ensures { verdict result ≡ check_graph (graph_from lists.now.degrees.now lists.now.neighbours.now) }
 {
-    let n = degrees.len();
-    let places = neighbours.len();
+    let n = lists.degrees.len();
+    let places = lists.neighbours.len();
     if n <= 128 && places <= 512 {
-        try_in::<129, 512, 512, 128>(degrees, neighbours)
+        try_in::<129, 512, 512, 128>(lists)
     } else if n <= 512 && places <= 2048 {
-        try_in::<576, 2208, 2400, 512>(degrees, neighbours)
+        try_in::<576, 2208, 2400, 512>(lists)
     } else if places <= 8192 {
-        try_in::<4160, 8352, 8544, 4096>(degrees, neighbours)
+        try_in::<4160, 8352, 8544, 4096>(lists)
     } else {
-        try_in::<4160, 32928, 33120, 4096>(degrees, neighbours)
+        try_in::<4160, 32928, 33120, 4096>(lists)
     }
 }

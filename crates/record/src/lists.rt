@@ -11,6 +11,14 @@ use super::Refusal;
 use super::rules::try_rules;
 use adjacency::cells::{get, put};
 
+// Two lists that rule 16 lets pass: the degrees of the terminals, and the neighbours of all in a row.
+#[derive(Clone, Copy)]
+pub struct Listing<'a> {
+    pub degrees: &'a [u16],
+    pub neighbours: &'a [u16],
+    pub ghost listed: { Listed degrees.now neighbours.now },
+}
+
 // The sum of at most 4,096 degrees.
 fn sum_of(degrees: &[u16]) -> usize
     requires { length degrees.now ≤ 4096 }
@@ -20,7 +28,7 @@ fn sum_of(degrees: &[u16]) -> usize
 }
 
 // Rule 16.
-#[tactic(auto, using(std::proofs::lemmas::Grind::common_steps), unfolding(crate::specs::Filing::bad_lists, crate::specs::Operations::other_length))]
+#[tactic(auto, unfolding(crate::specs::Filing::bad_lists, crate::specs::Operations::other_length))]
 pub fn bad_lists(degrees: &[u16], neighbours: &[u16]) -> bool
     ensures { result ≡ bad_lists_of degrees.now neighbours.now }
 {
@@ -32,10 +40,11 @@ pub fn bad_lists(degrees: &[u16], neighbours: &[u16]) -> bool
 }
 
 // The starts of the blocks, and the end of the last one: the sums of the degrees before them.
-fn fill_starts(degrees: &[u16], starts: &mut [u16])
-    requires { (total degrees.now ≤ 32768) × (length starts.old ≡ length degrees.now + 1) }
-    ensures { starts.new ≡ sums_of degrees.now }
+fn fill_starts(lists: &Listing, starts: &mut [u16])
+    requires { length starts.old ≡ length lists.now.degrees.now + 1 }
+    ensures { starts.new ≡ sums_of lists.now.degrees.now }
 {
+    let degrees = lists.degrees;
     let mut start = 0;
     for v in 0..degrees.len() {
         put(starts, v, start);
@@ -63,18 +72,17 @@ fn fill_neighbours(neighbours: &[u16], nbrs: &mut [u16])
 
 // Rules 6 and 8 of the blocks that the lists give.
 pub fn try_lists(
-    degrees: &[u16],
-    neighbours: &[u16],
+    lists: &Listing,
     starts: &mut [u16],
     nbrs: &mut [u16],
     reverse: &mut [u16],
     next: &mut [u16],
 ) -> Result<(), Refusal>
-    requires listed { Listed degrees.now neighbours.now }
-    requires lent { Lent (length degrees.now) (length neighbours.now / 2) starts.old nbrs.old reverse.old next.old }
-    ensures { verdict result ≡ check_graph (graph_from degrees.now neighbours.now) }
+    requires { Lent (length lists.now.degrees.now) (length lists.now.neighbours.now / 2)
+        starts.old nbrs.old reverse.old next.old }
+    ensures { verdict result ≡ check_graph (graph_from lists.now.degrees.now lists.now.neighbours.now) }
 {
-    fill_starts(degrees, starts);
-    fill_neighbours(neighbours, nbrs);
+    fill_starts(lists, starts);
+    fill_neighbours(lists.neighbours, nbrs);
     try_rules(starts, nbrs, reverse, next)
 }

@@ -5,8 +5,9 @@ ghost use Rattle.bits.specs.Steps.{front_of, Blank, Begun};
 ghost use Rattle.adjacency.specs.Reverse.{total};
 ghost use Rattle.record.specs.Record.{record_length, header_bits, field_bits};
 ghost use Rattle.record.specs.Filing.{record_from};
-ghost use Rattle.record.specs.Steps.{Listed, Numbers, unary_bits, Laying};
+ghost use Rattle.record.specs.Steps.{Numbers, unary_bits, Laying};
 
+use super::lists::Listing;
 use bits::fields::{Four, set_bit, write};
 
 // The neighbours of a record, numbers from 1, and the bit from which their fields stand.
@@ -29,15 +30,14 @@ fn write_header(bytes: &mut [u8], n: usize, m: usize)
 }
 
 // D, from bit 28 on: for each degree a one, and then as many zeros, which stand there.
-fn write_unary(degrees: &[u16], bytes: &mut [u8])
-    requires { (28 + (length degrees.now + total degrees.now) ≤ 8 * length bytes.old)
-        × (total degrees.now ≤ 32768) × (length degrees.now ≤ 4096)
+fn write_unary(lists: &Listing, bytes: &mut [u8])
+    requires { (28 + (length lists.now.degrees.now + total lists.now.degrees.now) ≤ 8 * length bytes.old)
         × (Blank (bits_of bytes.old) 28) }
-    ensures begun { Begun bytes.new (take 28 (bits_of bytes.old) ++ unary_bits degrees.now) }
+    ensures begun { Begun bytes.new (take 28 (bits_of bytes.old) ++ unary_bits lists.now.degrees.now) }
     ensures bytes_len_unchanged { length bytes.new ≡ length bytes.old }
 {
     let mut at = 28;
-    for degree in degrees {
+    for degree in lists.degrees {
         set_bit(bytes, at);
         at += 1 + usize::from(*degree);
     }
@@ -88,16 +88,17 @@ fn write_fields(row: &Row, bytes: &mut [u8])
 }
 
 // The whole record.
-pub fn write_record(degrees: &[u16], neighbours: &[u16], bytes: &mut [u8])
-    requires { (Listed degrees.now neighbours.now) × (Numbers neighbours.now)
-        × (length bytes.old ≡ record_length (length degrees.now) (length neighbours.now / 2)) }
-    ensures { bytes.new ≡ record_from degrees.now neighbours.now }
+pub fn write_record(lists: &Listing, bytes: &mut [u8])
+    requires { (Numbers lists.now.neighbours.now)
+        × (length bytes.old ≡ record_length (length lists.now.degrees.now) (length lists.now.neighbours.now / 2)) }
+    ensures { bytes.new ≡ record_from lists.now.degrees.now lists.now.neighbours.now }
 {
-    let n = degrees.len();
+    let neighbours = lists.neighbours;
+    let n = lists.degrees.len();
     let places = neighbours.len();
     let start = 28 + (n + places);
     bytes.fill(0);
     write_header(bytes, n, places / 2);
-    write_unary(degrees, bytes);
+    write_unary(lists, bytes);
     write_fields(&Row { neighbours, start }, bytes);
 }

@@ -37,7 +37,6 @@ returns-then-bytes-record_length c =
 pub write_record-requires : goal.write_record-requires
 write_record-requires c =
     let l = passed (goal.at.write_record-requires c).Else-bad_lists in (
-      l,
       file_numbers l c.args.bytes.now (kept (goal.at.write_record-requires c).In_ok-in_room),
       c.if-bytes-record_length.false ∙ c.record_length.ensures,
     )
@@ -54,5 +53,5 @@ returns c =
     let d = file_done (passed (goal.at.returns c).Else-bad_lists) _ (kept (goal.at.returns c).In_ok-in_room) size in
     (d.0, c.write_record.ensures ∙ d.1)
 
-pub in_room-requires : goal.in_room-requires
-in_room-requires c = passed (goal.at.in_room-requires c).Else-bad_lists
+pub invariant_of-lists : goal.invariant_of-lists
+invariant_of-lists c = record { listed = passed (goal.at.invariant_of-lists c).Else-bad_lists }

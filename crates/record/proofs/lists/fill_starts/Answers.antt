@@ -12,7 +12,7 @@ use Rattle.record.proofs.lists.fill_starts.Goals as goal
 pub loop-v-preserved : goal.loop-v-preserved
 unfolding sums_from sum
 loop-v-preserved c =
-    let degrees = c.args.degrees.now in
+    let degrees = c.args.lists.now.degrees.now in
     let loop = c.loop-v in
     let inv = loop.invariant in
     let (d, small) = c.get-start.ensures in
@@ -35,8 +35,8 @@ unfolding sums_from
 returns c =
     let loop = c.loop-v in
     let inv = loop.invariant in
-    let n = length c.args.degrees.now in
+    let n = length c.args.lists.now.degrees.now in
     let end : loop.v ≡ n = omega arith in
-    let none = drop_of_length-le c.args.degrees.now {i = n} (omega arith) in
+    let none = drop_of_length-le c.args.lists.now.degrees.now {i = n} (omega arith) in
     let past = drop_of_length-le loop.starts {i = suc n} (omega arith) in
     c.put-2.ensures ∙ rw (set_split loop.starts n loop.start (omega arith), past) (rw (end, none) at inv.entered)

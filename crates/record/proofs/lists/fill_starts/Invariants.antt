@@ -9,7 +9,7 @@ use Rattle.record.proofs.lists.fill_starts.Given as goal
 
 abbrev pub invariant-loop-v : goal.invariant-loop-v
 invariant-loop-v l = record {
-  size : length l.starts ≡ length l.degrees + 1;
-  left : l.start + total (drop l.v l.degrees) ≡ total l.degrees;
-  entered : take l.v l.starts ++ sums_from l.start (drop l.v l.degrees) ≡ sums_of l.degrees;
+  size : length l.starts ≡ length l.lists.degrees.now + 1;
+  left : l.start + total (drop l.v l.lists.degrees.now) ≡ total l.lists.degrees.now;
+  entered : take l.v l.starts ++ sums_from l.start (drop l.v l.lists.degrees.now) ≡ sums_of l.lists.degrees.now;
 }

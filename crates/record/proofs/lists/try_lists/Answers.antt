@@ -33,19 +33,19 @@ graph_by degrees neighbours s t = ap₂ cut s t ∙ cut_sums 0 degrees (map vert
 
 pub fill_neighbours-requires : goal.fill_neighbours-requires
 fill_neighbours-requires c =
-    let e = c.requires.listed.even in
-    let w = c.requires.listed.whole in
-    let a = c.requires.lent.all_nbrs in
+    let e = c.args.lists.now.listed.even in
+    let w = c.args.lists.now.listed.whole in
+    let a = c.requires.all_nbrs in
     omega arith
 
 pub try_rules-requires : goal.try_rules-requires
 try_rules-requires c =
-    let (d, l) = tried_by c.requires.listed c.requires.lent c.fill_starts.ensures c.fill_neighbours.ensures in
+    let (d, l) = tried_by c.args.lists.now.listed c.requires c.fill_starts.ensures c.fill_neighbours.ensures in
     record { divided = d; reverse_len = l }
 
 pub returns : goal.returns
 returns c =
     let a = c.args in
-    let g = graph_by a.degrees.now a.neighbours.now c.fill_starts.ensures
+    let g = graph_by a.lists.now.degrees.now a.lists.now.neighbours.now c.fill_starts.ensures
     c.fill_neighbours.ensures in
     c.try_rules.ensures ∙ ap check_graph g

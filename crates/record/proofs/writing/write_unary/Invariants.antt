@@ -7,6 +7,6 @@ use Rattle.record.proofs.writing.write_unary.Given as goal
 
 abbrev pub invariant-loop-degree : goal.invariant-loop-degree
 invariant-loop-degree l = record {
-  marking : Marking (take 28 (bits l.initial.bytes)) l.degrees l.bytes l.at l.degree-index;
+  marking : Marking (take 28 (bits l.initial.bytes)) l.lists.degrees.now l.bytes l.at l.degree-index;
   size : length l.bytes ≡ length l.initial.bytes;
 }
