@@ -56,12 +56,10 @@ field_masked bytes start w h =
     let s : 8 * (start / 8) + start % 8 ≡ start = omega arith in
     sym (rw s at (field_back (bits bytes) (8 * (start / 8)) (start % 8) w (rw (length_bits bytes) (omega arith))))
 
--- the mask 0xFF..FF >> (64 - w)
-pub shifted_ones : (w : ℕ) → w ≤ 64 → (2 ^ 64 - 1) / 2 ^ (64 - w) ≡ 2 ^ w - 1
-shifted_ones w h =
-    let k : ℕ = 64 - w in
-    let e : 64 ≡ w + k = omega arith in
-    ap (λ (n : ℕ). (2 ^ n - 1) / 2 ^ k) e ∙ ap (λ (n : ℕ). n / 2 ^ k) (ones_split w k) ∙ high (2 ^ w - 1) k (ones_lt k)
+-- a mask of n ones, shifted to w of them
+pub shifted_ones : (n w k : ℕ) → w + k ≡ n → (2 ^ n - 1) / 2 ^ k ≡ 2 ^ w - 1
+shifted_ones n w k e =
+    ap (λ (m : ℕ). (2 ^ m - 1) / 2 ^ k) (sym e) ∙ ap (λ (m : ℕ). m / 2 ^ k) (ones_split w k) ∙ high (2 ^ w - 1) k (ones_lt k)
 
 -- four fields of 12 bits in a row, in the eight bytes from their first byte on
 pub four_in_word : (bytes : List ℕ) (start : ℕ) {x a b c d : ℕ} → AreBytes bytes → start / 8 + 8 ≤ length bytes
@@ -85,6 +83,10 @@ four_in_word bytes start {x} hb h e ea eb ec ed small = record {
         let whole : off + r + 12 + (low + k) ≡ 8 * 8 = omega arith in
         let inside = field_in_bytes bytes f (off + r) 12 (low + k) 8 hb h whole in
         rw (e, shr-shr (joined 0 (eight bytes f)) low k) (rw (eight_bytes bytes f h, at_bit) at inside)
+
+-- a byte of a list
+pub byte_in : {bytes : List ℕ} (at : ℕ) → AreBytes bytes → at < length bytes → IsByte bytes at (get_or bytes at 0)
+byte_in at hb h = record { inside = h; same = refl; small = hb at }
 
 -- the bits of one byte
 pub byte_field : {bytes : List ℕ} {at b : ℕ} → IsByte bytes at b → field 8 (bits bytes) (8 * at) ≡ b

@@ -5,7 +5,6 @@
 --   two       two bytes of a list
 --   three     two bytes of a list in a row, and a third
 --   byte_of    a byte of a number
---   low_bytes  the lowest bytes of a number, the lowest first
 --   IsByte    a number is a byte of a list
 --   IsRest    a number is what is left of a byte from a bit on
 --   within    a place, or 0 past a limit
@@ -15,7 +14,7 @@
 --   Blank     only zeros stand from a bit on
 --   Begun     the bits of some bytes begin with others, and are zeros after them
 --   replace   a number with a field replaced
-use Rattle.std.specs.Prelude.{◌≡◌, Bool, true, false, List, [], ◌∷◌, ◌++◌, ℕ, zero, suc, ◌+◌, ◌-◌, ◌*◌, ◌/◌, ◌%◌, ◌^◌, ◌≤◌, ◌<◌, leb, length, drop, get_or, replicate}
+use Rattle.std.specs.Prelude.{◌≡◌, Bool, true, false, List, [], ◌∷◌, ◌++◌, ℕ, ◌+◌, ◌-◌, ◌*◌, ◌/◌, ◌%◌, ◌^◌, ◌≤◌, ◌<◌, leb, length, drop, get_or, replicate}
 use Rattle.bits.specs.Bits.{bits, field}
 
 -- the bytes, one below the other, below the number a
@@ -40,11 +39,6 @@ three bytes f l = get_or bytes f 0 ∷ get_or bytes (f + 1) 0 ∷ get_or bytes l
 -- the byte of x above its k lowest bits
 unfoldable pub byte_of : ℕ → ℕ → ℕ
 byte_of x k = x / 2 ^ k % 256
-
--- n bytes of x above its k lowest bits, the lowest first
-abbrev pub low_bytes : ℕ → ℕ → ℕ → List ℕ
-low_bytes zero k x = []
-low_bytes (suc n) k x = byte_of x k ∷ low_bytes n (k + 8) x
 
 -- b is byte `at`
 pub record IsByte (bytes : List ℕ) (at b : ℕ) : Type 0 where

@@ -2,7 +2,7 @@
 ghost use Rattle.std.specs.Prelude.{◌≡◌, ◌+◌, ◌*◌, ◌/◌, ◌≤◌, length, take, drop};
 ghost use Rattle.bits.specs.Bits.{bits, count};
 
-use super::words::{byte_rest, ones_of, short_ones, tail, word_ones};
+use super::words::{byte_rest, short_ones, tail, word_ones};
 
 // How many of the first n bits are ones: whole words, and then what is left of the last one.
 fn ones_before(bytes: &[u8], n: usize) -> usize
@@ -40,7 +40,7 @@ pub fn ones_from(bytes: &[u8], start: usize, n: usize) -> usize
     let room = 8 - start % 8;
     let b = byte_rest(bytes, start);
     if n <= room {
-        return ones_of(b >> (room - n));
+        return (b >> (room - n)).count_ones() as usize;
     }
-    ones_of(b) + ones_after(bytes, start, n - room)
+    b.count_ones() as usize + ones_after(bytes, start, n - room)
 }

@@ -5,14 +5,14 @@ ghost use Rattle.bits.specs.Bits.{bits, field, put};
 ghost use Rattle.bits.specs.Steps.{joined, two, three, FourAt, four_of, front_of as the_front_of, Blank, replace};
 ghost use Rattle.bits.specs.Formula.{field_formula};
 
-use super::words::{byte_at, put_word, short_word, word};
+use super::words::{put_word, short_word, word};
 
 // The bit `index`.
 pub fn read_bit(bytes: &[u8], index: usize) -> bool
     requires { index < 8 * length bytes.now }
     ensures { result ≡ get_or (bits bytes.now) index false }
 {
-    (byte_at(bytes, index / 8) >> (7 - index % 8)) & 1 == 1
+    (bytes[index / 8] >> (7 - index % 8)) & 1 == 1
 }
 
 // Bytes `at` and `next`, joined.
@@ -172,7 +172,7 @@ pub fn front_of(bytes: &[u8], start: usize) -> u64
 {
     let at = start / 8;
     if at < bytes.len() {
-        byte_at(bytes, at) >> (8 - start % 8)
+        u64::from(bytes[at]) >> (8 - start % 8)
     } else {
         0
     }

@@ -5,7 +5,7 @@ ghost use Rattle.bits.specs.Spans.{Skipped};
 ghost use Rattle.bits.specs.Steps.{within as within_of};
 
 use super::table::in_byte;
-use super::words::{byte_at, byte_ones, byte_rest, part, word_ones};
+use super::words::{byte_rest, part, word_ones};
 
 // A byte to go on from, and how many ones are left to go.
 #[derive(Clone, Copy)]
@@ -19,17 +19,20 @@ pub fn skip_from(bytes: &[u8], first: usize, k: usize) -> Reached
     requires { (first ≤ length bytes.now) × (1 ≤ k) }
     ensures { Skipped (bits bytes.now) (length bytes.now) first k result.at result.left }
 {
-    let mut at = first;
+    let words = (bytes.len() - first) / 8;
     let mut left = k;
-    while at + 8 <= bytes.len() {
+    for i in 0..words {
+        let at = first + 8 * i;
         let c = word_ones(bytes, at);
         if left <= c {
             return Reached { at, left };
         }
         left -= c;
-        at += 8;
     }
-    Reached { at, left }
+    Reached {
+        at: first + 8 * words,
+        left,
+    }
 }
 
 // Place t of byte `at` as a place of the string, or 0 past the limit.
@@ -55,8 +58,8 @@ fn place_of(bytes: &[u8], limit: usize, k: usize) -> usize
     let reached = skip_from(bytes, 0, k);
     let mut left = reached.left;
     for at in reached.at..bytes.len() {
-        let b = byte_at(bytes, at);
-        let c = byte_ones(b);
+        let b = bytes[at];
+        let c = b.count_ones() as usize;
         if left <= c {
             return within(limit, at, in_byte(b, left));
         }
@@ -82,7 +85,7 @@ pub fn place_from(bytes: &[u8], start: usize, places: usize, k: usize) -> usize
     let off = start % 8;
     let room = 8 - off;
     let b = byte_rest(bytes, start);
-    let c = byte_ones(b);
+    let c = b.count_ones() as usize;
     if k <= c {
         return within(places, 0, in_byte(b, k) - off);
     }

@@ -1,5 +1,4 @@
-// The k-th one of a string that its bytes hold, by words and by halves of a word, what lies between it and the next,
-// and the only one of a string.
+// The k-th one of a string that its bytes hold, by words, what lies between it and the next, and the only one of a string.
 ghost use Rattle.std.specs.Prelude.{◌≡◌, ◌+◌, ◌*◌, ◌/◌, ◌%◌, ◌^◌, ◌<◌, ◌≤◌, min, length, take, drop};
 ghost use Rattle.std.specs.Int.Count.{ones};
 ghost use Rattle.bits.specs.Bits.{to_bits, bits, count, select as select_of};
@@ -7,98 +6,9 @@ ghost use Rattle.bits.specs.Spans.{SpanOf, LoneOf, ones_between, NextAt, PartOf,
 
 use super::counts::ones_from;
 use super::fields::read_long;
+use super::halving::{in_word, nth_in_word};
 use super::ones::{top, without};
 use super::search::skip_from;
-use super::words::ones_of;
-
-// What is left to search: the bits that hold the one, how many ones are left to go in them, and how many bits lie
-// before them.
-#[derive(Clone, Copy)]
-struct Half {
-    bits: u64,
-    left: usize,
-    before: usize,
-}
-
-// The ones of x: a number of 4 bits for each.
-fn ones4(x: u64) -> usize
-    requires { x < 16 }
-    ensures { (result ≡ ones x) × (result ≤ 4) }
-{
-    let counts: u64 = 0x4332322132212110;
-    ((counts >> (4 * x)) & 15) as usize
-}
-
-// The ones of x.
-fn ones8(x: u64) -> usize
-    requires { x < 256 }
-    ensures { result ≡ ones x }
-{
-    ones4(x >> 4) + ones4(x & 15)
-}
-
-// The half of x, which has 2·width bits and c ones in its high half, in which its k-th one stands. Both halves are at
-// hand and the test picks.
-fn halve(x: u64, width: usize, c: usize, k: usize, before: usize) -> Half
-    requires { (width ≤ 32) × (before ≤ 64) × (x < 2 ^ (width + width)) × (c ≡ ones (x / 2 ^ width))
-        × (1 ≤ k) × (k ≤ ones x) }
-    ensures { Narrowed width x k before result.bits result.left result.before }
-{
-    let mut bits = x >> width;
-    let mut left = k;
-    let mut base = before;
-    if c < k {
-        bits = x & ((1 << width) - 1);
-        left = k - c;
-        base = before + width;
-    }
-    Half {
-        bits,
-        left,
-        before: base,
-    }
-}
-
-// The place, from 1, of the k-th one of two bits that have k ones, counted on from `before`.
-fn in_pair(x: u64, k: usize, before: usize) -> usize
-    requires { (x < 4) × (1 ≤ k) × (k ≤ ones x) × (before ≤ 62) }
-    ensures { (result ≡ before + select_of (to_bits 2 x) k) × (1 ≤ result) × (result ≤ before + 2) }
-{
-    let half = halve(x, 1, (x >> 1) as usize, k, before);
-    half.before + 1
-}
-
-// The same of eight bits.
-fn in_eight(x: u64, k: usize, before: usize) -> usize
-    requires { (x < 256) × (1 ≤ k) × (k ≤ ones x) × (before ≤ 56) }
-    ensures { (result ≡ before + select_of (to_bits 8 x) k) × (1 ≤ result) × (result ≤ before + 8) }
-{
-    let a = halve(x, 4, ones4(x >> 4), k, before);
-    let b = halve(a.bits, 2, ones4(a.bits >> 2), a.left, a.before);
-    in_pair(b.bits, b.left, b.before)
-}
-
-// The place, from 1, of the k-th one of a word that has k ones.
-fn in_word(x: u64, k: usize) -> usize
-    requires { (1 ≤ k) × (k ≤ ones x) }
-    ensures { (result ≡ select_of (to_bits 64 x) k) × (1 ≤ result) × (result ≤ 64) }
-{
-    let a = halve(x, 32, ones_of(x >> 32), k, 0);
-    let b = halve(a.bits, 16, ones_of(a.bits >> 16), a.left, a.before);
-    let c = halve(b.bits, 8, ones8(b.bits >> 8), b.left, b.before);
-    in_eight(c.bits, c.left, c.before)
-}
-
-// The same. A first one is the highest, and needs no halves.
-fn nth_in_word(x: u64, k: usize) -> usize
-    requires { (1 ≤ k) × (k ≤ ones x) }
-    ensures { (result ≡ select_of (to_bits 64 x) k) × (1 ≤ result) × (result ≤ 64) }
-{
-    if k == 1 {
-        return 64 - top(x);
-    }
-    in_word(x, k)
-}
 
 // A part of a string: so many bits, and their number.
 #[derive(Clone, Copy)]
@@ -135,7 +45,7 @@ fn window_of(bytes: &[u8], start: usize, end: usize, k: usize) -> Window
     ensures { WindowOf (bits bytes.now) start end k result.from result.width result.bits result.left }
 {
     let first = part_from(bytes, start, end);
-    let c = ones_of(first.bits);
+    let c = first.bits.count_ones() as usize;
     if k <= c {
         return Window {
             from: start,
@@ -213,7 +123,7 @@ pub fn nth_from(bytes: &[u8], start: usize, places: usize, k: usize) -> usize
     let mut left = k;
     while at < end {
         let part = part_from(bytes, at, end);
-        let c = ones_of(part.bits);
+        let c = part.bits.count_ones() as usize;
         if left <= c {
             return at + part.width + nth_in_word(part.bits, left) - 64 - start;
         }

@@ -263,10 +263,10 @@ const PLACES: [u8; 2048] = [
 ];
 
 // The place of the k-th one of the byte b, or 0 where it has fewer.
-pub fn in_byte(b: u64, k: usize) -> usize
-    requires { (b < 256) × (1 ≤ k) × (k ≤ 8) }
+pub fn in_byte(b: u8, k: usize) -> usize
+    requires { (1 ≤ k) × (k ≤ 8) }
     ensures { result ≡ select (to_bits 8 b) k }
 {
-    let at = 8 * (b as usize) + k - 1;
+    let at = 8 * usize::from(b) + k - 1;
     usize::from(PLACES[at])
 }

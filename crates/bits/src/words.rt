@@ -2,7 +2,7 @@
 ghost use Rattle.std.specs.Prelude.{◌≡◌, [], ◌∷◌, reverse, ◌+◌, ◌*◌, ◌^◌, ◌<◌, ◌≤◌, length, take, drop, get_or};
 ghost use Rattle.std.specs.Int.Count.{ones};
 ghost use Rattle.bits.specs.Bits.{bits, count, field, put};
-ghost use Rattle.bits.specs.Steps.{joined, eight, byte_of as the_byte_of, low_bytes, IsByte, IsRest};
+ghost use Rattle.bits.specs.Steps.{joined, eight, IsRest};
 
 // The eight bytes from byte `at` on.
 fn eight_at(bytes: &[u8], at: usize) -> [u8; 8]
@@ -90,14 +90,6 @@ pub fn short_word(bytes: &[u8], at: usize, n: usize) -> u64
     word_or_padded(bytes, at) >> (64 - n)
 }
 
-// Byte `at`.
-pub fn byte_at(bytes: &[u8], at: usize) -> u64
-    requires { at < length bytes.now }
-    ensures { IsByte bytes.now at result }
-{
-    u64::from(bytes[at])
-}
-
 // The bytes from byte `at` on.
 pub fn tail(bytes: &[u8], at: usize) -> &[u8]
     requires { at ≤ length bytes.now }
@@ -115,27 +107,11 @@ pub fn part(bytes: &[u8], at: usize, n: usize) -> &[u8]
 }
 
 // The bits from bit `start` on to the end of its byte.
-pub fn byte_rest(bytes: &[u8], start: usize) -> u64
+pub fn byte_rest(bytes: &[u8], start: usize) -> u8
     requires { start < 8 * length bytes.now }
     ensures { IsRest bytes.now start result }
 {
-    let room = 8 - start % 8;
-    byte_at(bytes, start / 8) & ((1 << room) - 1)
-}
-
-// The language's count of ones.
-pub fn ones_of(x: u64) -> usize
-    ensures { (result ≡ ones x) × (result ≤ 64) }
-{
-    u64::count_ones(x) as usize
-}
-
-// The ones of a byte.
-pub fn byte_ones(b: u64) -> usize
-    requires { b < 256 }
-    ensures { (result ≡ ones b) × (result ≤ 8) }
-{
-    ones_of(b)
+    bytes[start / 8] & (0xFF >> (start % 8))
 }
 
 // The ones of the 64 bits from byte `at` on: the order of bytes is no matter to a count.
@@ -143,7 +119,7 @@ pub fn word_ones(bytes: &[u8], at: usize) -> usize
     requires { at + 8 ≤ length bytes.now }
     ensures { (result ≡ count (take 64 (drop (8 * at) (bits bytes.now)))) × (result ≤ 64) }
 {
-    ones_of(low_word(bytes, at))
+    low_word(bytes, at).count_ones() as usize
 }
 
 // The ones of the n bits from byte `at` on, at most 64.
@@ -151,5 +127,5 @@ pub fn short_ones(bytes: &[u8], at: usize, n: usize) -> usize
     requires { (1 ≤ n) × (n ≤ 64) × (8 * at + n ≤ 8 * length bytes.now) }
     ensures { (result ≡ count (take n (drop (8 * at) (bits bytes.now)))) × (result ≤ n) }
 {
-    ones_of(short_word(bytes, at, n))
+    short_word(bytes, at, n).count_ones() as usize
 }

@@ -1,7 +1,8 @@
 -- `counts::ones_from` meets its contract, by the laws of a string that starts inside a byte.
-use mathlib.Core.Path.{◌≡◌, ◌∙◌, ap, sym}
+use mathlib.Core.Path.{◌≡◌, ap, sym, refl}
 use Prim.Native.Nat.{ℕ, ◌+◌}
 use native.Mathlib.Omega.{arith}
+use lib.Count.{ones}
 use lib.ListN.{take}
 use Rattle.bits.specs.Bits.{count}
 use Rattle.bits.specs.Laws.Rank.{count_take_le}
@@ -18,17 +19,15 @@ returns-then-n-eq0 c =
 pub returns-then-n-room : goal.returns-then-n-room
 returns-then-n-room c =
     let n = c.args.n in
-    c.ones_of.ensures.0 ∙ ones_within c.byte_rest-b.ensures n c.if-n-room.true
+    ones_within c.byte_rest-b.ensures n c.if-n-room.true
 
 -- the ones up to the end of the byte, and those after it
 all : (c : After-ones_after)
-    → c.ones_of-2.result + c.ones_after.result
+    → ones c.byte_rest-b.result + c.ones_after.result
     ≡ count (take c.args.n (from c.args.bytes.now c.args.start))
 all c =
-    let x = c.ones_of-2 in
     let y = c.ones_after in
-    ones_beyond c.byte_rest-b.ensures c.args.n x.result y.result (omega arith)
-    x.ensures.0 y.ensures
+    ones_beyond c.byte_rest-b.ensures c.args.n _ y.result (omega arith) refl y.ensures
 
 pub overflow_add-result : goal.overflow_add-result
 overflow_add-result c =

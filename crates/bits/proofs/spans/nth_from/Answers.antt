@@ -1,5 +1,5 @@
 -- `spans::nth_from` meets its contract: the parts passed have fewer ones than are left to go.
-use mathlib.Core.Path.{◌≡◌}
+use mathlib.Core.Path.{◌≡◌, refl}
 use mathlib.Core.Bool.{Bool}
 use mathlib.Core.List.{List}
 use Prim.Native.Nat.{ℕ, ◌+◌, ◌-◌, ◌≤◌}
@@ -25,7 +25,6 @@ found : (c : After-nth_in_word)
 found c =
     let a = c.args in
     let l = length_bits a.bytes.now in
-    let n = c.ones_of-c.ensures.0 in
     let inv = c.loop-at.invariant in
     let p = c.nth_in_word in
     nth_found a.places inv (omega arith) c.part_from-part.ensures p.result (omega arith) (omega arith)
@@ -47,13 +46,9 @@ returns-then-left-c c = (found (goal.at.returns-then-left-c c).After-nth_in_word
 
 pub loop-at-preserved : goal.loop-at-preserved
 loop-at-preserved c =
-    let n = c.ones_of-c in
     let inv = c.loop-at.invariant in
     let part = c.part_from-part.ensures in
-    nth_more c.args.places inv (omega arith) part n.result n.ensures.0 c.if-left-c.false
+    nth_more c.args.places inv (omega arith) part _ refl c.if-left-c.false
 
 pub returns : goal.returns
 returns c = nth_none c.args.places c.loop-at.invariant (omega arith)
-
-pub ones_of-c-requires : goal.ones_of-c-requires
-ones_of-c-requires c = tt

@@ -1,17 +1,19 @@
 -- `spans::window_of` meets its contract: the one stands in the first part, or in the word that was reached.
+use mathlib.Core.Path.{refl}
 use Prim.Native.Nat.{◌*◌, ◌<◌}
 use native.Mathlib.Omega.{arith}
+use lib.Count.{ones}
 use lib.ListN.{length}
 use Rattle.bits.specs.Bits.{bits}
 use Rattle.bits.proofs.Windows.{Opened, window_some, window_here, window_before, window_there}
 use Rattle.bits.proofs.spans.window_of.Goals as goal
-use Rattle.bits.proofs.spans.window_of.Goals.{After-ones_of-c, After-skip_from-reached}
+use Rattle.bits.proofs.spans.window_of.Goals.{After-part_from-first, After-skip_from-reached}
 
 -- the first part, read
-opened : (c : After-ones_of-c)
+opened : (c : After-part_from-first)
     → Opened (bits c.args.bytes.now) c.args.start c.args.end c.args.k
     (length c.args.bytes.now) c.part_from-first.result.width c.part_from-first.result.bits
-    c.ones_of-c.result
+    (ones c.part_from-first.result.bits)
 opened c =
     let pre = c.requires in
     record {
@@ -20,12 +22,12 @@ opened c =
       between = pre.2;
       held = pre.3;
       part = c.part_from-first.ensures;
-      count = c.ones_of-c.ensures.0;
+      count = refl;
     }
 
 -- the word that was reached begins before the end
 before : (c : After-skip_from-reached) → 8 * c.skip_from-reached.result.at < c.args.end
-before c = window_before (let it : Opened (bits c.args.bytes.now) c.args.start c.args.end c.args.k (length c.args.bytes.now) c.part_from-first.result.width c.part_from-first.result.bits c.ones_of-c.result = let pre = c.requires in record { some = pre.0; all = pre.1; between = pre.2; held = pre.3; part = c.part_from-first.ensures; count = c.ones_of-c.ensures.0 } in it) c.if-k-c.false c.skip_from-reached.ensures
+before c = window_before (let it : Opened (bits c.args.bytes.now) c.args.start c.args.end c.args.k (length c.args.bytes.now) c.part_from-first.result.width c.part_from-first.result.bits (ones c.part_from-first.result.bits) = let pre = c.requires in record { some = pre.0; all = pre.1; between = pre.2; held = pre.3; part = c.part_from-first.ensures; count = refl } in it) c.if-k-c.false c.skip_from-reached.ensures
 
 pub part_from-first-requires : goal.part_from-first-requires
 part_from-first-requires c =
@@ -35,7 +37,7 @@ part_from-first-requires c =
     omega arith
 
 pub returns-then-k-c : goal.returns-then-k-c
-returns-then-k-c c = window_here (opened (goal.at.returns-then-k-c c).After-ones_of-c) c.if-k-c.true
+returns-then-k-c c = window_here (opened (goal.at.returns-then-k-c c).After-part_from-first) c.if-k-c.true
 
 pub part_from-part-requires : goal.part_from-part-requires
 part_from-part-requires c = let l = before (goal.at.part_from-part-requires c).After-skip_from-reached in omega arith
@@ -45,5 +47,5 @@ overflow_mul-from c = let l = before (goal.at.overflow_mul-from c).After-skip_fr
 
 pub returns : goal.returns
 returns c =
-    let o = opened (goal.at.returns c).After-ones_of-c in
+    let o = opened (goal.at.returns c).After-part_from-first in
     window_there o c.if-k-c.false c.skip_from-reached.ensures c.part_from-part.ensures

@@ -13,6 +13,6 @@ returns c =
     let n = c.args.n in
     let at = c.args.at in
     let s = bits c.args.bytes.now in
-    let e : c.ones_of.result ≡ count (take n (drop (8 * at) s)) =
-    c.ones_of.ensures.0 ∙ ap ones c.short_word.ensures ∙ ones_field n s (8 * at) in
+    let e : ones c.short_word.result ≡ count (take n (drop (8 * at) s)) =
+    ap ones c.short_word.ensures ∙ ones_field n s (8 * at) in
     (e, omega (arith, count_take_le n (drop (8 * at) s)))

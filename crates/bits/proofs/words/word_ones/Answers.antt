@@ -1,7 +1,7 @@
 -- `words::word_ones` meets its contract: the ones of eight bytes are the same in either order.
 use mathlib.Core.Path.{◌∙◌, ap}
 use native.Mathlib.Omega.{arith}
-use lib.Count.{ones}
+use lib.Count.{ones, ones-le}
 use Rattle.bits.proofs.Turned.{turned_ones}
 use Rattle.bits.proofs.words.word_ones.Goals as goal
 
@@ -10,4 +10,4 @@ returns c =
     let args = c.args in
     let known = c.shared_slice_known-1 in
     let same = turned_ones args.bytes.now args.at (λ i. (known.given i).fits) (omega arith) in
-    (c.ones_of.ensures.0 ∙ ap ones c.low_word.ensures ∙ same, c.ones_of.ensures.1)
+    (ap ones c.low_word.ensures ∙ same, ones-le 64 c.low_word.result (omega arith))

@@ -1,7 +1,7 @@
--- `spans::ones8` meets its contract: the ones of eight bits are those of two times four.
+-- `halving::ones8` meets its contract: the ones of eight bits are those of two times four.
 use lib.Bits.{and_mask, mask_lt}
 use Rattle.bits.proofs.Halves.{ones_byte}
-use Rattle.bits.proofs.spans.ones8.Goals as goal
+use Rattle.bits.proofs.halving.ones8.Goals as goal
 
 pub ones4-requires-2 : goal.ones4-requires-2
 ones4-requires-2 c = mask_lt c.args.x 4

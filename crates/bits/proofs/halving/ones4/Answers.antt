@@ -1,11 +1,11 @@
--- `spans::ones4` meets its contract: the table's rule at one entry.
+-- `halving::ones4` meets its contract: the table's rule at one entry.
 use mathlib.Core.Path.{◌≡◌, ◌∙◌}
 use Prim.Native.Nat.{◌*◌, ◌/◌, ◌^◌}
 use native.Mathlib.Omega.{arith}
 use lib.Bits.{bit_and, and_mask}
 use lib.Count.{ones, ones-le}
 use Rattle.bits.proofs.Halves.{ones_nibble}
-use Rattle.bits.proofs.spans.ones4.Goals as goal
+use Rattle.bits.proofs.halving.ones4.Goals as goal
 
 pub returns : goal.returns
 returns c =

@@ -1,8 +1,8 @@
--- `spans::nth_in_word` meets its contract: the first one is the highest.
+-- `halving::nth_in_word` meets its contract: the first one is the highest.
 use mathlib.Core.Path.{sym}
 use native.Mathlib.Omega.{arith}
 use Rattle.bits.proofs.Tops.{some_one, select_top}
-use Rattle.bits.proofs.spans.nth_in_word.Goals as goal
+use Rattle.bits.proofs.halving.nth_in_word.Goals as goal
 
 pub top-requires : goal.top-requires
 top-requires c =
