@@ -1,42 +1,20 @@
 // Standard input.
-ghost use Rattle.std.specs.Prelude.{◌≤◌, length};
-ghost use Rattle.loomlist.specs.Input.{Within};
+ghost use Rattle.std.specs.Prelude.{◌≤◌, length, IfOk};
 
-use std::io::{Error, Read};
+use std::io;
+use std::io::Read;
 
-// How many bytes were read, or why a read failed.
-#[derive(Drop)]
-pub enum Input {
-    Read(usize),
-    Failed(Error),
-}
-
-// Reads once, behind the bytes that are there. Tells how many there are then.
-fn read_on(from: &mut impl Read, room: &mut [u8], done: usize) -> Input
-    requires { done ≤ length room.old }
-    ensures { Within done (length room.old) result }
+// Reads until the room is full or the input ends, and tells how many bytes were read.
+pub fn read_all(from: &mut impl Read, room: &mut [u8]) -> io::Result<usize>
+    ensures { IfOk result (λ len. len ≤ length room.old) }
 {
-    match from.read(&mut room[done..]) {
-        Err(e) => Input::Failed(e),
-        Ok(got) => Input::Read(done + got),
-    }
-}
-
-// Reads until the room is full or the input ends.
-pub fn read_all(from: &mut impl Read, room: &mut [u8]) -> Input
-    ensures { Within 0 (length room.old) result }
-{
-    let mut done = 0;
-    while done < room.len() {
-        match read_on(from, room, done) {
-            Input::Failed(e) => return Input::Failed(e),
-            Input::Read(k) => {
-                if k == done {
-                    return Input::Read(done);
-                }
-                done = k;
-            }
+    let mut len = 0;
+    while len < room.len() {
+        let got = from.read(&mut room[len..])?;
+        if got == 0 {
+            break;
         }
+        len += got;
     }
-    Input::Read(done)
+    Ok(len)
 }

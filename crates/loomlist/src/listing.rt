@@ -1,196 +1,69 @@
-// What the program prints. The lines of a listing are put to one buffer, which goes out in one piece.
-ghost use Rattle.std.specs.Prelude.{◌≡◌, ◌+◌, ◌≤◌, ◌<◌, length};
-ghost use Rattle.loomlist.specs.Listing.{Sized};
+// What the program prints.
+ghost use Rattle.std.specs.Prelude.{◌≡◌, ◌≤◌, length};
 
-use adjacency::cells::get;
+use arrayvec::ArrayString;
 use record::Refusal;
-use std::io::Error;
+use std::fmt::Write as _;
+use std::{fmt, io};
 
 // One line, for a call with an argument. Where it can't be written there is nowhere to say so.
 pub fn usage(rt: &HostRuntime) {
     eprintln!(rt; "usage: loomlist < RECORD").ok();
 }
 
-// Where the system's words end: std puts the error's number behind them, in brackets.
-fn words_end(told: &[u8]) -> usize
-    ensures { result ≤ length told.now }
-{
-    let mut end = told.len();
-    for (i, b) in told.iter().enumerate() {
-        if *b == b'(' && i > 0 {
-            end = i - 1;
-        }
-    }
-    end
-}
-
-fn complain(rt: &HostRuntime, what: &[u8], told: &[u8]) -> Result<(), Error> {
-    let to = rt.stderr();
-    to.write_all(b"loomlist: ")?;
-    to.write_all(what)?;
-    to.write_all(b": ")?;
-    to.write_all(&told[..words_end(told)])?;
-    to.write_all(b"\n")
-}
-
-// What failed and why, in one line.
-fn failed(rt: &HostRuntime, what: &[u8], error: Error) {
-    match format!(in rt.alloc(); "{error}") {
-        Ok(told) => complain(rt, what, told.as_bytes()).ok(),
-        Err(_) => complain(rt, what, b"out of memory").ok(),
+// What failed and why, in one line: the system's words, without the error's number, which std puts behind them in
+// brackets.
+pub fn failed(rt: &HostRuntime, what: &str, error: io::Error) {
+    let told = format!(in rt.alloc(); "{error}");
+    let words = match &told {
+        Ok(told) => told
+            .rsplit_once(" (")
+            .map_or(told.as_str(), |(words, _)| words),
+        Err(_) => "out of memory",
     };
+    eprintln!(rt; "loomlist: {what}: {words}").ok();
 }
 
-// Why the input could not be read.
-pub fn unread(rt: &HostRuntime, error: Error) {
-    failed(rt, b"standard input", error);
+// What Table writes of a record, from 1 on for each terminal, and the loop figure.
+#[derive(Clone, Copy)]
+pub struct Listing<'a> {
+    pub visits: &'a [u16],
+    pub parents: &'a [u16],
+    pub counts: &'a [u16],
+    pub heads: &'a [u16],
+    pub loops: usize,
+    ghost parents_fit: { length parents.now ≡ length visits.now },
+    ghost counts_fit: { length counts.now ≡ length visits.now },
+    ghost heads_fit: { length heads.now ≡ length visits.now },
 }
 
-// Writes the text to standard output, or says why that failed.
-fn send(rt: &HostRuntime, text: &[u8]) {
-    if let Err(error) = rt.write_all(text) {
-        failed(rt, b"standard output", error);
+// A heading, a line for each terminal, and the loop figure's.
+impl fmt::Display for Listing<'_> {
+    fn fmt<W: fmt::Write>(&self, f: &mut fmt::Formatter<W>) -> fmt::Result {
+        writeln!(f, "terminal visit parent children head")?;
+        for v in 0..self.visits.len() {
+            writeln!(
+                f,
+                "{} {} {} {} {}",
+                v + 1,
+                self.visits[v],
+                self.parents[v],
+                self.counts[v],
+                self.heads[v]
+            )?;
+        }
+        writeln!(f, "loops {}", self.loops)
     }
 }
 
-// ---- texts and numbers, put to a buffer; each function returns where the next one goes
-
-fn put(out: &mut [u8], at: usize, text: &[u8]) -> usize
-    requires { (at + length text.now ≤ length out.old) × (at < 1000000) × (length text.now < 1000000) }
-    ensures { result ≡ at + length text.now }
-{
-    let mut i = 0;
-    while i < text.len() {
-        out[at + i] = text[i];
-        i += 1;
-    }
-    at + text.len()
+// Prints the listing of at most 4,096 terminals, which takes at most 36 bytes, 30 for each terminal, and 27. It is put
+// together first, and goes out in one piece.
+pub fn accepted(rt: &HostRuntime, listing: &Listing) -> io::Result<()> {
+    let mut text = ArrayString::<122943>::new();
+    write!(text, "{listing}")?;
+    rt.write_all(text.as_bytes())
 }
 
-// A number, and a byte behind it: at most 20 digits, and at most 5 of a number of 16 bits.
-fn number(out: &mut [u8], at: usize, x: u64, behind: u8) -> usize
-    requires { (at + 21 ≤ length out.old) × (at < 900000) }
-    ensures { (result ≤ at + 21) × (x < 65536 → result ≤ at + 6) }
-{
-    let mut digits = [0u8; 20];
-    let k = io::decimal(x, &mut digits);
-    let end = put(out, at, &digits[..k]);
-    out[end] = behind;
-    end + 1
-}
-
-// Terminal v's line, of at most 30 bytes.
-fn line(
-    out: &mut [u8],
-    at: usize,
-    v: usize,
-    visit: usize,
-    parent: usize,
-    count: usize,
-    head: usize,
-) -> usize
-    requires { (at + 45 ≤ length out.old)
-        × (at < 800000)
-        × (v < 65536)
-        × (visit < 65536)
-        × (parent < 65536)
-        × (count < 65536)
-        × (head < 65536) }
-    ensures { result ≤ at + 30 }
-{
-    let a = number(out, at, v as u64, b' ');
-    let b = number(out, a, visit as u64, b' ');
-    let c = number(out, b, parent as u64, b' ');
-    let d = number(out, c, count as u64, b' ');
-    number(out, d, head as u64, b'\n')
-}
-
-// The lines of all terminals.
-fn lines(
-    n: usize,
-    visits: &[u16],
-    parents: &[u16],
-    counts: &[u16],
-    heads: &[u16],
-    out: &mut [u8],
-    from: usize,
-) -> usize
-    requires { (Sized n visits.now parents.now counts.now heads.now)
-        × (length out.old ≡ 122943)
-        × (from ≤ 36) }
-    ensures { result ≤ 122916 }
-{
-    let mut at = from;
-    let mut v = 0;
-    while v < n {
-        at = line(
-            out,
-            at,
-            v + 1,
-            get(visits, v),
-            get(parents, v),
-            get(counts, v),
-            get(heads, v),
-        );
-        v += 1;
-    }
-    at
-}
-
-// The loop figure's line, of at most 27 bytes.
-fn loops(out: &mut [u8], at: usize, figure: usize) -> usize
-    requires { (at + 27 ≤ length out.old) × (at < 800000) }
-    ensures { result ≤ at + 27 }
-{
-    let from = put(out, at, b"loops ");
-    number(out, from, figure as u64, b'\n')
-}
-
-// ---- the two answers
-
-fn refused_line(rt: &HostRuntime, k: usize, out: &mut [u8])
-    requires { length out.old ≡ 32 }
-{
-    let at = put(out, 0, b"refused ");
-    let end = number(out, at, k as u64, b'\n');
-    send(rt, &out[..end]);
-}
-
-pub fn refused(rt: &HostRuntime, r: Refusal) {
-    let mut room = [0u8; 32];
-    refused_line(rt, record::number_of(r), &mut room);
-}
-
-fn all_lines(
-    rt: &HostRuntime,
-    n: usize,
-    visits: &[u16],
-    parents: &[u16],
-    counts: &[u16],
-    heads: &[u16],
-    figure: usize,
-    out: &mut [u8],
-)
-    requires { (Sized n visits.now parents.now counts.now heads.now) × (length out.old ≡ 122943) }
-{
-    let first = put(out, 0, b"terminal visit parent children head\n");
-    let last = lines(n, visits, parents, counts, heads, out, first);
-    let end = loops(out, last, figure);
-    send(rt, &out[..end]);
-}
-
-// The heading, a line for each terminal, and the loop figure.
-pub fn accepted(
-    rt: &HostRuntime,
-    n: usize,
-    visits: &[u16],
-    parents: &[u16],
-    counts: &[u16],
-    heads: &[u16],
-    figure: usize,
-)
-    requires { Sized n visits.now parents.now counts.now heads.now }
-{
-    let mut room = [0u8; 122943];
-    all_lines(rt, n, visits, parents, counts, heads, figure, &mut room);
+pub fn refused(rt: &HostRuntime, r: Refusal) -> io::Result<()> {
+    println!(rt; "refused {}", record::number_of(r))
 }

@@ -8,14 +8,13 @@ ghost use Rattle.record.specs.Operations.{Accepted};
 ghost use Rattle.record.specs.Steps.{Sound};
 ghost use Rattle.forest.specs.Operations.{first_start as first_start_of, loop_figure};
 ghost use Rattle.queries.specs.Table.{table_of};
-ghost use Rattle.loomlist.specs.Listing.{Sized};
 
 use forest::roots::loops_by;
 use forest::start::first_start;
-use input::Input;
-use listing::refused;
+use listing::Listing;
 use record::{Shape, Verdict};
 use std::env::{Env, FillError};
+use std::io;
 
 mod input; // input.rt: standard input
 mod listing; // listing.rt: what is printed
@@ -30,31 +29,8 @@ fn figure(bytes: &[u8], n: usize, m: usize, parents: &[u16]) -> usize
     loops_by(m, parents)
 }
 
-// The table of a record, from its first terminal on, and the listing. The slices are room to work in.
-fn list(
-    rt: &HostRuntime,
-    bytes: &[u8],
-    n: usize,
-    m: usize,
-    work: &mut [u16],
-    visits: &mut [u16],
-    parents: &mut [u16],
-    counts: &mut [u16],
-    heads: &mut [u16],
-)
-    requires { (Sound bytes.now n m) × (Sized n visits.old parents.old counts.old heads.old) }
-{
-    match queries::table(bytes, first_start(n), work, visits, parents, counts, heads) {
-        Verdict::Refused(r) => refused(rt, r),
-        Verdict::Accepted => {
-            let loops = figure(bytes, n, m, parents);
-            listing::accepted(rt, n, visits, parents, counts, heads, loops);
-        }
-    }
-}
-
-// With room for the table, and for Build's work.
-fn with_room(rt: &HostRuntime, bytes: &[u8], n: usize, m: usize)
+// The table of a record, from its first terminal on, and the listing.
+fn list(rt: &HostRuntime, bytes: &[u8], n: usize, m: usize) -> io::Result<()>
     requires { Sound bytes.now n m }
 {
     let mut work = [0u16; 32768];
@@ -62,45 +38,37 @@ fn with_room(rt: &HostRuntime, bytes: &[u8], n: usize, m: usize)
     let mut parents = [0u16; 4096];
     let mut counts = [0u16; 4096];
     let mut heads = [0u16; 4096];
-    let cells = 8 * n;
-    list(
-        rt,
-        bytes,
-        n,
-        m,
-        &mut work[..cells],
-        &mut visits[..n],
-        &mut parents[..n],
-        &mut counts[..n],
-        &mut heads[..n],
-    );
-}
-
-fn run(rt: &HostRuntime, bytes: &[u8]) {
-    match record::header::order_r(bytes) {
-        Shape::Refused(r) => refused(rt, r),
-        Shape::Passed(s) => {
-            let n = s.n;
-            let m = s.m;
-            with_room(rt, bytes, n, m);
+    let work = &mut work[..8 * n];
+    let visits = &mut visits[..n];
+    let parents = &mut parents[..n];
+    let counts = &mut counts[..n];
+    let heads = &mut heads[..n];
+    match queries::table(bytes, first_start(n), work, visits, parents, counts, heads) {
+        Verdict::Refused(r) => listing::refused(rt, r),
+        Verdict::Accepted => {
+            let loops = figure(bytes, n, m, parents);
+            let listing = Listing {
+                visits,
+                parents,
+                counts,
+                heads,
+                loops,
+            };
+            listing::accepted(rt, &listing)
         }
     }
 }
 
-fn read(rt: &HostRuntime, room: &mut [u8]) {
-    match input::read_all(&mut rt.stdin(), room) {
-        Input::Failed(error) => listing::unread(rt, error),
-        Input::Read(len) => run(rt, &room[..len]),
+fn run(rt: &HostRuntime, bytes: &[u8]) -> io::Result<()> {
+    match record::header::order_r(bytes) {
+        Shape::Refused(r) => listing::refused(rt, r),
+        Shape::Passed(s) => list(rt, bytes, s.n, s.m),
     }
 }
 
 // Whether the program was called with an argument.
 fn has_argument(rt: &HostRuntime) -> bool {
-    let mut room = [0u8; 1];
-    match rt.arg(1, &mut room) {
-        Err(FillError::NotPresent) => false,
-        _ => true,
-    }
+    !matches!(rt.arg(1, &mut [0u8; 1]), Err(FillError::NotPresent))
 }
 
 // There is room for a byte more than the longest record has, so that a longer input is refused as one of a wrong
@@ -111,5 +79,12 @@ fn main(rt: HostRuntime) {
         return;
     }
     let mut room = [0u8; 53765];
-    read(&rt, &mut room);
+    match input::read_all(&mut rt.stdin(), &mut room) {
+        Err(error) => listing::failed(&rt, "standard input", error),
+        Ok(len) => {
+            if let Err(error) = run(&rt, &room[..len]) {
+                listing::failed(&rt, "standard output", error);
+            }
+        }
+    }
 }

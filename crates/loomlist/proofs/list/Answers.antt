@@ -10,7 +10,7 @@ pub figure-loops-requires : goal.figure-loops-requires
 figure-loops-requires c =
     let bytes = c.args.bytes.now in
     let (accepted, left) = table_left c.table.ensures (ap verdict c.in-Accepted.is) in (
-      c.requires.0,
+      c.requires,
       accepted,
       ap (λ (t : Columns). t.parents) left
           ∙ ap (λ (x : ℕ). (table_of bytes x).parents) c.first_start.ensures,

@@ -2,8 +2,8 @@
 use Rattle.std.proofs.Common.{◌≡◌, ◌-◌, ◌≤◌, length}
 use Rattle.loomlist.proofs.input.read_all.Given as goal
 
-abbrev pub invariant-loop-done : goal.invariant-loop-done
-invariant-loop-done g l = (l.done ≤ length l.room) × (length l.room ≡ length l.initial.room)
+abbrev pub invariant-loop-len : goal.invariant-loop-len
+invariant-loop-len g l = (l.len ≤ length l.room) × (length l.room ≡ length l.initial.room)
 
-abbrev pub decreases-loop-done : goal.decreases-loop-done
-decreases-loop-done g l = length l.room - l.done
+abbrev pub decreases-loop-len : goal.decreases-loop-len
+decreases-loop-len g l = length l.room - l.len
