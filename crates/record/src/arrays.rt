@@ -9,6 +9,7 @@ use super::fields::read_fields;
 use super::layout::{LaidOut, Layout};
 use super::rules::try_rules;
 use super::starts::fill_starts;
+use adjacency::lists::Lists;
 
 // The two arrays are filled.
 fn fill_arrays(l: &Layout, starts: &mut [u16], nbrs: &mut [u16])
@@ -32,5 +33,5 @@ pub fn check_arrays(
         × (ArraysOf laid.now.layout.bytes.now starts.new nbrs.new laid.now.layout.n laid.now.layout.m) }
 {
     fill_arrays(&laid.layout, starts, nbrs);
-    try_rules(starts, nbrs, reverse, next)
+    try_rules(&Lists { starts, nbrs }, reverse, next)
 }

@@ -19,16 +19,7 @@ fn bad_unary(bytes: &[u8], n: usize, m: usize) -> bool
         (unary bytes.now)) }
 {
     let places = n + 2 * m;
-    if bits::rank(bytes, 28, places, places) != n {
-        return true;
-    }
-    if places == 0 {
-        return false;
-    }
-    if bits::fields::read_bit(bytes, 28) {
-        return false;
-    }
-    true
+    bits::rank(bytes, 28, places, places) != n || places != 0 && !bits::fields::read_bit(bytes, 28)
 }
 
 // Order R, with the record's layout handed on.
@@ -41,10 +32,7 @@ pub fn order_r(bytes: &[u8]) -> Result<Layout<'_>, Refusal>
     }
     let n = bits::fields::read::<13>(bytes, 0);
     let m = bits::fields::read::<15>(bytes, 13);
-    if 4096 < n {
-        return Err(Refusal::OverLimit);
-    }
-    if 16384 < m {
+    if 4096 < n || 16384 < m {
         return Err(Refusal::OverLimit);
     }
     if bytes.len() != record_length(n, m) {

@@ -7,5 +7,5 @@ pub fn record_length(n: usize, m: usize) -> usize
     requires { (n ≤ 4096) × (m ≤ 16384) }
     ensures { result ≡ record_length_of n m }
 {
-    (28 + (n + 2 * m) + 12 * (2 * m) + 7) / 8
+    (28 + (n + 2 * m) + 12 * (2 * m)).div_ceil(8)
 }

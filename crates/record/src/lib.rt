@@ -126,9 +126,7 @@ pub fn neighbours<'a, 'b>(bytes: &'a [u8], list: &'b [u16], v: Vertex) -> &'b [u
         × (result.ref_ptr ≡ further list.entry.ref_ptr (neighbours_before bytes.now list.now v.0)) }
 {
     let p = part_of(bytes, list.len(), v);
-    let from = p.from;
-    let to = from + p.size;
-    &list[from..to]
+    &list[p.from..p.from + p.size]
 }
 
 // File: writes the record that a list of degrees and one list of neighbours, numbers from 1, give. A refused call

@@ -10,6 +10,7 @@ ghost use Rattle.record.specs.Steps.{Listed, vertex_of as the_vertex_of, graph_f
 use super::Refusal;
 use super::rules::try_rules;
 use adjacency::cells::{get, put};
+use adjacency::lists::Lists;
 
 // Two lists that rule 16 lets pass: the degrees of the terminals, and the neighbours of all in a row.
 #[derive(Clone, Copy)]
@@ -84,5 +85,5 @@ pub fn try_lists(
 {
     fill_starts(lists, starts);
     fill_neighbours(lists.neighbours, nbrs);
-    try_rules(starts, nbrs, reverse, next)
+    try_rules(&Lists { starts, nbrs }, reverse, next)
 }

@@ -7,8 +7,5 @@ ghost use Rattle.record.specs.Operations.{out_of_range as out_of_range_of};
 pub fn out_of_range(n: usize, k: usize) -> bool
     ensures { result ≡ out_of_range_of n k }
 {
-    if k == 0 {
-        return true;
-    }
-    n < k
+    k == 0 || n < k
 }

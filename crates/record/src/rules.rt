@@ -1,7 +1,7 @@
 // Rules 6 and 8 of a graph in two arrays.
 ghost use Rattle.std.specs.Prelude.{◌≡◌, ◌+◌, length};
 ghost use Rattle.graph.specs.Graph.{Blocks};
-ghost use Rattle.adjacency.specs.Arrays.{cut, Divided};
+ghost use Rattle.adjacency.specs.Arrays.{cut};
 ghost use Rattle.record.specs.Answers.{verdict};
 ghost use Rattle.record.specs.Operations.{check_graph};
 
@@ -12,22 +12,15 @@ use adjacency::strays::some_stray;
 
 // Both at once; after a no, the first broken one. The last two slices are room: a number for each place, and for each
 // terminal.
-pub fn try_rules(
-    starts: &[u16],
-    nbrs: &[u16],
-    reverse: &mut [u16],
-    next: &mut [u16],
-) -> Result<(), Refusal>
-    requires divided { Divided starts.now nbrs.now }
-    requires reverse_len { (length reverse.old ≡ length nbrs.now) × (length next.old + 1 ≡ length starts.now) }
-    ensures { let g : Blocks = cut starts.now nbrs.now in verdict result ≡ check_graph g }
+pub fn try_rules(lists: &Lists, reverse: &mut [u16], next: &mut [u16]) -> Result<(), Refusal>
+    requires { (length reverse.old ≡ length lists.now.nbrs.now) × (length next.old + 1 ≡ length lists.now.starts.now) }
+    ensures { let g : Blocks = cut lists.now.starts.now lists.now.nbrs.now in verdict result ≡ check_graph g }
 {
-    let lists = Lists { starts, nbrs };
-    if all_mutual(&lists, reverse, next) {
-        return Ok(());
+    if all_mutual(lists, reverse, next) {
+        Ok(())
+    } else if some_stray(lists) {
+        Err(Refusal::StrayNeighbour)
+    } else {
+        Err(Refusal::OneSidedWire)
     }
-    if some_stray(&lists) {
-        return Err(Refusal::StrayNeighbour);
-    }
-    Err(Refusal::OneSidedWire)
 }

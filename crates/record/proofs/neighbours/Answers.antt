@@ -5,11 +5,11 @@ use Rattle.record.specs.Operations.{further}
 use Rattle.record.specs.Laws.OneBlock.{part_fits, part_listed, part_near}
 use Rattle.record.proofs.neighbours.Goals as goal
 
-pub overflow_add-to : goal.overflow_add-to
-overflow_add-to c = let n = part_near c.part_of-p.ensures in omega arith
+pub overflow_add-result : goal.overflow_add-result
+overflow_add-result c = let n = part_near c.part_of-p.ensures in omega arith
 
-pub offset_bounds-list-from : goal.offset_bounds-list-from
-offset_bounds-list-from c = let n = part_near c.part_of-p.ensures in omega arith
+pub offset_bounds-list-p : goal.offset_bounds-list-p
+offset_bounds-list-p c = let n = part_near c.part_of-p.ensures in omega arith
 
 pub slice_bounds-result-end : goal.slice_bounds-result-end
 slice_bounds-result-end c =

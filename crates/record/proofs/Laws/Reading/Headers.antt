@@ -1,5 +1,5 @@
 -- Order R, rule by rule, in the words of the code that tries it.
-use mathlib.Core.Path.{◌≡◌, sym, ap, ◌∙◌}
+use mathlib.Core.Path.{◌≡◌, sym, ap, ap₂, ◌∙◌}
 use mathlib.Core.Bool.{Bool, true, false, not, ◌||◌}
 use mathlib.Core.List.{List, [], ◌∷◌}
 use Prim.Native.Nat.{ℕ, zero, suc, ◌+◌, ◌*◌, ◌≤◌, ◌<◌}
@@ -12,13 +12,21 @@ use Rattle.bits.specs.Bits.{bits, string, count, rank}
 use Rattle.bits.specs.Laws.Bytes.{length_bits}
 use Rattle.bits.specs.Laws.Rank.{held, length_string, rank_past}
 use Rattle.record.specs.Record.{terminals, wires, used_bits, record_length, unary}
-use Rattle.record.specs.Rules.{first_broken, order_r, begins_with_zero, spare_set, layout_rules}
-use Rattle.record.specs.Answers.{refused, answered, tried}
+use Rattle.record.specs.Rules.{Rule, first_broken, order_r, begins_with_zero, spare_set, layout_rules}
+use Rattle.record.specs.Answers.{Answer, refused, answered, tried}
 use Rattle.record.specs.Sized.{sizes_of}
 use Rattle.record.specs.Sized.{Sizes}
-use Rattle.record.specs.Steps.{Headed}
+use Rattle.record.specs.Steps.{Headed, Sound}
+use Rattle.record.specs.Laws.Sounded.{sound_of}
+use Rattle.graph.specs.Laws.Places.Basics.{or_left, or_right}
+use Rattle.std.specs.Prelude.{◌⊎◌}
+use Rattle.std.proofs.Common.{inl, inr}
 use Rattle.record.specs.Laws.First.{first_broken_lem, first_kept, append_kept, order_numbered}
-use Rattle.record.specs.Laws.Told.{told, untold, untold_back, told_append}
+use Rattle.record.specs.Laws.Told.{told, untold, untold_back}
+
+-- what is left after rule 3
+abbrev last : List ℕ → List Rule
+last bytes = (4, not (eqb (count (unary bytes)) (terminals bytes)) || begins_with_zero (unary bytes)) ∷ []
 
 module _ (bytes : List ℕ) where
   pub rule_1 : length bytes < 4 → first_broken (order_r bytes) ≡ 1
@@ -26,43 +34,27 @@ module _ (bytes : List ℕ) where
   rule_1 h = first_broken_lem 1 _ (lt-ltb (length bytes) 4 h)
 
   module _ (long : 4 ≤ length bytes) where
-    pub rule_2_n : 4096 < terminals bytes → first_broken (order_r bytes) ≡ 2
+    pub rule_2 : {n m : ℕ} → n ≡ terminals bytes → m ≡ wires bytes → (4096 < n) ⊎ ((n ≤ 4096) × (16384 < m))
+        → first_broken (order_r bytes) ≡ 2
     unfolding order_r
-    rule_2_n h = first_kept 1 _ (le-ltb (length bytes) 4 long) ∙ first_broken_lem 2 _ (rw (lt-ltb 4096 (terminals bytes) h))
+    rule_2 {n} {m} is_n is_m h = first_kept 1 _ (le-ltb (length bytes) 4 long) ∙ first_broken_lem 2 _ (go h)
+      where
+        go : (4096 < n) ⊎ ((n ≤ 4096) × (16384 < m)) → (ltb 4096 (terminals bytes) || ltb 16384 (wires bytes)) ≡ true
+        go (inl l) = or_left (ltb 16384 (wires bytes)) (lt-ltb 4096 (terminals bytes) (omega arith))
+        go (inr (_, l)) = or_right (ltb 4096 (terminals bytes)) (lt-ltb 16384 (wires bytes) (omega arith))
 
-    module _ (n_fits : terminals bytes ≤ 4096) where
-      pub rule_2_m : 16384 < wires bytes → first_broken (order_r bytes) ≡ 2
+    module _ (n_fits : terminals bytes ≤ 4096) (m_fits : wires bytes ≤ 16384) where
+      past_2 : first_broken (order_r bytes)
+          ≡ first_broken ((3, not (eqb (length bytes) (record_length (terminals bytes) (wires bytes)))) ∷ last bytes)
       unfolding order_r
-      rule_2_m h =
+      past_2 =
           first_kept 1 _ (le-ltb (length bytes) 4 long)
-          ∙ first_broken_lem 2 _ (rw (le-ltb 4096 (terminals bytes) n_fits, lt-ltb 16384 (wires bytes) h))
+          ∙ first_kept 2 _ (rw (le-ltb 4096 (terminals bytes) n_fits, le-ltb 16384 (wires bytes) m_fits))
 
-      module _ (m_fits : wires bytes ≤ 16384) where
-        sizes_fit : (ltb 4096 (terminals bytes) || ltb 16384 (wires bytes)) ≡ false
-        sizes_fit = rw (le-ltb 4096 (terminals bytes) n_fits, le-ltb 16384 (wires bytes) m_fits)
-
-        pub rule_3 : (length bytes ≡ record_length (terminals bytes) (wires bytes) → ⊥) → first_broken (order_r bytes) ≡ 3
-        unfolding order_r
-        rule_3 h =
-            first_kept 1 _ (le-ltb (length bytes) 4 long) ∙ first_kept 2 _ sizes_fit
-            ∙ first_broken_lem 3 _ (rw (ne_eqb (length bytes) (record_length (terminals bytes) (wires bytes)) h))
-
-        module _ (sized : length bytes ≡ record_length (terminals bytes) (wires bytes)) {b : Bool}
-            (tested : b ≡ (not (eqb (count (unary bytes)) (terminals bytes)) || begins_with_zero (unary bytes))) where
-          rule_last : first_broken (order_r bytes)
-              ≡ first_broken
-              ((4, not (eqb (count (unary bytes)) (terminals bytes)) || begins_with_zero (unary bytes)) ∷ [])
-          unfolding order_r
-          rule_last =
-              first_kept 1 _ (le-ltb (length bytes) 4 long) ∙ first_kept 2 _ sizes_fit
-              ∙ first_kept 3 _ (rw (eq-eqb (length bytes) (record_length (terminals bytes) (wires bytes)) sized))
-
-          pub rule_4 : b ≡ true → first_broken (order_r bytes) ≡ 4
-          rule_4 h = rule_last ∙ first_broken_lem 4 [] (sym tested ∙ h)
-
-          pub rules_kept : b ≡ false → first_broken (order_r bytes) ≡ 0
-          unfolding first_broken
-          rules_kept h = rule_last ∙ first_kept 4 [] (sym tested ∙ h)
+      pub rule_3 : (length bytes ≡ record_length (terminals bytes) (wires bytes) → ⊥) → first_broken (order_r bytes) ≡ 3
+      rule_3 h =
+          past_2
+          ∙ first_broken_lem 3 _ (ap not (ne_eqb (length bytes) (record_length (terminals bytes) (wires bytes)) h))
 
 -- ---- D, where rules 1 to 3 are kept
 
@@ -124,24 +116,44 @@ module _ {bytes : List ℕ} {n m : ℕ} (headed : Headed bytes n m) where
           go zero h e = absurd (omega arith)
           go (suc k) h e = ap begins_with_zero (e ∙ ap (take (suc k)) (drop-cons (bits bytes) 28 false inside))
 
--- ---- order R, and then rule 5
+  -- and rule 4 is left
+  module _ {b : Bool} (tested : b ≡ (not (eqb (count (unary bytes)) (terminals bytes)) || begins_with_zero (unary bytes))) where
+    rule_last : first_broken (order_r bytes) ≡ first_broken (last bytes)
+    unfolding record_length used_bits
+    rule_last =
+        let n = headed.is_n in
+        let m = headed.is_m in
+        let n_fits = headed.n_fits in
+        let m_fits = headed.m_fits in
+        let s = headed.sized in
+        let e : length bytes ≡ record_length (terminals bytes) (wires bytes) = s ∙ ap₂ record_length n m in
+        past_2 bytes (omega arith) (omega arith) (omega arith) ∙ first_kept 3 _ (ap not (eq-eqb (length bytes) _ e))
 
-module _ (bytes : List ℕ) where
-  pub layout_refused : {k : ℕ} → refused k ≡ tried (order_r bytes) (sizes_of bytes)
-      → refused k ≡ tried (layout_rules bytes) (sizes_of bytes)
-  unfolding layout_rules
-  layout_refused e = told_append (order_r bytes) _ (sizes_of bytes) (sizes_of bytes) e
+    pub rule_4 : b ≡ true → first_broken (order_r bytes) ≡ 4
+    rule_4 h = rule_last ∙ first_broken_lem 4 [] (sym tested ∙ h)
 
-  module _ {s : Sizes} (e : answered s ≡ tried (order_r bytes) (sizes_of bytes)) where
-    left_5 : first_broken (layout_rules bytes) ≡ first_broken ((5, spare_set bytes) ∷ [])
-    unfolding layout_rules
-    left_5 = append_kept (order_numbered bytes) _ (untold_back (first_broken (order_r bytes)) (sizes_of bytes) e).0
-
-    pub layout_spare : spare_set bytes ≡ true → refused 5 ≡ tried (layout_rules bytes) (sizes_of bytes)
-    layout_spare b = told (sizes_of bytes) (left_5 ∙ first_broken_lem 5 [] b)
-
-    pub layout_kept : spare_set bytes ≡ false → answered s ≡ tried (layout_rules bytes) (sizes_of bytes)
+    pub headed_sound : b ≡ false → Sound bytes n m
     unfolding first_broken
-    layout_kept b =
-        let g = (untold_back (first_broken (order_r bytes)) (sizes_of bytes) e).1 in
-        ap answered g ∙ untold (sizes_of bytes) (left_5 ∙ first_kept 5 [] b)
+    headed_sound h = sound_of bytes (rule_last ∙ first_kept 4 [] (sym tested ∙ h)) headed.is_n headed.is_m
+
+-- ---- order R is kept, and then rule 5
+
+pub sound_told : {bytes : List ℕ} {n m : ℕ} → Sound bytes n m
+    → answered (record { n = n; m = m }) ≡ tried (order_r bytes) (sizes_of bytes)
+sound_told {bytes} s =
+    let sized : ℕ → ℕ → Answer Sizes = λ x y. answered (record { n = x; m = y }) in
+    ap₂ sized s.is_n s.is_m ∙ untold (sizes_of bytes) s.kept
+
+module _ (bytes : List ℕ) {s : Sizes} (e : answered s ≡ tried (order_r bytes) (sizes_of bytes)) where
+  left_5 : first_broken (layout_rules bytes) ≡ first_broken ((5, spare_set bytes) ∷ [])
+  unfolding layout_rules
+  left_5 = append_kept (order_numbered bytes) _ (untold_back (first_broken (order_r bytes)) (sizes_of bytes) e).0
+
+  pub layout_spare : spare_set bytes ≡ true → refused 5 ≡ tried (layout_rules bytes) (sizes_of bytes)
+  layout_spare b = told (sizes_of bytes) (left_5 ∙ first_broken_lem 5 [] b)
+
+  pub layout_kept : spare_set bytes ≡ false → answered s ≡ tried (layout_rules bytes) (sizes_of bytes)
+  unfolding first_broken
+  layout_kept b =
+      let g = (untold_back (first_broken (order_r bytes)) (sizes_of bytes) e).1 in
+      ap answered g ∙ untold (sizes_of bytes) (left_5 ∙ first_kept 5 [] b)

@@ -8,12 +8,12 @@ use Rattle.record.specs.Steps.{vertex_of}
 use Rattle.record.specs.Laws.Sums.{cut_sums, divided_sums}
 use Rattle.record.proofs.lists.try_lists.Goals as goal
 
-pub try_rules-requires-clause-divided : goal.try_rules-requires-clause-divided
-try_rules-requires-clause-divided c =
+pub invariant_of-try_rules : goal.invariant_of-try_rules
+invariant_of-try_rules c =
     let lists = c.args.lists.now in
     let vertices = map vertex_of lists.neighbours.now in
     rw (c.fill_starts.ensures, c.fill_neighbours.ensures)
-    (divided_sums lists.listed vertices (length-map lists.neighbours.now vertex_of))
+    (record { divided = divided_sums lists.listed vertices (length-map lists.neighbours.now vertex_of) })
 
 pub returns : goal.returns
 returns c =

@@ -1,9 +1,12 @@
 -- `range::out_of_range` meets its contract.
+use mathlib.Core.Path.{◌∙◌}
+use borrow.Author.Tests.{eq-eqb}
 use Rattle.record.specs.Laws.Range.{zero_outside, above_zero}
 use Rattle.record.proofs.range.out_of_range.Goals as goal
 
 pub returns-then-k-eq0 : goal.returns-then-k-eq0
-returns-then-k-eq0 c = zero_outside c.args.n c.args.k c.if-k-eq0.true
+returns-then-k-eq0 c =
+    eq-eqb c.args.k 0 c.if-k-eq0.true ∙ zero_outside c.args.n c.args.k c.if-k-eq0.true
 
-pub returns : goal.returns
-returns c = above_zero c.args.n c.args.k c.if-k-eq0.false
+pub returns-else-k-eq0 : goal.returns-else-k-eq0
+returns-else-k-eq0 c = above_zero c.args.n c.args.k c.if-k-eq0.false

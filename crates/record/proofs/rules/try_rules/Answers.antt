@@ -12,7 +12,7 @@ pub returns-then-some_stray : goal.returns-then-some_stray
 returns-then-some_stray c =
     turn_6 _ c.some_stray.ensures c.if-some_stray.true
 
-pub returns : goal.returns
-returns c =
+pub returns-else-some_stray : goal.returns-else-some_stray
+returns-else-some_stray c =
     turn_8 _ c.some_stray.ensures c.if-some_stray.false
     (told_no c.all_mutual.ensures c.if-all_mutual.false)
