@@ -10,6 +10,7 @@ mod counts; // counts.rt: the ones of a string that its bytes hold
 mod table; // table.rt: the place of the k-th one of a byte
 mod search; // search.rt: the place of the k-th one of a string that its bytes hold
 mod halving; // halving.rt: the k-th one of a word
+mod parts; // parts.rt: the parts of a string, each read as a number
 pub mod fields; // fields.rt: bits and fields, read and written
 pub mod ones; // ones.rt: the highest one of a number
 pub mod spans; // spans.rt: the k-th one of a string, what lies between it and the next, and the only one

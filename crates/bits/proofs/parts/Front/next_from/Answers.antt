@@ -1,4 +1,4 @@
--- `spans::next_from` meets its contract: no one stands in the parts passed.
+-- `parts::Front::next_from` meets its contract: no one stands in the parts passed.
 use Prim.Native.Nat.{◌+◌, ◌-◌, ◌<◌}
 use native.Mathlib.Omega.{arith}
 use Rattle.bits.specs.Bits.{bits}
@@ -6,24 +6,24 @@ use Rattle.bits.specs.Spans.{NextAt, PartOf}
 use Rattle.bits.specs.Laws.Bytes.{length_bits}
 use Rattle.bits.specs.Laws.Spans.{next_end}
 use Rattle.bits.proofs.Passes.{part_aligned, part_less, cleared_start, cleared_more, cleared_end, topped_next}
-use Rattle.bits.proofs.spans.next_from.Goals as goal
-use Rattle.bits.proofs.spans.next_from.Goals.{After-part_from-part, After-top}
+use Rattle.bits.proofs.parts.Front.next_from.Goals as goal
+use Rattle.bits.proofs.parts.Front.next_from.Goals.{After-part_from-part, After-top}
 
 part : (c : After-part_from-part)
-    → PartOf (bits c.args.bytes.now) c.loop-at.at c.args.end c.part_from-part.result.width
+    → PartOf (bits c.args.self.now.bytes.now) c.loop-at.at c.args.self.now.end c.part_from-part.result.width
     c.part_from-part.result.bits
 part c = part_aligned (c.loop-at.invariant.1 c.loop-at-test.true) c.part_from-part.ensures
 
 found : (c : After-top)
     → (c.top.result < c.part_from-part.result.width)
-    × NextAt (bits c.args.bytes.now) c.args.from c.args.end
+    × NextAt (bits c.args.self.now.bytes.now) c.args.from c.args.self.now.end
     (c.loop-at.at + c.part_from-part.result.width - 1 - c.top.result)
 found c =
-    let n = length_bits c.args.bytes.now in
+    let n = length_bits c.args.self.now.bytes.now in
     topped_next (record {
       held = omega arith;
       clear = c.loop-at.invariant.0;
-      part = (let it : PartOf (bits c.args.bytes.now) c.loop-at.at c.args.end c.part_from-part.result.width c.part_from-part.result.bits = part_aligned (c.loop-at.invariant.1 c.loop-at-test.true) c.part_from-part.ensures in it);
+      part = part_aligned (c.loop-at.invariant.1 c.loop-at-test.true) c.part_from-part.ensures;
       from = c.top.ensures.1;
       below = c.top.ensures.2;
     })
@@ -31,7 +31,7 @@ found c =
 pub loop-at-init : goal.loop-at-init
 loop-at-init c =
     let a = c.args in
-    (cleared_start (bits a.bytes.now) a.from a.end c.requires.0, c.requires.1)
+    (cleared_start (bits a.self.now.bytes.now) a.from a.self.now.end c.requires.0, c.requires.1)
 
 pub overflow_add-result : goal.overflow_add-result
 overflow_add-result c = let p = part (goal.at.overflow_add-result c).After-part_from-part in omega arith
