@@ -1,11 +1,8 @@
 -- Laws about what the code computes: the search over the work slice, the roots, the lowpoints, the sections.
 pub mod Graphs
 pub mod Stores
-pub mod Entering
 pub mod Tied
-pub mod Passing
 pub mod Stepping
-pub mod Starting
 pub mod Rooting
 pub mod Begins
 pub mod Lowest

@@ -2,8 +2,8 @@
 pub mod Index
 pub mod Operations
 pub mod Steps
+pub mod Graphs
 pub mod Lows
 pub mod Marks
 pub mod Numbered
-pub mod Fronts
 pub mod Laws

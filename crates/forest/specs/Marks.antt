@@ -1,24 +1,18 @@
 -- What contracts say of a section of marks while it is written.
---   Sized                k bytes are a section of marks of g, which has n vertices and 2·m places
 --   mark_all              bits with a one at each place of a list
 --   Below                each number of a list is below this
 --   up_to                 of the marks that have owners, those whose owner is below k
 --   child_end             the owner of a mark of B: the child of the tree edge
 --   bridge_marks, marked  B's marks of the vertices below k; the bytes of a section
 --   BridgeStep           what the vertex c does to the bits of B
-use Rattle.std.specs.Prelude.{◌≡◌, Bool, true, false, ◌&&◌, ℕ, ◌*◌, ◌<◌, ltb, length, get_or, set}
-use mathlib.Core.List.{List, [], ◌∷◌, flatten}
+use Rattle.std.specs.Prelude.{◌≡◌, Bool, true, false, ◌&&◌, ℕ, ◌<◌, ltb, length, get_or, set}
+use mathlib.Core.List.{List, [], ◌∷◌}
 use Rattle.bits.specs.Bits.{pack}
 use Rattle.graph.specs.Graph.{Blocks, target}
 use Rattle.graph.specs.Search.{Forest, PlaceTest}
 use Rattle.graph.specs.Joined.{bridge}
 use Rattle.graph.specs.Forest.{child_mark}
-use Rattle.forest.specs.Index.{section, mark_bytes}
-
-pub record Sized (g : Blocks) (n m k : ℕ) : Type 0 where
-  pub vertices : length g ≡ n
-  pub places : length (flatten g) ≡ 2 * m
-  pub bytes : k ≡ mark_bytes n m
+use Rattle.forest.specs.Index.{section}
 
 -- from the first to the last
 unfoldable pub mark_all : List ℕ → List Bool → List Bool

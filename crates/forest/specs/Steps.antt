@@ -5,17 +5,16 @@
 --   stride              how far one part stands behind the other: not n itself, so that parts of 4,096 cells don't
 --                       share cache sets
 --   Room                the slice has room for the parts
---   Known               each neighbour is a vertex
 --   down_bit             the bit of the place by which a vertex was entered
 --   cells_of             the parts as the arrays of a search program
 --   Tied                the cells stand for the next positions and the slots
 --   Searching           where the search stands, for a list of roots and the starts that are still to try
---   Underway            the same, for some such lists
---   Begun, Entering, PassedTo, StartTried, NextTried, StepTaken   what one function of the search does
+--   Begun, Entering     what one function of the search does
+--   NextPlace           the next place of a block that leads to an unvisited vertex, if there is one
 --   Searched            the search is done: the parts are the forest's
-use Rattle.std.specs.Prelude.{◌≡◌, List, ◌∷◌, ℕ, zero, suc, ◌+◌, ◌-◌, ◌*◌, ◌/◌, ◌≤◌, ◌<◌, length, get_or}
+use Rattle.std.specs.Prelude.{◌≡◌, List, ℕ, zero, suc, ◌+◌, ◌*◌, ◌/◌, ◌≤◌, ◌<◌, Option, MatchOption, length, get_or}
 use Rattle.graph.specs.Graph.{Blocks}
-use Rattle.graph.specs.Search.{Forest, all, search, count_up}
+use Rattle.graph.specs.Search.{Forest, all, search}
 use Rattle.graph.specs.Forest.{number, vertex_at, parent}
 use Rattle.graph.specs.Laws.Tree.Climbs.{slot}
 use Rattle.graph.specs.Laws.Joined.Spanning.{Spanning}
@@ -34,10 +33,6 @@ pub record Room (n s : ℕ) (work : List ℕ) : Type 0 where
   pub apart : n ≤ s
   pub near : s ≤ 4352
   pub size : 6 * s ≤ length work
-
--- each number of a list is one of n vertices
-abbrev pub Known : ℕ → List ℕ → Type 0
-Known n nbrs = (p : ℕ) → p < length nbrs → get_or nbrs p 0 < n
 
 -- ---- the search
 
@@ -71,20 +66,13 @@ pub record Searching (g : Blocks) (roots todo starts : List ℕ) (n s : ℕ) (wo
   pub tied : Tied g starts n s work next_of slot_of
   pub loop : Loop g (search g all roots) left todo cur k (cells_of s next_of slot_of work)
 
--- for some roots, and some starts that are still to try
-pub record Underway (g : Blocks) (starts : List ℕ) (n s : ℕ) (work : List ℕ) (left cur k : ℕ) : Type 0 where
-  pub roots : List ℕ
-  pub todo : List ℕ
-  pub searching : Searching g roots todo starts n s work left cur k
-
 -- ---- what one function does
 
--- the first v vertices are unvisited, and the place that comes next for each is its start
-pub record Begun (starts : List ℕ) (n s : ℕ) (work : List ℕ) (v : ℕ) : Type 0 where
-  pub upto : v ≤ n
+-- the vertices are unvisited, and the place that comes next for each is its start
+pub record Begun (starts : List ℕ) (n s : ℕ) (work : List ℕ) : Type 0 where
   pub room : Room n s work
-  pub unvisited : (x : ℕ) → x < v → get_or work (2 * s + x) 0 ≡ 0
-  pub at_start : (x : ℕ) → x < v → get_or work x 0 ≡ get_or starts x 0
+  pub unvisited : (x : ℕ) → x < n → get_or work (2 * s + x) 0 ≡ 0
+  pub at_start : (x : ℕ) → x < n → get_or work x 0 ≡ get_or starts x 0
 
 -- v is entered as number k under p (0, or 1 + its parent), by the place of this bit
 pub record Entering (n s : ℕ) (work next : List ℕ) (v k p bit : ℕ) : Type 0 where
@@ -95,32 +83,21 @@ pub record Entering (n s : ℕ) (work next : List ℕ) (v k p bit : ℕ) : Type 
   pub nexts_same : Agree n (λ x. get_or work x 0) (λ x. get_or next x 0)
   pub same_size : length next ≡ length work
 
--- the places from `from` up to p lead to visited vertices, and p, where it is before `end`, to an unvisited one
-pub record PassedTo (nbrs : List ℕ) (s : ℕ) (work : List ℕ) (from end p : ℕ) : Type 0 where
+-- the places from `from` up to p lead to visited vertices
+abbrev pub AllVisited : List ℕ → ℕ → List ℕ → ℕ → ℕ → Type 0
+AllVisited nbrs s work from p =
+    (q : ℕ) → from ≤ q → q < p → get_or work (2 * s + get_or nbrs q 0) 0 ≡ 0 → ⊥
+
+-- p is the first of them, before `end`, that leads to an unvisited one
+pub record FirstUnvisited (nbrs : List ℕ) (s : ℕ) (work : List ℕ) (from end p : ℕ) : Type 0 where
   pub low : from ≤ p
-  pub visited : (q : ℕ) → from ≤ q → q < p → get_or work (2 * s + get_or nbrs q 0) 0 ≡ 0 → ⊥
-  pub stops : p < end → get_or work (2 * s + get_or nbrs p 0) 0 ≡ 0
+  pub high : p < end
+  pub visited : AllVisited nbrs s work from p
+  pub unvisited : get_or work (2 * s + get_or nbrs p 0) 0 ≡ 0
 
--- the start v is tried, whatever the roots and the further starts are
-abbrev pub StartTried : Blocks → List ℕ → ℕ → ℕ → List ℕ → List ℕ → ℕ → ℕ → ℕ → ℕ → ℕ → Type 0
-StartTried g starts n s work next left v k cur' k' =
-    (roots todo : List ℕ)
-    → Searching g roots (v ∷ todo) starts n s work left 0 k
-    → Searching g roots todo starts n s next (left - 1) cur' k'
-
--- the vertex at hand goes on, whatever the roots and the starts are
-abbrev pub NextTried : Blocks → List ℕ → ℕ → ℕ → List ℕ → List ℕ → ℕ → ℕ → ℕ → ℕ → ℕ → Type 0
-NextTried g starts n s work next left cur k cur' k' =
-    (roots todo : List ℕ)
-    → Searching g roots todo starts n s work left cur k
-    → Searching g roots todo starts n s next (left - 1) cur' k'
-
--- one or the other, where the vertices from i on are still to try
-abbrev pub StepTaken : Blocks → List ℕ → ℕ → ℕ → List ℕ → List ℕ → ℕ → ℕ → ℕ → ℕ → ℕ → ℕ → ℕ → Type 0
-StepTaken g starts n s work next left i cur k i' cur' k' =
-    (roots : List ℕ)
-    → Searching g roots (count_up i (n - i)) starts n s work left cur k
-    → Searching g roots (count_up i' (n - i')) starts n s next (left - 1) cur' k'
+abbrev pub NextPlace : List ℕ → ℕ → List ℕ → ℕ → ℕ → Option ℕ → Type 0
+NextPlace nbrs s work from end place =
+    MatchOption place (AllVisited nbrs s work from end) (FirstUnvisited nbrs s work from end)
 
 -- ---- the search is done
 

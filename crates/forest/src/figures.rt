@@ -3,156 +3,96 @@
 ghost use Rattle.std.specs.Prelude.{◌≡◌, ◌+◌, ◌*◌, ◌≤◌, length};
 ghost use Rattle.record.specs.Answers.{counted};
 ghost use Rattle.record.specs.Operations.{Accepted};
-ghost use Rattle.record.specs.Steps.{Laid, Roomy, ArraysOf};
+ghost use Rattle.record.specs.Steps.{Room, ArraysOf};
 ghost use Rattle.forest.specs.Operations.{loops, loop_figure};
 ghost use Rattle.forest.specs.Steps.{stride as stride_of};
 
+use super::graphs::Graph;
 use super::roots::loops_by;
 use super::search::{search, stride};
+use record::Refusal;
 use record::arrays::check_arrays;
-use record::{Counted, Verdict};
+use record::layout::{LaidOut, Layout};
 
-// The figure of an accepted record, by its two arrays. The record itself stands here for the contract only.
-fn figure_from(
-    bytes: &[u8],
-    n: usize,
-    m: usize,
-    starts: &[u16],
-    nbrs: &[u16],
-    work: &mut [u16],
-) -> usize
-    requires accepted { (Accepted bytes.now) × (ArraysOf bytes.now starts.now nbrs.now n m) }
-    requires n_in_bounds { 6 * stride_of n ≤ length work.old }
-    ensures { result ≡ loops bytes.now }
+// The figure of an accepted record, by its two arrays.
+fn figure_from(l: &Layout, starts: &[u16], nbrs: &[u16], work: &mut [u16]) -> usize
+    requires accepted { (Accepted l.now.bytes.now) × (ArraysOf l.now.bytes.now starts.now nbrs.now l.now.n l.now.m) }
+    requires room { 6 * stride_of l.now.n ≤ length work.old }
+    ensures { result ≡ loops l.now.bytes.now }
 {
+    let n = l.n;
+    let m = l.m;
     if n == 0 {
         return 0;
     }
     let s = stride(n);
-    search(starts, nbrs, n, s, 0, work);
-    let to = s + n;
-    loops_by(m, &work[s..to])
+    let g = Graph {
+        starts,
+        nbrs,
+        n,
+        m,
+        s,
+    };
+    search(&g, 0, work);
+    loops_by(m, &work[s..s + n])
 }
 
 // Check first.
 fn figure_by(
-    bytes: &[u8],
-    n: usize,
-    m: usize,
+    laid: &LaidOut,
     starts: &mut [u16],
     nbrs: &mut [u16],
     work: &mut [u16],
     next: &mut [u16],
-) -> Counted
-    requires laid { (Laid bytes.now n m) × (length starts.old ≡ n + 1) × (length nbrs.old ≡ 2 * m) }
-    requires next_len { (length next.old ≡ n) × (2 * m ≤ length work.old) × (6 * stride_of n ≤ length work.old) }
-    ensures { counted result ≡ loop_figure bytes.now }
+) -> Result<usize, Refusal>
+    requires arrays { (length starts.old ≡ laid.now.layout.n + 1) × (length nbrs.old ≡ 2 * laid.now.layout.m)
+        × (length next.old ≡ laid.now.layout.n) }
+    requires room { (2 * laid.now.layout.m ≤ length work.old) × (6 * stride_of laid.now.layout.n ≤ length work.old) }
+    ensures { counted result ≡ loop_figure laid.now.layout.bytes.now }
 {
-    match check_arrays(bytes, n, m, starts, nbrs, &mut work[..2 * m], next) {
-        Verdict::Refused(r) => Counted::Refused(r),
-        Verdict::Accepted => Counted::Count(figure_from(bytes, n, m, starts, nbrs, work)),
-    }
+    check_arrays(laid, starts, nbrs, &mut work[..2 * laid.layout.m], next)?;
+    Ok(figure_from(&laid.layout, starts, nbrs, work))
 }
 
-// The same in the front parts of arrays with room to spare.
-fn figure_in(
-    bytes: &[u8],
-    n: usize,
-    m: usize,
-    starts: &mut [u16],
-    nbrs: &mut [u16],
-    work: &mut [u16],
-    next: &mut [u16],
-) -> Counted
-    requires laid { (Laid bytes.now n m) × (Roomy n m starts.old nbrs.old work.old next.old) }
-    requires n_in_bounds { 6 * stride_of n ≤ length work.old }
-    ensures { counted result ≡ loop_figure bytes.now }
+// The same in a room of so many cells, in the front parts of its arrays. The room is in this function's frame alone: so a
+// small record takes a small one.
+#[inline(never)]
+fn figure_in<const STARTS: usize, const NBRS: usize, const WORK: usize, const NEXT: usize>(
+    laid: &LaidOut,
+) -> Result<usize, Refusal>
+    requires room { Room laid.now.layout.n laid.now.layout.m STARTS NBRS WORK NEXT }
+    requires search_room { 6 * stride_of laid.now.layout.n ≤ WORK }
+    ensures { counted result ≡ loop_figure laid.now.layout.bytes.now }
 {
-    let blocks = n + 1;
-    let fields = 2 * m;
+    let mut starts = [0u16; STARTS];
+    let mut nbrs = [0u16; NBRS];
+    let mut work = [0u16; WORK];
+    let mut next = [0u16; NEXT];
+    let n = laid.layout.n;
+    let places = 2 * laid.layout.m;
     figure_by(
-        bytes,
-        n,
-        m,
-        &mut starts[..blocks],
-        &mut nbrs[..fields],
-        work,
+        laid,
+        &mut starts[..n + 1],
+        &mut nbrs[..places],
+        &mut work,
         &mut next[..n],
     )
 }
 
-// Room for 128 terminals and 512 places.
-fn in_small(bytes: &[u8], n: usize, m: usize) -> Counted
-    requires { (Laid bytes.now n m) × (n ≤ 128) × (m ≤ 256) }
-    ensures { counted result ≡ loop_figure bytes.now }
+// The room for the record's size: for 128 terminals and 512 places, for 512 and 2,048, for 8,192 places, or for every
+// record. Cells to spare keep the rows out of each other's cache sets.
+pub fn in_room(laid: &LaidOut) -> Result<usize, Refusal>
+    ensures { counted result ≡ loop_figure laid.now.layout.bytes.now }
 {
-    let mut starts = [0u16; 129];
-    let mut nbrs = [0u16; 512];
-    let mut work = [0u16; 816];
-    let mut next = [0u16; 128];
-    figure_in(bytes, n, m, &mut starts, &mut nbrs, &mut work, &mut next)
-}
-
-// Room for 512 terminals and 2,048 places. Cells to spare keep the rows out of each other's cache sets.
-fn in_middle(bytes: &[u8], n: usize, m: usize) -> Counted
-    requires { (Laid bytes.now n m) × (n ≤ 512) × (m ≤ 1024) }
-    ensures { counted result ≡ loop_figure bytes.now }
-{
-    let mut starts = [0u16; 576];
-    let mut nbrs = [0u16; 2208];
-    let mut work = [0u16; 3264];
-    let mut next = [0u16; 512];
-    figure_in(bytes, n, m, &mut starts, &mut nbrs, &mut work, &mut next)
-}
-
-// Room for 8,192 places.
-fn in_large(bytes: &[u8], n: usize, m: usize) -> Counted
-    requires { (Laid bytes.now n m) × (m ≤ 4096) }
-    ensures { counted result ≡ loop_figure bytes.now }
-{
-    let mut starts = [0u16; 4160];
-    let mut nbrs = [0u16; 8352];
-    let mut work = [0u16; 26112];
-    let mut next = [0u16; 4096];
-    figure_in(bytes, n, m, &mut starts, &mut nbrs, &mut work, &mut next)
-}
-
-// Room for every record.
-fn in_full(bytes: &[u8], n: usize, m: usize) -> Counted
-    requires { (Laid bytes.now n m) × (m ≤ 16384) }
-    ensures { counted result ≡ loop_figure bytes.now }
-{
-    let mut starts = [0u16; 4160];
-    let mut nbrs = [0u16; 32928];
-    let mut work = [0u16; 33120];
-    let mut next = [0u16; 4096];
-    figure_in(bytes, n, m, &mut starts, &mut nbrs, &mut work, &mut next)
-}
-
-// The room for the record's size, tried from room k on. The function calls itself, so that the rooms are not laid out
-// in its own frame.
-pub fn in_room(bytes: &[u8], n: usize, m: usize, k: usize) -> Counted
-    requires { Laid bytes.now n m }
-    ensures { counted result ≡ loop_figure bytes.now }
-{
-    if k == 0 {
-        if n <= 128 {
-            if m <= 256 {
-                return in_small(bytes, n, m);
-            }
-        }
-        return in_room(bytes, n, m, 1);
+    let n = laid.layout.n;
+    let m = laid.layout.m;
+    if n <= 128 && m <= 256 {
+        figure_in::<129, 512, 816, 128>(laid)
+    } else if n <= 512 && m <= 1024 {
+        figure_in::<576, 2208, 3264, 512>(laid)
+    } else if m <= 4096 {
+        figure_in::<4160, 8352, 26112, 4096>(laid)
+    } else {
+        figure_in::<4160, 32928, 33120, 4096>(laid)
     }
-    if k == 1 {
-        if n <= 512 {
-            if m <= 1024 {
-                return in_middle(bytes, n, m);
-            }
-        }
-        return in_room(bytes, n, m, 2);
-    }
-    if m <= 4096 {
-        return in_large(bytes, n, m);
-    }
-    in_full(bytes, n, m)
 }

@@ -6,8 +6,10 @@ ghost use Rattle.std.specs.Prelude.{◌≡◌};
 ghost use Rattle.record.specs.Answers.{verdict, counted};
 ghost use Rattle.forest.specs.Operations.{build as build_of, built, loop_figure as loop_figure_of};
 
-use record::{Counted, Shape, Verdict, Vertex};
+use record::header::laid_out;
+use record::{Refusal, Vertex};
 
+mod graphs; // graphs.rt: a graph in two arrays
 mod search; // search.rt: the depth-first search
 mod lows; // lows.rt: lowpoints
 mod marks; // marks.rt: the sections of marks
@@ -25,30 +27,18 @@ pub struct Dfi(pub usize);
 
 // Build: writes the index of an accepted record, for the search that begins at the start. What the work slice and the
 // buffer hold before does not matter; a refused call leaves the buffer as it was.
-pub fn build(bytes: &[u8], start: Vertex, work: &mut [u16], index: &mut [u8]) -> Verdict
+pub fn build(bytes: &[u8], start: Vertex, work: &mut [u16], index: &mut [u8]) -> Result<(), Refusal>
     ensures { (verdict result ≡ build_of bytes.now start.0 work.old index.old)
         × (index.new ≡ built bytes.now start.0 work.old index.old) }
 {
-    match record::header::laid_out(bytes) {
-        Shape::Refused(r) => Verdict::Refused(r),
-        Shape::Passed(s) => {
-            let n = s.n;
-            let m = s.m;
-            rooms::in_room(bytes, n, m, start, work, index, 0)
-        }
-    }
+    let laid = laid_out(bytes)?;
+    rooms::in_room(&laid, start, work, index)
 }
 
 // Loop figure: m − n plus the number of roots, from the record alone. It is never below zero.
-pub fn loop_figure(bytes: &[u8]) -> Counted
+pub fn loop_figure(bytes: &[u8]) -> Result<usize, Refusal>
     ensures { counted result ≡ loop_figure_of bytes.now }
 {
-    match record::header::laid_out(bytes) {
-        Shape::Refused(r) => Counted::Refused(r),
-        Shape::Passed(s) => {
-            let n = s.n;
-            let m = s.m;
-            figures::in_room(bytes, n, m, 0)
-        }
-    }
+    let laid = laid_out(bytes)?;
+    figures::in_room(&laid)
 }

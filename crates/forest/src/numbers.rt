@@ -7,7 +7,6 @@ ghost use Rattle.forest.specs.Numbered.{Visits};
 
 use super::Dfi;
 use adjacency::cells::get;
-use record::clear::clear;
 
 // The visit number of vertex v.
 fn visit(visits: &[u16], v: usize) -> Dfi
@@ -42,16 +41,17 @@ pub fn write_numbers(visits: &[u16], section: &mut [u8])
     requires { (Visits visits.now) × (length section.old ≡ number_bytes (length visits.now)) }
     ensures { section.new ≡ pack (field_bits (map (λ x. x - 1) visits.now)) }
 {
-    clear(section);
+    section.fill(0);
     let n = visits.len();
-    let mut v = 0;
-    let mut at = 0;
-    while v + 2 <= n {
-        write_pair(section, at, visit(visits, v), visit(visits, v + 1));
-        v += 2;
-        at += 3;
+    for i in 0..n / 2 {
+        write_pair(
+            section,
+            3 * i,
+            visit(visits, 2 * i),
+            visit(visits, 2 * i + 1),
+        );
     }
-    if v < n {
-        write_last(section, v, visit(visits, v));
+    if n % 2 == 1 {
+        write_last(section, n - 1, visit(visits, n - 1));
     }
 }

@@ -2,21 +2,11 @@
 ghost use Rattle.std.specs.Prelude.{◌≡◌, ◌+◌, ◌-◌, ◌≤◌, length};
 ghost use Rattle.forest.specs.Operations.{roots_in};
 
-use adjacency::cells::get;
-
 // How many of the parents are 0: a root has none.
 fn count_roots(parents: &[u16]) -> usize
     ensures { (result ≡ roots_in parents.now) × (result ≤ length parents.now) }
 {
-    let mut roots = 0;
-    let mut v = 0;
-    while v < parents.len() {
-        if get(parents, v) == 0 {
-            roots += 1;
-        }
-        v += 1;
-    }
-    roots
+    parents.iter().filter(|parent| **parent == 0).count()
 }
 
 // m − n plus the number of roots, by the parents of all n vertices.

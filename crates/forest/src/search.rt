@@ -1,18 +1,17 @@
-// The depth-first search over the work slice, whose parts are listed in specs/Steps.antt. `left` bounds the steps that
-// are still to come. A step holds for any list of roots: the search from a start gives it one.
-ghost use Rattle.std.specs.Prelude.{◌≡◌, true, ◌||◌, ◌+◌, ◌-◌, ◌≤◌, ◌<◌, ltb, length};
-ghost use Rattle.graph.specs.Graph.{Blocks};
+// The depth-first search over the work slice, whose parts are listed in specs/Steps.antt. A step holds for any list of
+// roots: the search from a start gives it one.
+ghost use Rattle.std.specs.Prelude.{◌≡◌, ◌+◌, ◌*◌, ◌≤◌, ◌<◌, length};
 ghost use Rattle.graph.specs.Search.{all, search as search_of, starts_from};
-ghost use Rattle.adjacency.specs.Arrays.{cut, Arrays};
-ghost use Rattle.forest.specs.Steps.{stride as stride_of, Room, Known, Underway, Searched};
-ghost use Rattle.forest.specs.Steps.{Begun, Entering, PassedTo, StartTried, NextTried, StepTaken};
+ghost use Rattle.forest.specs.Steps.{stride as stride_of, Room, Begun, Entering, NextPlace, Searched};
+ghost use Rattle.forest.specs.Graphs.{held, Underway, StartTried, NextTried, IsLeft, StepTaken};
 
+use super::graphs::Graph;
 use adjacency::cells::{get, put};
 
-// 0 or 1 + the vertex at hand, and how many vertices are entered.
+// The vertex at hand, if there is one, and how many vertices are entered.
 #[derive(Clone, Copy)]
 pub struct Hand {
-    pub cur: usize,
+    pub cur: Option<usize>,
     pub k: usize,
 }
 
@@ -20,8 +19,7 @@ pub struct Hand {
 #[derive(Clone, Copy)]
 pub struct At {
     pub i: usize,
-    pub cur: usize,
-    pub k: usize,
+    pub hand: Hand,
 }
 
 // How far one part of the work slice stands behind the other.
@@ -33,153 +31,112 @@ pub fn stride(n: usize) -> usize
 }
 
 // Vertex v is entered as number k, below `up` (0, or 1 + its parent), by the place of this bit.
-fn enter(work: &mut [u16], n: usize, s: usize, v: usize, k: usize, up: usize, bit: usize)
-    requires { (Room n s work.old) × (v < n) × (k < n) × (up ≤ n) × (bit < 65536) }
-    ensures { Entering n s work.old work.new v k up bit }
+fn enter(g: &Graph, work: &mut [u16], v: usize, k: usize, up: usize, bit: usize)
+    requires room { Room g.now.n g.now.s work.old }
+    requires fits { (v < g.now.n) × (k < g.now.n) × (up ≤ g.now.n) × (bit < 65536) }
+    ensures { Entering g.now.n g.now.s work.old work.new v k up bit }
 {
-    put(work, 2 * s + v, k + 1);
-    put(work, s + v, up);
-    put(work, 4 * s + v, bit);
-    put(work, 3 * s + k, v);
+    put(work, 2 * g.s + v, k + 1);
+    put(work, g.s + v, up);
+    put(work, 4 * g.s + v, bit);
+    put(work, 3 * g.s + k, v);
 }
 
 // No vertex is at hand: v becomes a root if it is unvisited.
-fn try_start(
-    starts: &[u16],
-    nbrs: &[u16],
-    n: usize,
-    s: usize,
-    work: &mut [u16],
-    left: usize,
-    v: usize,
-    k: usize,
-) -> Hand
-    requires arrays { (Arrays starts.now nbrs.now) × (n + 1 ≡ length starts.now) × (v < n) }
-    requires underway { let g : Blocks = cut starts.now nbrs.now in Underway g starts.now n s work.old left 0 k }
-    ensures { let g : Blocks = cut starts.now nbrs.now in StartTried g starts.now n s work.old work.new left v k result.cur result.k }
+fn try_start(g: &Graph, work: &mut [u16], v: usize, k: usize) -> Hand
+    requires { (v < g.now.n) × (Underway g.now work.old None k) }
+    ensures { StartTried g.now work.old work.new v k result }
 {
-    if get(work, 2 * s + v) == 0 {
-        enter(work, n, s, v, k, 0, 0);
+    if get(work, 2 * g.s + v) == 0 {
+        enter(g, work, v, k, 0, 0);
         return Hand {
-            cur: v + 1,
+            cur: Some(v),
             k: k + 1,
         };
     }
-    Hand { cur: 0, k }
+    Hand { cur: None, k }
 }
 
-// The first place from `from` on and before `end` that leads to an unvisited vertex; where there is none, a place that
-// is not before `end`.
-fn pass_visited(nbrs: &[u16], n: usize, s: usize, work: &[u16], from: usize, end: usize) -> usize
-    requires { (Room n s work.now) × (Known n nbrs.now) × (end ≤ length nbrs.now) }
-    ensures { PassedTo nbrs.now s work.now from end result }
+// The first place from `from` on and before `end` that leads to an unvisited vertex.
+fn next_unvisited(g: &Graph, work: &[u16], from: usize, end: usize) -> Option<usize>
+    requires { (Room g.now.n g.now.s work.now) × (end ≤ length g.now.nbrs.now) }
+    ensures { NextPlace g.now.nbrs.now g.now.s work.now from end result }
 {
-    let mut p = from;
-    while p < end {
-        if get(work, 2 * s + get(nbrs, p)) == 0 {
-            return p;
+    for p in from..end {
+        if get(work, 2 * g.s + get(g.nbrs, p)) == 0 {
+            return Some(p);
         }
-        p += 1;
     }
-    p
+    None
 }
 
-// Vertex `cur - 1` is at hand: its next unvisited neighbour is entered; where there is none, the parent comes to hand.
-fn try_next(
-    starts: &[u16],
-    nbrs: &[u16],
-    n: usize,
-    s: usize,
-    work: &mut [u16],
-    left: usize,
-    cur: usize,
-    k: usize,
-) -> Hand
-    requires arrays { (Arrays starts.now nbrs.now) × (n + 1 ≡ length starts.now) × (0 < cur) × (cur ≤ n) }
-    requires underway { let g : Blocks = cut starts.now nbrs.now in Underway g starts.now n s work.old left cur k }
-    ensures { let g : Blocks = cut starts.now nbrs.now in NextTried g starts.now n s work.old work.new left cur k result.cur result.k }
+// Vertex u is at hand: its next unvisited neighbour is entered; where there is none, the parent comes to hand.
+fn try_next(g: &Graph, work: &mut [u16], u: usize, k: usize) -> Hand
+    requires { (u < g.now.n) × (Underway g.now work.old (Some u) k) }
+    ensures { NextTried g.now work.old work.new u k result }
 {
-    let u = cur - 1;
-    let end = get(starts, cur);
-    let p = pass_visited(nbrs, n, s, work, get(work, u), end);
-    if p < end {
-        let v = get(nbrs, p);
-        put(work, u, p + 1);
-        enter(work, n, s, v, k, cur, p + cur);
-        return Hand {
-            cur: v + 1,
-            k: k + 1,
-        };
-    }
-    Hand {
-        cur: get(work, s + u),
-        k,
+    let from = get(work, u);
+    let end = get(g.starts, u + 1);
+    match next_unvisited(g, work, from, end) {
+        Some(p) => {
+            let v = get(g.nbrs, p);
+            put(work, u, p + 1);
+            enter(g, work, v, k, u + 1, p + u + 1);
+            Hand {
+                cur: Some(v),
+                k: k + 1,
+            }
+        }
+        None => Hand {
+            cur: get(work, g.s + u).checked_sub(1),
+            k,
+        },
     }
 }
 
 // One step of the search of all vertices: the vertex at hand goes on, or else vertex i is tried.
-fn step(
-    starts: &[u16],
-    nbrs: &[u16],
-    n: usize,
-    s: usize,
-    work: &mut [u16],
-    left: usize,
-    i: usize,
-    cur: usize,
-    k: usize,
-) -> At
-    requires arrays { (Arrays starts.now nbrs.now) × (n + 1 ≡ length starts.now) × ((ltb 0 cur || ltb i n) ≡ true) }
-    requires underway { let g : Blocks = cut starts.now nbrs.now in Underway g starts.now n s work.old left cur k }
-    ensures { let g : Blocks = cut starts.now nbrs.now in StepTaken g starts.now n s work.old work.new left i cur k result.i result.cur result.k }
+fn step(g: &Graph, work: &mut [u16], i: usize, hand: Hand) -> At
+    requires { (IsLeft g.now.n i hand) × (Underway g.now work.old hand.cur hand.k) }
+    ensures { StepTaken g.now work.old work.new i hand result }
 {
-    if 0 < cur {
-        let h = try_next(starts, nbrs, n, s, work, left, cur, k);
-        return At {
+    match hand.cur {
+        Some(u) => At {
             i,
-            cur: h.cur,
-            k: h.k,
-        };
-    }
-    let h = try_start(starts, nbrs, n, s, work, left, i, k);
-    At {
-        i: i + 1,
-        cur: h.cur,
-        k: h.k,
+            hand: try_next(g, work, u, hand.k),
+        },
+        None => At {
+            i: i + 1,
+            hand: try_start(g, work, i, hand.k),
+        },
     }
 }
 
 // No vertex is visited, and the place that comes next for each is its start.
-fn begin(starts: &[u16], n: usize, s: usize, work: &mut [u16])
-    requires { (Room n s work.old) × (n < length starts.now) }
-    ensures { Begun starts.now n s work.new n }
+fn begin(g: &Graph, work: &mut [u16])
+    requires { Room g.now.n g.now.s work.old }
+    ensures { Begun g.now.starts.now g.now.n g.now.s work.new }
 {
-    let mut v = 0;
-    while v < n {
-        put(work, 2 * s + v, 0);
-        put(work, v, get(starts, v));
-        v += 1;
-    }
+    let n = g.n;
+    let visits = 2 * g.s;
+    work[visits..visits + n].fill(0);
+    work[..n].copy_from_slice(&g.starts[..n]);
 }
 
 // The search that begins at the vertex `first` and then takes all vertices in order. It ends once all are entered: what
-// is left to try then leads to none. What the work slice held before does not matter.
-pub fn search(starts: &[u16], nbrs: &[u16], n: usize, s: usize, first: usize, work: &mut [u16])
-    requires { (Arrays starts.now nbrs.now) × (n + 1 ≡ length starts.now) × (Room n s work.old) × (first < n) }
-    ensures { let g : Blocks = cut starts.now nbrs.now in Searched g (search_of g all (starts_from n first)) n s work.new }
+// is left to try then leads to none. What the work slice held before does not matter. `left` bounds the steps that are
+// still to come.
+pub fn search(g: &Graph, first: usize, work: &mut [u16])
+    requires { (Room g.now.n g.now.s work.old) × (first < g.now.n) }
+    ensures { Searched (held g.now) (search_of (held g.now) all (starts_from g.now.n first)) g.now.n g.now.s work.new }
 {
-    begin(starts, n, s, work);
-    let steps = 2 * n + 2 * nbrs.len() + 2;
-    let h = try_start(starts, nbrs, n, s, work, steps, first, 0);
-    let mut left = steps - 1;
-    let mut i: usize = 0;
-    let mut cur = h.cur;
-    let mut k = h.k;
-    while k < n {
-        let at = step(starts, nbrs, n, s, work, left, i, cur, k);
+    begin(g, work);
+    let mut left = 2 * g.n + 4 * g.m + 1;
+    let mut at = At {
+        i: 0,
+        hand: try_start(g, work, first, 0),
+    };
+    while at.hand.k < g.n {
+        at = step(g, work, at.i, at.hand);
         left -= 1;
-        i = at.i;
-        cur = at.cur;
-        k = at.k;
     }
 }

@@ -28,7 +28,8 @@ use Rattle.graph.specs.Laws.Bridges.Crossings.{outside_no_bridge}
 use Rattle.graph.specs.Laws.Bridges.Lowpoints.{Lows, bridge_at_child, bridge_at_parent}
 use Rattle.forest.specs.Steps.{Room}
 use Rattle.forest.specs.Lows.{Lifting, Lifts}
-use Rattle.forest.specs.Marks.{Sized, child_end, bridge_marks, marked, BridgeStep, parts, stays}
+use Rattle.forest.specs.Marks.{child_end, bridge_marks, marked, BridgeStep, parts, stays}
+use Rattle.forest.proofs.Laws.Graphs.{Sized}
 use Rattle.forest.specs.Laws.Marking.{also}
 use Rattle.forest.proofs.Laws.Marked.{no_marks, bits_also, same_bits}
 use Rattle.forest.proofs.Laws.Marked.{Own, owns_none, owns_two, upto_none, upto_all}

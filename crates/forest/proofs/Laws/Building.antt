@@ -128,10 +128,10 @@ module _ {bytes : List ℕ} {start : ℕ} {work index : List ℕ} where
               → BuildDone bytes start work index next (answered tt)
           done_written e = done (e ∙ ap (λ (g : Blocks). index_of g (start - 1)) (graph_of r))
 
--- what the index is written from
-pub write_asked : {bytes starts nbrs : List ℕ} {n m : ℕ} → Accepted bytes → ArraysOf bytes starts nbrs n m
-    → ((Arrays starts nbrs) × (n + 1 ≡ length starts) × (length nbrs ≡ 2 * m)) × WellFormed (cut starts nbrs)
-write_asked a r = ((arrays_of r a, sym (starts_of_lem r), nbrs_of r), rw (graph_of r) (accepted_well_formed a))
+-- the two arrays hold a graph
+pub graph_asked : {bytes starts nbrs : List ℕ} {n m : ℕ} → Accepted bytes → ArraysOf bytes starts nbrs n m
+    → Arrays starts nbrs × WellFormed (cut starts nbrs) × (n + 1 ≡ length starts) × (length nbrs ≡ 2 * m)
+graph_asked a r = (arrays_of r a, rw (graph_of r) (accepted_well_formed a), sym (starts_of_lem r), nbrs_of r)
 
 -- ---- the start
 

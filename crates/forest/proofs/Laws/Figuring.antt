@@ -10,11 +10,11 @@ use lib.ListN.{length, take, drop}
 use Rattle.graph.specs.Graph.{Blocks}
 use Rattle.graph.specs.Search.{all, search, starts_from, forest}
 use Rattle.graph.specs.Forest.{roots}
-use Rattle.adjacency.specs.Arrays.{cut, Arrays}
+use Rattle.adjacency.specs.Arrays.{cut}
 use Rattle.record.specs.Record.{blocks}
 use Rattle.record.specs.Operations.{Accepted}
 use Rattle.record.specs.Steps.{ArraysOf}
-use Rattle.record.specs.Laws.Unpacked.{graph_of, starts_of_lem, arrays_of}
+use Rattle.record.specs.Laws.Unpacked.{graph_of, starts_of_lem}
 use Rattle.forest.specs.Operations.{loops, roots_in}
 use Rattle.forest.specs.Steps.{stride, Room, Searched}
 use Rattle.forest.specs.Laws.Figures.{roots_in_lem, loops_whole, loops_asked, loops_given}
@@ -27,14 +27,10 @@ module _ {bytes starts nbrs : List ℕ} {n m : ℕ} (a : Accepted bytes) (r : Ar
   figure_none z = sym (no_loops a (sym r.sound.is_n ∙ z))
 
   pub search_asked : {s : ℕ} {work : List ℕ} → s ≡ stride n → (n ≡ 0 → ⊥) → 6 * stride n ≤ length work
-      → (Arrays starts nbrs) × (n + 1 ≡ length starts) × (Room n s work) × (0 < n)
+      → Room n s work × (0 < n)
   search_asked e some room =
-      let f = r.sound.n_fits in (
-        arrays_of r a,
-        sym (starts_of_lem r),
-        record { some = omega arith; few = f; apart = omega arith; near = omega arith; size = omega arith },
-        omega arith,
-      )
+      let f = r.sound.n_fits in
+      (record { some = omega arith; few = f; apart = omega arith; near = omega arith; size = omega arith }, omega arith)
 
   module _ {s : ℕ} {work : List ℕ}
       (t : Searched (cut starts nbrs) (search (cut starts nbrs) all (starts_from n 0)) n s work) where

@@ -5,8 +5,9 @@
 --   lift_root, lift_child   the vertex of visit number k, where it has no parent and where it has one
 --   Swept         the vertices of visit number k and more are lifted
 --   swept_asks, swept_more, swept_end   before and after the next, and past the first
-use mathlib.Core.Path.{◌≡◌, refl, ap, ◌∙◌}
+use mathlib.Core.Path.{◌≡◌, refl, sym, ap, ◌∙◌}
 use mathlib.Core.List.{List}
+use Rattle.std.specs.Option.{unwrap_or}
 use Prim.Native.Nat.{ℕ, zero, suc, ◌+◌, ◌-◌, ◌*◌, ◌≤◌, ◌<◌, min}
 use native.Mathlib.Numerals.{add-one}
 use native.Mathlib.Omega.{arith}
@@ -23,7 +24,9 @@ use Rattle.graph.specs.Laws.Bridges.Lowpoints.{Lows}
 use Rattle.graph.specs.Laws.Bridges.Stores.{Stored}
 use Rattle.graph.specs.Laws.Bridges.Sweep.{Least, sweep_begin, sweep_root, sweep_child}
 use Rattle.forest.specs.Steps.{Room, Searched}
-use Rattle.forest.specs.Lows.{LowAt, OwnLow, Lifting, Searches, Lifts, Lowers, LiftsOne}
+use Rattle.forest.specs.Lows.{OwnLow, Lifting, Searches, Lifts, Lowers, LiftsOne}
+use Rattle.forest.specs.declared.lows.Low.{Low}
+use Rattle.forest.proofs.Laws.Lowest.{LowCells, low_cells}
 use Rattle.forest.proofs.Laws.Stores.{Put, put_length, put_other, put_here, changed, stored_changed}
 use Rattle.forest.proofs.Laws.Tied.{room_after}
 
@@ -67,28 +70,25 @@ module _ {g : Blocks} {F : Forest} {n s : ℕ} {work : List ℕ} (many : length 
 pub record Filled (g : Blocks) (n s : ℕ) (work₀ work : List ℕ) (c : ℕ) : Type 0 where
   pub upto : c ≤ n
   pub room : Room n s work
-  pub same_size : length work ≡ length work₀
   pub searched : (F : Forest) → Searched g F n s work₀ → Searched g F n s work
   pub each : (F : Forest) → Searched g F n s work₀ → (x : ℕ) → x < c
-      → LowAt g F x (length (block g x)) (get_or work (5 * s + x) 0) (get_or work x 0)
+      → LowCells g F x (length (block g x)) (get_or work (5 * s + x) 0) (get_or work x 0)
 
 pub filled_begin : (g : Blocks) {n s : ℕ} {work : List ℕ} → Room n s work → Filled g n s work work 0
 filled_begin g r = record {
   upto = omega arith;
   room = r;
-  same_size = refl;
   searched = λ F a. a;
   each = λ F a x l. absurd (omega arith);
 }
 
 module _ {g : Blocks} {n s : ℕ} {work₀ work : List ℕ} {c : ℕ} (f : Filled g n s work₀ work c) where
-  pub filled_more : {low back : ℕ} {mid next : List ℕ} → c < n → OwnLow g n s work c low back
-      → mid ≡ set work (5 * s + c) low → next ≡ set mid c back → Filled g n s work₀ next (c + 1)
-  filled_more {low} {back} {mid} {next} h own e₁ e₂ =
+  pub filled_more : (is : Low) {mid next : List ℕ} → c < n → OwnLow g n s work c is
+      → mid ≡ set work (5 * s + c) is.low → next ≡ set mid c (unwrap_or is.back 0) → Filled g n s work₀ next (c + 1)
+  filled_more is {mid} {next} h own e₁ e₂ =
       record {
         upto = omega arith;
         room = room_after r size;
-        same_size = size ∙ f.same_size;
         searched = λ F a. stays_searched size (λ i j k. other i (λ q. omega arith) (λ q. let o = r in omega arith))
             (f.searched F a);
         each = λ F a x l. more F a x l (ℕ_discrete x c);
@@ -96,6 +96,12 @@ module _ {g : Blocks} {n s : ℕ} {work₀ work : List ℕ} {c : ℕ} (f : Fille
     where
       r : Room n s work
       r = f.room
+
+      low : ℕ
+      low = is.low
+
+      back : ℕ
+      back = unwrap_or is.back 0
 
       p : Put work mid (5 * s + c) low
       p = record { is = e₁ }
@@ -116,8 +122,8 @@ module _ {g : Blocks} {n s : ℕ} {work₀ work : List ℕ} {c : ℕ} (f : Fille
       back_here = let o = r in put_here q (omega (arith, put_length p))
 
       more : (F : Forest) → Searched g F n s work₀ → (x : ℕ) → x < c + 1 → Dec (x ≡ c)
-          → LowAt g F x (length (block g x)) (get_or next (5 * s + x) 0) (get_or next x 0)
-      more F a x l (yes e) = rw (e, low_here, back_here) (own F (f.searched F a))
+          → LowCells g F x (length (block g x)) (get_or next (5 * s + x) 0) (get_or next x 0)
+      more F a x l (yes e) = rw (e, low_here, back_here) (low_cells is (own F (f.searched F a)))
       more F a x l (no d) =
           let b = other (5 * s + x) (λ e. d (omega arith)) (λ e. omega arith) in
           rw (b, other x (λ e. omega arith) d) (f.each F a x (omega arith))
@@ -134,7 +140,7 @@ module _ {g : Blocks} {n s : ℕ} {work₀ work : List ℕ} {c : ℕ} (f : Fille
       low_of : ℕ → ℕ
       low_of v = get_or work (5 * s + v) 0 - 1
 
-      at : (v : ℕ) → v < n → LowAt g F v (length (block g v)) (get_or work (5 * s + v) 0) (get_or work v 0)
+      at : (v : ℕ) → v < n → LowCells g F v (length (block g v)) (get_or work (5 * s + v) 0) (get_or work v 0)
       at v k = f.each F a v (omega arith)
 
       least : (v : ℕ) → v < n → Least g F v (length (block g v)) (low_of v)
@@ -154,12 +160,6 @@ module _ {g : Blocks} {F : Forest} {n s k v : ℕ} {work : List ℕ} (many : len
   lift_room = let r = f.searched.room in omega (arith, inside)
 
   module _ {up : ℕ} (is_up : up ≡ get_or work (s + v) 0) where
-    up_inside : 0 < up → up - 1 < n
-    up_inside z = let p = parent_inside many f.searched v inside in omega arith
-
-    pub lift_up : 0 < up → 5 * s + (up - 1) < length work
-    lift_up z = let r = f.searched.room in omega (arith, up_inside z)
-
     vertex : v ≡ vertex_at F k
     vertex = is-v ∙ f.searched.order k h
 
@@ -169,53 +169,61 @@ module _ {g : Blocks} {F : Forest} {n s k v : ℕ} {work : List ℕ} (many : len
     lows_here : Lows g F (suc k) f.low_of
     lows_here = rw (add-one k) at f.lows
 
-    pub lift_root : up ≤ 0 → Lifting g F n s work k
+    pub lift_root : (1 ≤ up → ⊥) → Lifting g F n s work k
     lift_root z = record {
       searched = f.searched;
       low_of = f.low_of;
       low_cells = f.low_cells;
-      lows = let e = the_parent in sweep_root f.searched.spans (omega arith) (omega arith) lows_here;
+      lows = let e = the_parent in sweep_root f.searched.spans (omega arith) (none (ℕ_discrete up 0)) lows_here;
       backs = f.backs;
     }
-
-    pub lift_child : {a b x : ℕ} {next : List ℕ} → 0 < up → a ≡ get_or work (5 * s + v) 0
-        → b ≡ get_or work (5 * s + (up - 1)) 0 → x ≡ min b a → next ≡ set work (5 * s + (up - 1)) x
-        → Lifting g F n s next k
-    lift_child {a} {b} {x} {next} z is-a is_b is_x e = record {
-      searched = stays_searched (put_length p) (λ i l m. put_other p i (λ q. omega arith)) f.searched;
-      low_of = changed f.low_of (up - 1) least;
-      low_cells = λ y l. cells y l (ℕ_discrete y (up - 1));
-      lows = sweep_child f.searched.spans (omega arith) (let q = the_parent in omega arith) stored lows_here;
-      backs = λ y l. rw (put_other p y (λ q. let r = f.searched.room in omega arith)) (f.backs y l);
-    }
       where
-        p : Put work next (5 * s + (up - 1)) x
-        p = record { is = e }
+        none : Dec (up ≡ 0) → parent F (vertex_at F k) ≡ 0
+        none (yes e) = sym the_parent ∙ e
+        none (no d) = absurd (z (omega arith))
 
-        least : ℕ
-        least = min (f.low_of (up - 1)) (f.low_of (vertex_at F k))
+    module _ {u : ℕ} (raised : (1 ≤ up) × (u ≡ up - 1)) where
+      up_inside : u < n
+      up_inside = let p = parent_inside many f.searched v inside in omega arith
 
-        stored : Stored (length g) f.low_of (changed f.low_of (up - 1) least) (up - 1) least
-        stored = stored_changed (length g) f.low_of (up - 1) least
+      pub lift_up : 5 * s + u < length work
+      lift_up = let r = f.searched.room in omega (arith, up_inside)
 
-        is_least : x ≡ suc least
-        is_least =
-            let q = is-a ∙ f.low_cells v inside ∙ ap (λ (y : ℕ). suc (f.low_of y)) vertex in
-            let r = is_b ∙ f.low_cells (up - 1) (up_inside z) in
-            omega arith
+      pub lift_child : {a b x : ℕ} {next : List ℕ} → a ≡ get_or work (5 * s + v) 0 → b ≡ get_or work (5 * s + u) 0
+          → x ≡ min b a → next ≡ set work (5 * s + u) x → Lifting g F n s next k
+      lift_child {a} {b} {x} {next} is-a is_b is_x e = record {
+        searched = stays_searched (put_length p) (λ i l m. put_other p i (λ q. omega arith)) f.searched;
+        low_of = changed f.low_of u least;
+        low_cells = λ y l. cells y l (ℕ_discrete y u);
+        lows = sweep_child f.searched.spans (omega arith) (let q = the_parent in omega arith) stored lows_here;
+        backs = λ y l. rw (put_other p y (λ q. let r = f.searched.room in omega arith)) (f.backs y l);
+      }
+        where
+          p : Put work next (5 * s + u) x
+          p = record { is = e }
 
-        cells : (y : ℕ) → y < n → Dec (y ≡ up - 1)
-            → get_or next (5 * s + y) 0 ≡ suc (changed f.low_of (up - 1) least y)
-        cells y l (yes q) = rw q (cc (put_here p (lift_up z), is_least, stored.hit))
-        cells y l (no d) =
-            let other = put_other p (5 * s + y) (λ q. d (omega arith)) in
-            cc (f.low_cells y l, stored.rest y (omega arith) d)
+          least : ℕ
+          least = min (f.low_of u) (f.low_of (vertex_at F k))
+
+          stored : Stored (length g) f.low_of (changed f.low_of u least) u least
+          stored = stored_changed (length g) f.low_of u least
+
+          is_least : x ≡ suc least
+          is_least =
+              let q = is-a ∙ f.low_cells v inside ∙ ap (λ (y : ℕ). suc (f.low_of y)) vertex in
+              let r = is_b ∙ f.low_cells u up_inside in
+              omega arith
+
+          cells : (y : ℕ) → y < n → Dec (y ≡ u) → get_or next (5 * s + y) 0 ≡ suc (changed f.low_of u least y)
+          cells y l (yes q) = rw q (cc (put_here p lift_up, is_least, stored.hit))
+          cells y l (no d) =
+              let other = put_other p (5 * s + y) (λ q. d (omega arith)) in
+              cc (f.low_cells y l, stored.rest y (omega arith) d)
 
 -- ---- from the last visited vertex back
 
 pub record Swept (g : Blocks) (n s : ℕ) (work₀ work : List ℕ) (k : ℕ) : Type 0 where
   pub upto : k ≤ n
-  pub same_size : length work ≡ length work₀
   pub each : (F : Forest) → Lifting g F n s work₀ n → Lifting g F n s work k
 
 module _ {g : Blocks} {n s k : ℕ} {work₀ work : List ℕ} (t : Swept g n s work₀ work k) where
@@ -223,15 +231,13 @@ module _ {g : Blocks} {n s k : ℕ} {work₀ work : List ℕ} (t : Swept g n s w
   again : 0 < k → (F : Forest) → Lifting g F n s work₀ n → Lifting g F n s work (k - 1 + 1)
   again h F f = let e : k - 1 + 1 ≡ k = omega arith in rw e (t.each F f)
 
-  pub swept_asks : {before : List ℕ} → 0 < k → length g ≡ n → Searches g n s before → Lowers g n s before work₀ n
-      → (length g ≡ n) × (k - 1 < n) × Lifts g n s work (k - 1 + 1)
-  swept_asks h many a l =
-      (many, omega arith, record { forest = a.forest; lifting = again h a.forest (l a.forest a.searched) })
+  pub swept_asks : {before : List ℕ} → 0 < k → Searches g n s before → Lowers g n s before work₀ n
+      → (k - 1 < n) × Lifts g n s work (k - 1 + 1)
+  swept_asks h a l =
+      (omega (arith, t.upto), record { forest = a.forest; lifting = again h a.forest (l a.forest a.searched) })
 
-  pub swept_more : {next : List ℕ} → 0 < k → LiftsOne g n s work next (k - 1) → length next ≡ length work
-      → Swept g n s work₀ next (k - 1)
-  swept_more h one e =
-      record { upto = omega arith; same_size = e ∙ t.same_size; each = λ F f. one F (again h F f) }
+  pub swept_more : {next : List ℕ} → 0 < k → LiftsOne g n s work next (k - 1) → Swept g n s work₀ next (k - 1)
+  swept_more h one = record { upto = omega (arith, t.upto); each = λ F f. one F (again h F f) }
 
   pub swept_end : {before : List ℕ} → k ≤ 0 → Lowers g n s before work₀ n → Lowers g n s before work 0
   swept_end h l F a = let e : k ≡ 0 = omega arith in rw e at (t.each F (l F a))

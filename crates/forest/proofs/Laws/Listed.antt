@@ -19,7 +19,8 @@ use Rattle.bits.specs.Laws.Bytes.{AreBytes}
 use Rattle.bits.specs.Laws.Packing.{zero_bits}
 use Rattle.graph.specs.Graph.{Blocks, block}
 use Rattle.graph.specs.Search.{PlaceTest}
-use Rattle.forest.specs.Marks.{Sized, mark_all, Below, up_to, marked}
+use Rattle.forest.specs.Marks.{mark_all, Below, up_to, marked}
+use Rattle.forest.proofs.Laws.Graphs.{Sized}
 use Rattle.forest.specs.Laws.Sections.{place_bit}
 use Rattle.forest.proofs.Laws.Marked.{sized_bits, bit_fits, no_marks, bits_also, same_bits}
 use Rattle.forest.proofs.Laws.Marked.{Same, Own, owns_none, owns_one, upto_none, upto_all}

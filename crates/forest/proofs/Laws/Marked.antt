@@ -27,7 +27,8 @@ use Rattle.graph.specs.Search.{PlaceTest}
 use Rattle.graph.specs.Laws.Places.Basics.{same_outcome, or_cases, or_left, or_right, and_parts, and_both, clash}
 use Rattle.graph.specs.Laws.Places.Pairing.{place_at, source}
 use Rattle.forest.specs.Index.{section, mark_bytes}
-use Rattle.forest.specs.Marks.{Sized, up_to, marked}
+use Rattle.forest.specs.Marks.{up_to, marked}
+use Rattle.forest.proofs.Laws.Graphs.{Sized}
 use Rattle.forest.specs.Laws.Sections.{place_bit, start_more, start_most, length_section, section_same}
 use Rattle.forest.specs.Laws.Marking.{none, section_none, also, section_also}
 

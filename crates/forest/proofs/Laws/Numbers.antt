@@ -1,5 +1,5 @@
 -- The section of the visit numbers, written from the front into zeros.
---   Pairs          the first v visit numbers are written, two in three bytes
+--   Pairs          the first i pairs of visit numbers are written, two in three bytes
 --   pairs_begin, pairs_room, pairs_rest, pairs_more, pairs_last, pairs_end   as the code goes
 --   visit_cells, visits_many   the visit cells in the work slice, as many as vertices
 --   listed_visits, listed_numbers   those of a forest are visit numbers; each less 1, they are the forest's
@@ -68,26 +68,19 @@ less_at visits v = get_or-map (λ (x : ℕ). x - 1) visits v 0
 less_many : (visits : List ℕ) → length (less visits) ≡ length visits
 less_many visits = length-map visits (λ x. x - 1)
 
-pub record Pairs (visits section : List ℕ) (v at : ℕ) : Type 0 where
+pub record Pairs (visits section : List ℕ) (i : ℕ) : Type 0 where
   pub size : length section ≡ number_bytes (length visits)
-  pub upto : v ≤ length visits
-  pub even : 8 * at ≡ 12 * v
+  pub upto : 2 * i ≤ length visits
   pub are_bytes : AreBytes section
-  pub are_bits : bits section ≡ front (less visits) (length section) v
+  pub are_bits : bits section ≡ front (less visits) (length section) (2 * i)
 
 pub pairs_begin : (visits : List ℕ) {section : List ℕ} {k : ℕ} → k ≡ number_bytes (length visits)
-    → section ≡ replicate k 0 → AreBytes section → Pairs visits section 0 0
+    → section ≡ replicate k 0 → AreBytes section → Pairs visits section 0
 unfolding field_bits
 pairs_begin visits {section} {k} l e are =
     let r : length section ≡ k = ap length e ∙ length-replicate {A = ℕ} k 0 in
     let z : 8 * length section - 12 * 0 ≡ 8 * k = omega arith in
-    record {
-      size = r ∙ l;
-      upto = omega arith;
-      even = omega arith;
-      are_bytes = are;
-      are_bits = rw z (ap bits e ∙ zero_bits k);
-    }
+    record { size = r ∙ l; upto = omega arith; are_bytes = are; are_bits = rw z (ap bits e ∙ zero_bits k) }
 
 all_written : (visits : List ℕ) {section : List ℕ} → AreBytes section
     → length section ≡ number_bytes (length visits)
@@ -100,50 +93,51 @@ all_written visits {section} are s e =
     let all = take_all (length visits) xs (omega (arith, less_many visits)) in
     bits_injective section (pack (field_bits xs)) are (pack_bytes (field_bits xs)) (cc (bits_pack (field_bits xs)))
 
-module _ {visits section : List ℕ} {v at : ℕ} (p : Pairs visits section v at) where
-  pub pairs_room : v + 2 ≤ length visits → at + 3 ≤ length section
+module _ {visits section : List ℕ} {i : ℕ} (p : Pairs visits section i) where
+  pub pairs_room : 2 * i + 2 ≤ length visits → 3 * i + 3 ≤ length section
   unfolding number_bytes
   pairs_room h = let q = p in omega arith
 
-  pub pairs_rest : v < length visits → 12 * v + 12 ≤ 8 * length section
+  pub pairs_rest : 2 * i < length visits → 12 * (2 * i) + 12 ≤ 8 * length section
   unfolding number_bytes
   pairs_rest h = let q = p in omega arith
 
   -- one number more
-  next : {a : ℕ} → v < length visits → a ≡ get_or visits v 0
-      → put 12 (a - 1) (bits section) (12 * v) ≡ front (less visits) (length section) (v + 1)
+  next : {a : ℕ} → 2 * i < length visits → a ≡ get_or visits (2 * i) 0
+      → put 12 (a - 1) (bits section) (12 * (2 * i)) ≡ front (less visits) (length section) (2 * i + 1)
   next {a} h e =
-      let x = less_at visits v in
-      rw p.are_bits (front_more (less visits) (length section) v (omega (arith, less_many visits)) (omega arith))
+      let x = less_at visits (2 * i) in
+      rw p.are_bits
+      (front_more (less visits) (length section) (2 * i) (omega (arith, less_many visits)) (omega arith))
 
   module _ {after : List ℕ} (are : AreBytes after) (same : length after ≡ length section) where
-    pub pairs_more : {a b : ℕ} → v + 2 ≤ length visits → a ≡ get_or visits v 0 → b ≡ get_or visits (v + 1) 0
-        → bits after ≡ put 12 (b - 1) (put 12 (a - 1) (bits section) (8 * at)) (8 * at + 12)
-        → Pairs visits after (v + 2) (at + 3)
+    pub pairs_more : {a b : ℕ} → 2 * i + 2 ≤ length visits → a ≡ get_or visits (2 * i) 0
+        → b ≡ get_or visits (2 * i + 1) 0
+        → bits after ≡ put 12 (b - 1) (put 12 (a - 1) (bits section) (8 * (3 * i))) (8 * (3 * i) + 12)
+        → Pairs visits after (i + 1)
     pairs_more {a} {b} h e f g =
-        let y = less_at visits (v + 1) in
-        let s : 8 * at + 12 ≡ 12 * (v + 1) = omega arith in
-        let z : v + 1 + 1 ≡ v + 2 = omega arith in
-        let two = front_more (less visits) (length section) (v + 1) {x = b - 1} (omega (arith, less_many visits))
-        (omega arith) in
+        let y = less_at visits (2 * i + 1) in
+        let r : 8 * (3 * i) ≡ 12 * (2 * i) = omega arith in
+        let s : 8 * (3 * i) + 12 ≡ 12 * (2 * i + 1) = omega arith in
+        let z : 2 * i + 1 + 1 ≡ 2 * (i + 1) = omega arith in
+        let two = front_more (less visits) (length section) (2 * i + 1) {x = b - 1}
+        (omega (arith, less_many visits)) (omega arith) in
         record {
           size = same ∙ p.size;
           upto = omega arith;
-          even = omega arith;
           are_bytes = are;
           are_bits = cc (next (omega arith) e, two);
         }
 
-    pub pairs_last : {a : ℕ} → v < length visits → length visits ≤ v + 1 → a ≡ get_or visits v 0
+    pub pairs_last : {v a : ℕ} → v ≡ 2 * i → length visits ≡ v + 1 → a ≡ get_or visits v 0
         → bits after ≡ put 12 (a - 1) (bits section) (12 * v) → after ≡ pack (field_bits (less visits))
-    pairs_last h k e g =
-        let z : v + 1 ≡ length visits = omega arith in
-        all_written visits are (same ∙ p.size)
-        (cc (next h e))
+    pairs_last {v} w k e g =
+        let x = next (omega arith) (e ∙ ap (λ (y : ℕ). get_or visits y 0) w) in
+        let z : 2 * i + 1 ≡ length visits = omega arith in
+        all_written visits are (same ∙ p.size) (cc x)
 
-  pub pairs_end : length visits ≤ v → section ≡ pack (field_bits (less visits))
-  pairs_end h =
-      let z : v ≡ length visits = omega arith in
+  pub pairs_end : 2 * i ≡ length visits → section ≡ pack (field_bits (less visits))
+  pairs_end z =
       all_written visits p.are_bytes p.size (p.are_bits ∙ ap (front (less visits) (length section)) z)
 
 -- ---- those of a forest

@@ -1,57 +1,27 @@
--- The roots in a list of parents, while they are counted.
---   Rooting                        the first parents are looked at
---   rooting_start, rooting_end     before the first, and after the last
---   rooting_root, rooting_child    one more
-use mathlib.Core.Path.{◌≡◌, refl}
-use mathlib.Core.List.{List}
-use Prim.Native.Nat.{ℕ, ◌+◌, ◌≤◌, ◌<◌}
-use native.Mathlib.Numerals.{add-one}
+-- The roots in a list of parents, as an iterator counts them.
+use mathlib.Core.Path.{◌≡◌, refl, ◌∙◌}
+use mathlib.Core.Bool.{Bool, true, false, cond}
+use mathlib.Core.List.{List, ◌∷◌}
+use Prim.Native.Nat.{ℕ, ◌+◌}
 use native.Mathlib.Omega.{arith}
-use borrow.Author.Tests.{eq-eqb, ne_eqb}
 use lib.Dec.{eqb}
 use lib.ListN.{length, get_or}
+use Rattle.std.specs.Prelude.{count_by}
+use Rattle.std.proofs.lemmas.List.Recursion.{is_count_by}
 use Rattle.graph.specs.Counts.{when, sum}
+use Rattle.graph.specs.Laws.Counts.Sums.{sum_first}
 use Rattle.forest.specs.Operations.{roots_in}
 
--- the first v parents are looked at, and so many of them are 0
-pub record Rooting (parents : List ℕ) (v roots : ℕ) : Type 0 where
-  pub upto : v ≤ length parents
-  pub few : roots ≤ v
-  pub is : roots ≡ sum v (λ x. when (eqb (get_or parents x 0) 0) 1)
+one_more : (b : Bool) (k : ℕ) → when b 1 + k ≡ cond b (1 + k) k
+one_more true k = refl
+one_more false k = omega arith
 
-pub rooting_start : (parents : List ℕ) → Rooting parents 0 0
-unfolding sum
-rooting_start parents = record { upto = omega arith; few = omega arith; is = refl }
-
-module _ {parents : List ℕ} {v roots : ℕ} (t : Rooting parents v roots) (h : v < length parents) where
-  pub rooting_root : get_or parents v 0 ≡ 0 → Rooting parents (v + 1) (roots + 1)
-  unfolding sum
-  rooting_root e =
-      let u = t.upto in
-      let f = t.few in
-      let i = t.is in
-      record {
-        upto = omega arith;
-        few = omega arith;
-        is = rw (add-one v, sum, eq-eqb (get_or parents v 0) 0 e) (omega arith);
-      }
-
-  pub rooting_child : (get_or parents v 0 ≡ 0 → ⊥) → Rooting parents (v + 1) roots
-  unfolding sum
-  rooting_child e =
-      let f = t.few in
-      let i = t.is in
-      record {
-        upto = omega arith;
-        few = omega arith;
-        is = rw (add-one v, sum, ne_eqb (get_or parents v 0) 0 e) (omega arith);
-      }
-
-pub rooting_end : {parents : List ℕ} {v roots : ℕ} → Rooting parents v roots → length parents ≤ v
-    → (roots ≡ roots_in parents) × (roots ≤ length parents)
+first_root : (p : ℕ) (parents : List ℕ)
+    → roots_in (p ∷ parents) ≡ cond (eqb p 0) (1 + roots_in parents) (roots_in parents)
 unfolding roots_in
-rooting_end {parents} {v} t h =
-    let u = t.upto in
-    let f = t.few in
-    let e : v ≡ length parents = omega arith in
-    (rw e at t.is, omega arith)
+first_root p parents =
+    sum_first (length parents) (λ v. when (eqb (get_or (p ∷ parents) v 0) 0) 1) ∙ one_more (eqb p 0) (roots_in parents)
+
+pub roots_counted : (parents : List ℕ) → roots_in parents ≡ count_by (λ p. eqb p 0) parents
+unfolding roots_in sum
+roots_counted = is_count_by roots_in (λ p. eqb p 0) refl first_root

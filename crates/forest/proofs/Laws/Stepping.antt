@@ -2,22 +2,28 @@
 --   new_room                     there is room for a vertex that is not visited
 --   start_passed, start_entered  the start is visited, or it is not
 --   hand_vertex                  the vertex at hand is a vertex
---   next_fits                    where the passing stopped there is a vertex, and room for it
---   next_left, next_entered      it stopped at the end of the block, or before it
-use mathlib.Core.Path.{◌≡◌, refl, ap, ◌∙◌}
+--   next_fits                    what its next place leads to is a vertex, and there is room for it
+--   next_left, next_entered      all that it leads to is visited, or it is not
+--   raised                       0, or 1 + the parent, from the parent
+use mathlib.Core.Path.{◌≡◌, refl, sym, ap, ◌∙◌}
 use mathlib.Core.List.{List, ◌∷◌}
+use Rattle.std.specs.Option.{SomeIff}
+use Rattle.std.specs.Prelude.{Option, None, Some}
 use Prim.Native.Nat.{ℕ, suc, ◌+◌, ◌-◌, ◌*◌, ◌≤◌, ◌<◌}
 use native.Mathlib.Numerals.{add-one}
+use native.Mathlib.Decide.{ℕ_discrete}
 use native.Mathlib.Omega.{arith}
 use lib.ListN.{length, get_or, set}
 use Rattle.graph.specs.Graph.{Blocks, block, Place}
 use Rattle.graph.specs.Search.{all, search}
 use Rattle.graph.specs.Laws.Loop.Invariant.{Loop, loop_room, loop_vertex, loop_visited, loop_pass_start}
 use Rattle.graph.specs.Laws.Loop.Invariant.{loop_enter_start, Visited, loop_leave, loop_enter_at}
-use Rattle.adjacency.specs.Arrays.{cut, Arrays}
+use Rattle.adjacency.specs.Laws.Rows.{starts_fit}
 use Rattle.forest.specs.Laws.Starts.{start_cut}
-use Rattle.forest.specs.Steps.{down_bit, cells_of, Tied, Searching, Entering, PassedTo}
-use Rattle.forest.proofs.Laws.Graphs.{as_many, in_range, row_end, row_place, place_row}
+use Rattle.forest.specs.Steps.{down_bit, cells_of, Tied, Searching, Entering, AllVisited, FirstUnvisited}
+use Rattle.forest.specs.Graphs.{held, hand_number, SearchingIn}
+use Rattle.forest.specs.declared.graphs.Graph.{Graph}
+use Rattle.forest.proofs.Laws.Graphs.{many, in_range, row_end, row_place, place_row}
 use Rattle.forest.proofs.Laws.Stores.{Put, put_other, changed, stored_changed}
 use Rattle.forest.proofs.Laws.Tied.{tied_next, tied_enter, enters}
 
@@ -33,112 +39,120 @@ new_room {v = v} t size h z = let r = loop_room t.loop {x = v} (omega arith) z i
 
 -- ---- no vertex is at hand
 
-module _ {g : Blocks} {roots todo starts : List ℕ} {n s : ℕ} {work : List ℕ} {left v k : ℕ}
-    (t : Searching g roots (v ∷ todo) starts n s work left 0 k) (size : length g ≡ n) (h : v < n) where
-  pub start_passed : (get_or work (2 * s + v) 0 ≡ 0 → ⊥) → Searching g roots todo starts n s work (left - 1) 0 k
-  start_passed d = searching t.tied (loop_pass_start t.loop (omega arith) d)
+module _ (g : Graph) {roots todo work : List ℕ} {left v k : ℕ} (t : SearchingIn g roots (v ∷ todo) work left None k)
+    (h : v < g.n) where
+  pub start_passed : (get_or work (2 * g.s + v) 0 ≡ 0 → ⊥) → SearchingIn g roots todo work (left - 1) None k
+  start_passed d = let size = many g in searching t.tied (loop_pass_start t.loop (omega arith) d)
 
-  pub start_entered : {next : List ℕ} → get_or work (2 * s + v) 0 ≡ 0 → Entering n s work next v k 0 0
-      → Searching g roots todo starts n s next (left - 1) (v + 1) (k + 1)
+  pub start_entered : {next : List ℕ} → get_or work (2 * g.s + v) 0 ≡ 0 → Entering g.n g.s work next v k 0 0
+      → SearchingIn g roots todo next (left - 1) (Some v) (k + 1)
   unfolding down_bit
   start_entered {next} z e =
-      let c = enters {n = n} 0 work t.next_of t.next_of t.slot_of (λ i l. refl) e (t.tied.fresh v h z) in
-      rw (add-one v, add-one k)
+      let size = many g in
+      let c = enters {n = g.n} 0 work t.next_of t.next_of t.slot_of (λ i l. refl) e (t.tied.fresh v h z) in
+      rw (add-one k)
       (searching (tied_enter t.tied 0 e refl) (loop_enter_start t.loop (omega arith) z (rw size c)))
 
 -- ---- vertex u is at hand
 
-module _ {starts nbrs : List ℕ} (a : Arrays starts nbrs) {n : ℕ} (fit : n + 1 ≡ length starts)
-    {roots todo : List ℕ} {s : ℕ} {work : List ℕ} {left cur k : ℕ} (u : ℕ)
-    (t : Searching (cut starts nbrs) roots todo starts n s work left cur k) (is-cur : cur ≡ suc u) where
-  hand : Loop (cut starts nbrs) (search (cut starts nbrs) all roots) left todo (suc u) k
-      (cells_of s t.next_of t.slot_of work)
-  hand = rw is-cur at t.loop
+module _ (g : Graph) {roots todo work : List ℕ} {left u k : ℕ} (t : SearchingIn g roots todo work left (Some u) k) where
+  pub hand_vertex : u < g.n
+  hand_vertex = omega (arith, many g, loop_vertex t.loop)
 
-  pub hand_vertex : u < n
-  hand_vertex = omega (arith, as_many starts nbrs fit, loop_vertex hand)
-
-  module _ {from end p : ℕ} (is-from : from ≡ get_or work u 0) (is-end : end ≡ get_or starts cur 0)
-      (d : PassedTo nbrs s work from end p) where
-    -- the place from which the passing begins, and the end of the block
-    from_next : from ≡ get_or starts u 0 + t.next_of u
+  module _ {from end : ℕ} (is-from : from ≡ get_or work u 0) (is-end : end ≡ get_or g.starts.now (u + 1) 0) where
+    -- the place from which the passing begins
+    from_next : from ≡ get_or g.starts.now u 0 + t.next_of u
     from_next = is-from ∙ t.tied.nexts u hand_vertex
 
-    end_next : end ≡ get_or starts (u + 1) 0
-    end_next = cc (add-one u)
-
-    passed : (j : ℕ) → get_or starts u 0 + j ≤ p
-        → Visited (cut starts nbrs) (cells_of s t.next_of t.slot_of work) u (t.next_of u) j
-    passed j m x v l h q z =
+    passed : {p : ℕ} → AllVisited g.nbrs.now g.s work from p → (j : ℕ) → get_or g.starts.now u 0 + j ≤ p
+        → Visited (held g) (cells_of g.s t.next_of t.slot_of work) u (t.next_of u) j
+    passed d j m x v l h q z =
         let f = from_next in
-        d.visited (get_or starts u 0 + x) (omega arith) (omega arith)
-        (ap (λ y. get_or work (2 * s + y) 0) (place_row a fit hand_vertex q) ∙ z)
+        d (get_or g.starts.now u 0 + x) (omega arith) (omega arith)
+        (ap (λ y. get_or work (2 * g.s + y) 0) (place_row g.arrays g.sized hand_vertex q) ∙ z)
 
-    pub next_left : {q : ℕ} → end ≤ p → q ≡ get_or work (s + u) 0
-        → Searching (cut starts nbrs) roots todo starts n s work (left - 1) q k
-    next_left m e =
-        let b = row_end a fit hand_vertex in
-        let f = end_next in
-        rw e (searching t.tied
-        (loop_leave hand (in_range a) (passed (length (block (cut starts nbrs) u)) (omega arith))))
+    pub next_left : {q : ℕ} (cur : Option ℕ) → AllVisited g.nbrs.now g.s work from end → hand_number cur ≡ q
+        → q ≡ get_or work (g.s + u) 0 → SearchingIn g roots todo work (left - 1) cur k
+    next_left cur d c e =
+        let b = row_end g.arrays g.sized hand_vertex in
+        rw (c ∙ e) (searching t.tied
+        (loop_leave t.loop (in_range g.arrays) (passed d (length (block (held g) u)) (omega arith))))
 
-    -- the position of place p
-    abbrev pos : ℕ
-    pos = p - get_or starts u 0
+    pub place_fits : {p : ℕ} → FirstUnvisited g.nbrs.now g.s work from end p
+        → (p < length g.nbrs.now) × (p + u + 1 < 65536)
+    place_fits d =
+        let f = starts_fit g.arrays.divided (u + 1) (omega (arith, hand_vertex, g.sized)) in
+        let few = g.arrays.divided.few_places in
+        let h = d.high in
+        let v = hand_vertex in
+        let r = t.tied.room.few in
+        (omega arith, omega arith)
 
-    place_is : get_or starts u 0 + pos ≡ p
-    place_is = omega (arith, from_next, d.low)
+    module _ {p v : ℕ} (d : FirstUnvisited g.nbrs.now g.s work from end p) (is-v : v ≡ get_or g.nbrs.now p 0) where
+      -- the position of place p
+      abbrev pos : ℕ
+      pos = p - get_or g.starts.now u 0
 
-    module _ {v : ℕ} (h : p < end) (is-v : v ≡ get_or nbrs p 0) where
-      next_place : Place (cut starts nbrs) u pos v
+      place_is : get_or g.starts.now u 0 + pos ≡ p
+      place_is = omega (arith, from_next, d.low)
+
+      next_place : Place (held g) u pos v
       next_place =
           let b = place_is in
-          let e = end_next in
-          row_place a fit hand_vertex (omega arith) (omega arith) is-v
+          let h = d.high in
+          row_place g.arrays g.sized hand_vertex (omega arith) (omega arith) is-v
 
-      next_new : get_or work (2 * s + v) 0 ≡ 0
-      next_new = ap (λ x. get_or work (2 * s + x) 0) is-v ∙ d.stops h
+      next_new : get_or work (2 * g.s + v) 0 ≡ 0
+      next_new = ap (λ x. get_or work (2 * g.s + x) 0) is-v ∙ d.unvisited
 
       -- it is a vertex, and there is room for it
-      pub next_fits : (v < n) × (k < n)
+      pub next_fits : (v < g.n) × (k < g.n)
       next_fits =
-          let size = as_many starts nbrs fit in
-          let inside = in_range a u pos v next_place in
+          let size = many g in
+          let inside = in_range g.arrays u pos v next_place in
           (omega arith, new_room t size (omega arith) next_new)
 
-      module _ {mid next : List ℕ} (m : mid ≡ set work u (p + 1)) (e : Entering n s mid next v k cur (p + cur)) where
+      module _ {mid next : List ℕ} (m : mid ≡ set work u (p + 1))
+          (e : Entering g.n g.s mid next v k (u + 1) (p + u + 1)) where
         abbrev later : ℕ → ℕ
         later = changed t.next_of u (suc pos)
 
-        store : Put work mid u (get_or starts u 0 + suc pos)
+        store : Put work mid u (get_or g.starts.now u 0 + suc pos)
         store = record { is = m ∙ ap (set work u) (let b = place_is in omega arith) }
 
-        behind : (i : ℕ) → s ≤ i → get_or mid i 0 ≡ get_or work i 0
+        behind : (i : ℕ) → g.s ≤ i → get_or mid i 0 ≡ get_or work i 0
         behind i l =
             let w = hand_vertex in
+            let r = t.tied.room in
             put_other store i (λ q. omega arith)
 
-        tied_mid : Tied (cut starts nbrs) starts n s mid later t.slot_of
-        tied_mid = tied_next t.tied (suc pos) hand_vertex (loop_visited hand) store
+        tied_mid : Tied (held g) g.starts.now g.n g.s mid later t.slot_of
+        tied_mid = tied_next t.tied (suc pos) hand_vertex (loop_visited t.loop) store
 
-        bit_is : p + suc u ≡ down_bit (cut starts nbrs) (suc u) pos
+        bit_is : p + u + 1 ≡ down_bit (held g) (suc u) pos
         unfolding down_bit
         bit_is =
             let b = place_is in
             let w = hand_vertex in
-            let q = start_cut a.divided u (omega arith) in
+            let f = g.sized in
+            let q = start_cut g.arrays.divided u (omega arith) in
             omega arith
 
-        pub next_entered : Searching (cut starts nbrs) roots todo starts n s next (left - 1) (v + 1) (k + 1)
+        pub next_entered : SearchingIn g roots todo next (left - 1) (Some v) (k + 1)
         next_entered =
-            let size = as_many starts nbrs fit in
+            let size = many g in
             let inside = next_fits.0 in
-            let x : Entering n s mid next v k (suc u) (p + suc u) = rw is-cur at e in
-            let z = tied_mid.fresh v (omega arith) (behind (2 * s + v) (omega arith) ∙ next_new) in
-            let c = enters {n = n} pos work t.next_of later t.slot_of behind x z in
-            let y = stored_changed (length (cut starts nbrs)) t.next_of u (suc pos) in
+            let x : Entering g.n g.s mid next v k (suc u) (p + u + 1) = rw (add-one u) at e in
+            let z = tied_mid.fresh v (omega arith) (behind (2 * g.s + v) (omega arith) ∙ next_new) in
+            let c = enters {n = g.n} pos work t.next_of later t.slot_of behind x z in
+            let y = stored_changed (length (held g)) t.next_of u (suc pos) in
             let f = from_next in
-            rw (add-one v, add-one k)
+            rw (add-one k)
             (searching (tied_enter tied_mid pos x bit_is)
-            (loop_enter_at hand (in_range a) (omega arith) (passed pos (omega arith)) next_place next_new y
-            (rw size c)))
+            (loop_enter_at t.loop (in_range g.arrays) (omega arith) (passed d.visited pos (omega arith)) next_place
+            next_new y (rw size c)))
+
+-- what the cell of a parent says
+pub raised : (x : ℕ) (r : Option ℕ) → SomeIff r (1 ≤ x) (x - 1) → hand_number r ≡ x
+raised x None n = elim (ℕ_discrete x 0) [ yes e ↦ sym e | no d ↦ absurd (n (omega arith)) ]
+raised x (Some y) (h, e) = omega arith

@@ -1,28 +1,20 @@
 -- `lows::own_low` meets its contract: before p every place is looked at.
-use Prim.Native.Nat.{◌+◌}
+use mathlib.Core.Path.{refl}
 use native.Mathlib.Omega.{arith}
-use borrow.Author.Rules.{rules}
-use Rattle.adjacency.specs.Laws.Rows.{starts_fit}
-use Rattle.forest.proofs.Laws.Graphs.{known}
-use Rattle.forest.proofs.Laws.Lowest.{looked_begin, looked_more, looked_end}
+use Rattle.forest.proofs.Laws.Lowest.{looked_begin, looked_inside, looked_more, looked_end}
 use Rattle.forest.proofs.lows.own_low.Goals as goal
 
 pub loop-p-init : goal.loop-p-init
-loop-p-init c =
-    looked_begin c.requires.arrays c.args.s c.args.work.now c.get-p.ensures.0
-    c.get-low.ensures
+loop-p-init c = looked_begin c.args.g.now c.requires.1 c.args.work.now c.get-p.ensures.0 refl
 
-pub next_low-l-requires : goal.next_low-l-requires
-next_low-l-requires c =
-    let l = starts_fit c.requires.arrays.0.divided (c.args.c + 1) (omega arith) in
-    record { room = (c.requires.room, known c.requires.arrays.0 c.requires.arrays.2, omega arith, search rules); c_lt_n = search rules }
+pub next_low-own-requires : goal.next_low-own-requires
+next_low-own-requires c =
+    let inside = looked_inside c.args.g.now c.requires.1 c.get-p-end.ensures.0 c.loop-p-test.true in
+    (c.requires.0, c.requires.1, inside)
 
 pub loop-p-preserved : goal.loop-p-preserved
 loop-p-preserved c =
-    looked_more c.requires.arrays c.loop-p.invariant c.get-up.ensures.0 (omega arith)
-    c.next_low-l.ensures.low_step c.next_low-l.ensures.low_bound
+    looked_more c.args.g.now c.requires.1 c.loop-p.invariant c.get-up.ensures.0 (omega arith) c.next_low-own.ensures
 
 pub returns : goal.returns
-returns c =
-    let i = c.loop-p.invariant in
-    record { own_low = looked_end c.requires.arrays i (omega arith); low_bound = (i.low_fits, i.back_fits) }
+returns c = looked_end c.args.g.now c.requires.1 c.loop-p.invariant (omega arith)

@@ -1,23 +1,28 @@
 -- `marks::mark_bridges` meets its contract: the marks of the vertices before c are there.
 use native.Mathlib.Omega.{arith}
+use Rattle.forest.proofs.Laws.Graphs.{many, marks_sized}
 use Rattle.forest.proofs.Laws.Bridged.{bridging_begin, bridging_asks, bridging_more, bridging_end}
 use Rattle.forest.proofs.marks.mark_bridges.Goals as goal
 
 pub loop-c-init : goal.loop-c-init
 loop-c-init c =
-    bridging_begin c.args.s c.args.work.now c.requires.0 c.clear.ensures
-    (λ j. (c.slice_known-2-1.given j).fits)
+    let k = marks_sized c.args.g.now c.requires.0 in
+    let zeros = c.fill.ensures.after (λ y same. same) in
+    bridging_begin c.args.g.now.s c.args.work.now k zeros (λ j. (c.type_inv.section j).fits)
 
 pub mark_bridge-requires : goal.mark_bridge-requires
 mark_bridge-requires c =
-    let (room, bound) = bridging_asks c.requires.1 c.loop-c.invariant c.requires.0 (omega arith) c.requires.2 (omega arith) in
-    record { room = room; c_bound = bound }
+    let g = c.args.g.now in
+    let k = marks_sized g c.requires.0 in
+    let (room, inside) = bridging_asks g.formed c.loop-c.invariant k c.fill.ensures.len c.requires.1 c.loop-c-test.true in
+    record { room = room; bits_in = inside }
 
 pub loop-c-preserved : goal.loop-c-preserved
 loop-c-preserved c =
-    bridging_more c.requires.1 c.loop-c.invariant c.requires.0.vertices (omega arith)
-    (λ j. (c.slice_known-in-loop-c-1.given j).fits) c.mark_bridge.ensures.section_len_unchanged c.mark_bridge.ensures.bridge_step
+    let g = c.args.g.now in
+    bridging_more g.formed c.loop-c.invariant (many g) c.loop-c-test.true (λ j. (c.type_inv.section j).fits)
+    c.mark_bridge.ensures.section_len_unchanged c.mark_bridge.ensures.bridge_step
 
 pub returns : goal.returns
 returns c =
-    bridging_end c.requires.1 c.loop-c.invariant c.requires.0.vertices c.requires.2 (omega arith)
+    bridging_end c.args.g.now.formed c.loop-c.invariant (many c.args.g.now) c.requires.1 (omega arith)

@@ -1,32 +1,36 @@
--- `numbers::write_numbers` meets its contract: the numbers before v are written.
+-- `numbers::write_numbers` meets its contract: the numbers of the first i pairs are written.
+use Prim.Native.Nat.{◌-◌, ◌*◌}
+use mathlib.Core.Path.{◌≡◌}
 use native.Mathlib.Omega.{arith}
+use lib.ListN.{length}
 use borrow.Author.Rules.{rules}
-use Rattle.forest.proofs.Laws.Numbers.{pairs_begin, pairs_room, pairs_rest, pairs_more, pairs_last}
-use Rattle.forest.proofs.Laws.Numbers.{pairs_end}
+use Rattle.forest.proofs.Laws.Numbers.{pairs_begin, pairs_room, pairs_rest, pairs_more, pairs_last, pairs_end}
 use Rattle.forest.proofs.numbers.write_numbers.Goals as goal
 
-pub loop-v-init : goal.loop-v-init
-loop-v-init c =
-    pairs_begin c.args.visits.now c.requires.1 c.clear.ensures
-    (λ j. (c.slice_known-2-1.given j).fits)
+pub loop-i-init : goal.loop-i-init
+loop-i-init c =
+    let zeros = c.fill.ensures.after (λ y same. same) in
+    pairs_begin c.args.visits.now c.requires.1 zeros (λ j. (c.type_inv.section j).fits)
 
 pub write_pair-requires : goal.write_pair-requires
-write_pair-requires c = let r = pairs_room c.loop-v.invariant (omega arith) in search rules
+write_pair-requires c = let r = pairs_room c.loop-i.invariant (omega arith) in search rules
 
-pub loop-v-preserved : goal.loop-v-preserved
-loop-v-preserved c =
-    pairs_more c.loop-v.invariant (λ j. (c.slice_known-in-loop-v-1.given j).fits) c.write_pair.ensures.section_len_unchanged
-    (omega arith) c.visit.ensures.0 c.visit-in-loop-v.ensures.0 c.write_pair.ensures.section_after
+pub loop-i-preserved : goal.loop-i-preserved
+loop-i-preserved c =
+    pairs_more c.loop-i.invariant (λ j. (c.type_inv.section j).fits) c.write_pair.ensures.section_len_unchanged
+    (omega arith) c.visit.ensures.0 c.visit-in-loop-i.ensures.0 c.write_pair.ensures.section_after
 
 pub write_last-requires : goal.write_last-requires
 write_last-requires c =
-    let r = pairs_rest c.loop-v.invariant (omega arith) in
-    search rules
+    let few = c.requires.0.few in
+    let r = pairs_rest c.loop-i.invariant (omega arith) in
+    let v : length c.args.visits.now - 1 ≡ 2 * c.loop-i.i = omega arith in
+    (omega arith, omega arith, c.visit-then-n-eq1.ensures.1, c.visit-then-n-eq1.ensures.2)
 
-pub returns-then-v-n : goal.returns-then-v-n
-returns-then-v-n c =
-    pairs_last c.loop-v.invariant (λ j. (c.slice_known-then-v-n-1.given j).fits) c.write_last.ensures.section_len_unchanged
-    (omega arith) (omega arith) c.visit-then-v-n.ensures.0 c.write_last.ensures.section_after
+pub returns-then-n-eq1 : goal.returns-then-n-eq1
+returns-then-n-eq1 c =
+    pairs_last c.loop-i.invariant (λ j. (c.type_inv.section j).fits) c.write_last.ensures.section_len_unchanged
+    (omega arith) (omega arith) c.visit-then-n-eq1.ensures.0 c.write_last.ensures.section_after
 
-pub returns-else-v-n : goal.returns-else-v-n
-returns-else-v-n c = pairs_end c.loop-v.invariant (omega arith)
+pub returns-else-n-eq1 : goal.returns-else-n-eq1
+returns-else-n-eq1 c = pairs_end c.loop-i.invariant (omega arith)

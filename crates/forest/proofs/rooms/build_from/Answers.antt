@@ -3,7 +3,7 @@ use native.Mathlib.Omega.{arith}
 use mathlib.Core.Path.{sym, ◌∙◌}
 use Rattle.forest.specs.Laws.Taken.{taken_range, taken_inside}
 use Rattle.forest.proofs.Laws.Building.{done_short, done_misfit, done_unstarted, done_empty, done_written}
-use Rattle.forest.proofs.Laws.Building.{write_asked}
+use Rattle.forest.proofs.Laws.Building.{graph_asked}
 use Rattle.forest.proofs.rooms.build_from.Goals as goal
 
 pub returns-then-work-n : goal.returns-then-work-n
@@ -27,19 +27,22 @@ returns-then-n-eq0 c =
     (c.if-index-index_length.false ∙ c.index_length.ensures)
     (sym c.no_start.ensures ∙ c.if-no_start.false) c.if-n-eq0.true
 
+pub invariant_of-g : goal.invariant_of-g
+invariant_of-g c =
+    let (arrays, formed, sized, places) = graph_asked c.requires.0 c.requires.1 in
+    record { arrays = arrays; formed = formed; sized = sized; places = places; apart = c.stride.ensures }
+
 pub overflow_sub-start : goal.overflow_sub-start
 overflow_sub-start c =
-    let n = c.args.n in
     let some = c.if-n-eq0.false in
-    (taken_range n _ (sym c.no_start.ensures ∙ c.if-no_start.false) (omega arith)).0
+    (taken_range c.args.l.now.n _ (sym c.no_start.ensures ∙ c.if-no_start.false) (omega arith)).0
 
 pub write_index-requires : goal.write_index-requires
 write_index-requires c =
-    let (a, w) = write_asked c.requires.0 c.requires.1 in
     let some = c.if-n-eq0.false in
     let taken = sym c.no_start.ensures ∙ c.if-no_start.false in
-    let first = taken_inside c.args.n c.args.start.0 taken (omega arith) in
-    record { arrays = a; well_formed = (w, first, c.if-work-n.false, c.if-index-index_length.false ∙ c.index_length.ensures) }
+    let first = taken_inside c.args.l.now.n c.args.start.0 taken (omega arith) in
+    record { room = (first, c.if-work-n.false); size = c.if-index-index_length.false ∙ c.index_length.ensures }
 
 pub returns : goal.returns
 returns c =

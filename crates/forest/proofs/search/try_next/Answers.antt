@@ -1,58 +1,37 @@
 -- `search::try_next` meets its contract.
-use Prim.Native.Nat.{◌-◌, ◌≤◌, ◌<◌}
+use Prim.Native.Nat.{◌+◌}
 use native.Mathlib.Omega.{arith}
 use borrow.Author.Rules.{rules}
-use lib.ListN.{length}
 use Rattle.adjacency.specs.Laws.Rows.{starts_fit}
-use Rattle.forest.proofs.Laws.Graphs.{known}
-use Rattle.forest.proofs.Laws.Stepping.{next_fits, next_left, next_entered}
+use Rattle.forest.proofs.Laws.Stepping.{place_fits, next_fits, next_left, next_entered, raised}
 use Rattle.forest.proofs.search.try_next.Goals as goal
-use Rattle.forest.proofs.search.try_next.Goals.{After-get-end, After-get-v}
 
 -- the end of the block
-end_fits : (c : After-get-end) → c.get-end.result ≤ length c.args.nbrs.now
-end_fits c =
-    let f = starts_fit c.requires.arrays.0.divided c.args.cur (omega arith) in
-    omega arith
-
--- a place before that end
-place_fits : (c : After-get-v) → c.pass_visited-p.result < 32768
-place_fits c = omega (arith, (let it : c.get-end.result ≤ length c.args.nbrs.now = let f = starts_fit c.requires.arrays.0.divided c.args.cur (omega arith) in omega arith in it), c.requires.arrays.0.divided.few_places)
-
--- the neighbour there, which is to be entered
-fits : (c : After-get-v)
-    → (c.get-v.result < c.args.n)
-    × (c.args.k < c.args.n)
-fits c =
-    next_fits c.requires.arrays.0 c.requires.arrays.1 (c.args.cur - 1) c.requires.underway.searching (omega arith)
-    c.get.ensures.0 c.get-end.ensures.0 c.pass_visited-p.ensures c.if-p-end.true
-    c.get-v.ensures.0
-
-pub pass_visited-p-requires : goal.pass_visited-p-requires
-pass_visited-p-requires c =
-    let b = c.requires in
-    (b.underway.searching.tied.room, known b.arrays.0 b.arrays.1, end_fits (goal.at.pass_visited-p-requires c).After-get-end)
+pub next_unvisited-requires : goal.next_unvisited-requires
+next_unvisited-requires c =
+    let g = c.args.g.now in
+    let f = starts_fit g.arrays.divided (c.args.u + 1) (omega (arith, g.sized)) in
+    (c.requires.1.searching.tied.room, omega arith)
 
 pub get-v-requires : goal.get-v-requires
-get-v-requires c = let f = end_fits (goal.at.get-v-requires c).After-get-end in omega arith
+get-v-requires c =
+    (place_fits c.args.g.now c.requires.1.searching c.get-from.ensures.0 c.get-end.ensures.0 c.in-Some.ensures).0
 
+-- the neighbour at the next place, which is to be entered
 pub enter-requires : goal.enter-requires
 enter-requires c =
-    let r = c.requires.underway.searching.tied.room in
-    let f = fits (goal.at.enter-requires c).After-get-v in
-    let p = place_fits (goal.at.enter-requires c).After-get-v in
-    search rules
+    let g = c.args.g.now in
+    let t = c.requires.1.searching in
+    let p = place_fits g t c.get-from.ensures.0 c.get-end.ensures.0 c.in-Some.ensures in
+    let f = next_fits g t c.get-from.ensures.0 c.get-end.ensures.0 c.in-Some.ensures c.get-v.ensures.0 in
+    record { room = search rules; fits = (f.0, f.1, omega arith, p.1) }
 
-pub overflow_add-result-then-p-end : goal.overflow_add-result-then-p-end
-overflow_add-result-then-p-end c = let r = fits (goal.at.overflow_add-result-then-p-end c).After-get-v in omega arith
-
-pub returns-then-p-end : goal.returns-then-p-end
-returns-then-p-end c = λ roots todo t.
-    next_entered c.requires.arrays.0 c.requires.arrays.1 (c.args.cur - 1) t (omega arith) c.get.ensures.0
-    c.get-end.ensures.0 c.pass_visited-p.ensures c.if-p-end.true c.get-v.ensures.0
+pub returns-in-Some : goal.returns-in-Some
+returns-in-Some c = λ roots todo left t.
+    next_entered c.args.g.now t c.get-from.ensures.0 c.get-end.ensures.0 c.in-Some.ensures c.get-v.ensures.0
     c.put.ensures c.enter.ensures
 
-pub returns : goal.returns
-returns c = λ roots todo t.
-    next_left c.requires.arrays.0 c.requires.arrays.1 (c.args.cur - 1) t (omega arith) c.get.ensures.0
-    c.get-end.ensures.0 c.pass_visited-p.ensures c.if-p-end.false c.get-2.ensures.0
+pub returns-in-None : goal.returns-in-None
+returns-in-None c = λ roots todo left t.
+    next_left c.args.g.now t c.get-from.ensures.0 c.get-end.ensures.0 c.checked_sub.result c.in-None.ensures
+    (raised _ _ c.checked_sub.ensures) c.get.ensures.0

@@ -1,9 +1,0 @@
--- `rooms::in_full` meets its contract: its arrays are long enough.
-use native.Mathlib.Omega.{arith}
-use Rattle.record.specs.Laws.Lending.{roomy}
-use Rattle.forest.proofs.rooms.in_full.Goals as goal
-
-pub build_in-requires : goal.build_in-requires
-build_in-requires c =
-    let f = c.requires.0.sound.n_fits in
-    (c.requires.0, roomy _ _ 4160 32928 33120 4096 (omega arith) (omega arith) (omega arith) (omega arith))
