@@ -4,7 +4,7 @@
 
 ghost use Rattle.std.specs.Prelude.{◌<◌, ◌≤◌, length};
 
-use print::{label, number, show_bytes, text, value};
+use print::show_bytes;
 use std::io;
 
 // The sample record.
@@ -44,36 +44,24 @@ const ASKED: [usize; 20] = [
     18446744073709551615,
 ];
 
-// Rank and select of one string at n.
-fn pair(rt: &impl Print, bytes: &[u8], start: usize, places: usize, n: usize) -> io::Result<()> {
-    value(rt, bits::rank(bytes, start, places, n))?;
-    text(rt, b"/")?;
-    number(rt, bits::select(bytes, start, places, n))?;
-    Ok(())
-}
-
 // Rank and select of one string, at each number asked.
-fn pairs(
-    rt: &impl Print,
-    bytes: &[u8],
-    start: usize,
-    places: usize,
-    asked: &[usize],
-) -> io::Result<()> {
-    let mut i = 0;
-    while i < asked.len() {
-        pair(rt, bytes, start, places, asked[i])?;
-        i += 1;
+fn string(rt: &impl Print, bytes: &[u8], start: usize, places: usize) -> io::Result<()> {
+    print!(rt; "string {start} {places}:")?;
+    for n in ASKED {
+        let rank = bits::rank(bytes, start, places, n);
+        let select = bits::select(bytes, start, places, n);
+        print!(rt; " {rank}/{select}")?;
     }
-    Ok(())
+    println!(rt;)
 }
 
-fn string(rt: &impl Print, bytes: &[u8], start: usize, places: usize) -> io::Result<()> {
-    text(rt, b"string")?;
-    value(rt, start)?;
-    label(rt, b" ", places)?;
-    pairs(rt, bytes, start, places, &ASKED)?;
-    text(rt, b"\n")?;
+// The field of WIDTH bits from bit `start` on, where the bytes hold it.
+fn field<const WIDTH: usize>(rt: &impl Print, bytes: &[u8], start: usize) -> io::Result<()>
+    requires { (length bytes.now ≤ 1000) × (start < 1000) × (9 ≤ WIDTH) × (WIDTH ≤ 16) }
+{
+    if start + WIDTH <= 8 * bytes.len() {
+        print!(rt; " {}", bits::fields::read::<WIDTH>(bytes, start))?;
+    }
     Ok(())
 }
 
@@ -81,26 +69,14 @@ fn string(rt: &impl Print, bytes: &[u8], start: usize, places: usize) -> io::Res
 fn fields(rt: &impl Print, bytes: &[u8], start: usize) -> io::Result<()>
     requires { (length bytes.now ≤ 1000) × (start < 1000) }
 {
-    let held = 8 * bytes.len();
-    label(rt, b"fields ", start)?;
-    if start < held {
-        if bits::fields::read_bit(bytes, start) {
-            text(rt, b" 1")?;
-        } else {
-            text(rt, b" 0")?;
-        }
+    print!(rt; "fields {start}:")?;
+    if start < 8 * bytes.len() {
+        print!(rt; " {}", u8::from(bits::fields::read_bit(bytes, start)))?;
     }
-    if start + 12 <= held {
-        value(rt, bits::fields::read::<12>(bytes, start))?;
-    }
-    if start + 13 <= held {
-        value(rt, bits::fields::read::<13>(bytes, start))?;
-    }
-    if start + 15 <= held {
-        value(rt, bits::fields::read::<15>(bytes, start))?;
-    }
-    text(rt, b"\n")?;
-    Ok(())
+    field::<12>(rt, bytes, start)?;
+    field::<13>(rt, bytes, start)?;
+    field::<15>(rt, bytes, start)?;
+    println!(rt;)
 }
 
 // Four bytes of zeros and four of ones, after a field was written from bit `start` on, and then after that bit was set.
@@ -110,12 +86,11 @@ fn write(rt: &impl Print, start: usize, v: usize) -> io::Result<()>
     let mut bytes = [0x00, 0x00, 0x00, 0x00, 0xFF, 0xFF, 0xFF, 0xFF];
     let buffer: &mut [u8] = &mut bytes;
     bits::fields::write::<12>(buffer, start, v);
-    label(rt, b"field ", start)?;
+    print!(rt; "field {start}:")?;
     show_bytes(rt, buffer)?;
     bits::fields::set_bit(buffer, start);
-    label(rt, b"bit ", start)?;
-    show_bytes(rt, buffer)?;
-    Ok(())
+    print!(rt; "bit {start}:")?;
+    show_bytes(rt, buffer)
 }
 
 // The sample record: its header, D and fields, all its bits, no bits, and strings that it does not hold.
@@ -136,8 +111,7 @@ fn sample(rt: &impl Print) -> io::Result<()> {
     string(rt, bytes, 169, 0)?;
     string(rt, bytes, 1, 18446744073709551615)?;
     string(rt, bytes, 18446744073709551615, 18446744073709551615)?;
-    string(rt, &bytes[..0], 0, 0)?;
-    Ok(())
+    string(rt, &bytes[..0], 0, 0)
 }
 
 // Strings, fields and writes at one of the starting bits of a byte. A field that begins in byte 26 ends in byte 27 or
@@ -155,16 +129,13 @@ fn at(rt: &impl Print, shift: usize) -> io::Result<()>
     fields(rt, &bytes[..29], 208 + shift)?;
     write(rt, shift, 0xABC)?;
     write(rt, 20 + shift, 0x543)?;
-    write(rt, 44 + shift, 0xABC)?;
-    Ok(())
+    write(rt, 44 + shift, 0xABC)
 }
 
 fn main(rt: HostRuntime) -> io::Result<()> {
     sample(&rt)?;
-    let mut shift = 0;
-    while shift <= 8 {
+    for shift in 0..=8 {
         at(&rt, shift)?;
-        shift += 1;
     }
     Ok(())
 }
