@@ -9,7 +9,7 @@ ghost use Rattle.record.specs.Steps.{Listed, vertex_of as the_vertex_of, graph_f
 
 use super::Refusal;
 use super::rules::try_rules;
-use adjacency::cells::{get, put};
+use adjacency::cells::put;
 use adjacency::lists::Lists;
 
 // Two lists that rule 16 lets pass: the degrees of the terminals, and the neighbours of all in a row.
@@ -45,13 +45,12 @@ fn fill_starts(lists: &Listing, starts: &mut [u16])
     requires { length starts.old ≡ length lists.now.degrees.now + 1 }
     ensures { starts.new ≡ sums_of lists.now.degrees.now }
 {
-    let degrees = lists.degrees;
     let mut start = 0;
-    for v in 0..degrees.len() {
+    for (v, degree) in lists.degrees.iter().enumerate() {
         put(starts, v, start);
-        start += get(degrees, v);
+        start += usize::from(*degree);
     }
-    put(starts, degrees.len(), start);
+    put(starts, lists.degrees.len(), start);
 }
 
 // A neighbour counted from 0: 0, which is no terminal, becomes 65,535, which is no vertex.
@@ -66,8 +65,8 @@ fn fill_neighbours(neighbours: &[u16], nbrs: &mut [u16])
     requires { length nbrs.old ≡ length neighbours.now }
     ensures { nbrs.new ≡ map the_vertex_of neighbours.now }
 {
-    for i in 0..neighbours.len() {
-        nbrs[i] = vertex_of(neighbours[i]);
+    for (i, v) in neighbours.iter().enumerate() {
+        nbrs[i] = vertex_of(*v);
     }
 }
 

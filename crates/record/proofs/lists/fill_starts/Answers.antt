@@ -15,10 +15,9 @@ loop-v-preserved c =
     let degrees = c.args.lists.now.degrees.now in
     let loop = c.loop-v in
     let inv = loop.invariant in
-    let (d, small) = c.get-start.ensures in
     let h = c.loop-v-test.true in
-    let next : drop loop.v degrees ≡ c.get-start.result ∷ drop (loop.v + 1) degrees =
-    rw (add-one loop.v, d) (drop-cons degrees loop.v 0 h) in
+    let next : drop loop.v degrees ≡ c.from-start.result ∷ drop (loop.v + 1) degrees =
+    rw (add-one loop.v, c.from-start.ensures) (drop-cons degrees loop.v 0 h) in
     let left = rw next at inv.left in
     let entered = rw next at inv.entered in
     let size = ap length c.put.ensures ∙ length-set loop.starts loop.v loop.start in

@@ -5,7 +5,7 @@ use Prim.Native.Nat.{◌+◌, ◌-◌, ◌*◌}
 use native.Mathlib.Omega.{arith}
 use lib.ListN.{length-map}
 use Rattle.bits.specs.Laws.Bytes.{length_bits}
-use Rattle.record.specs.Laws.Mapped.{map_at}
+use Rattle.std.proofs.lemmas.List.{get_or-map}
 use Rattle.record.proofs.Laws.Writing.Fields.{laying_start, laying_same, laying_on, laying_more}
 use Rattle.record.proofs.writing.write_fields.Goals as goal
 
@@ -49,6 +49,6 @@ loop-i-preserved c =
     let size = loop.invariant.size in
     let fits = c.requires.0 in
     let (put, same) = c.write.ensures in
-    let x = c.number.ensures.0 ∙ sym (map_at (λ v. v - 1) neighbours loop.i c.loop-i-test.true) in
+    let x = c.number.ensures.0 ∙ sym (get_or-map (λ v. v - 1) neighbours loop.i 0 0 c.loop-i-test.true) in
     let more = laying_more loop.invariant.laying (omega arith) (omega arith) same _ (omega arith) x put in
     record { laying = more; size = same ∙ size }

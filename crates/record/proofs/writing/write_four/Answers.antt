@@ -5,7 +5,7 @@ use mathlib.Core.List.{map}
 use native.Mathlib.Omega.{arith}
 use lib.ListN.{length, get_or, length-map}
 use Rattle.bits.specs.Laws.Bytes.{length_bits}
-use Rattle.record.specs.Laws.Mapped.{map_at}
+use Rattle.std.proofs.lemmas.List.{get_or-map}
 use Rattle.record.proofs.Laws.Writing.Fields.{laying_blank, laying_four}
 use Rattle.record.proofs.writing.write_four.Goals as goal
 
@@ -26,7 +26,7 @@ returns c =
     let d = c.number-c.ensures in
     let e = c.number-d.ensures in
     let w = c.write_four.ensures in
-    let at : (j : ℕ) → j < length list → get_or list j 0 - 1 ≡ get_or (map (λ v. v - 1) list) j 0 = λ j h. sym (map_at (λ v. v - 1) list j h) in
+    let at : (j : ℕ) → j < length list → get_or list j 0 - 1 ≡ get_or (map (λ v. v - 1) list) j 0 = λ j h. sym (get_or-map (λ v. v - 1) list j 0 0 h) in
     let four = laying_four c.requires.laying.0 (omega arith) (omega arith) w.1 (omega arith)
     (a.0 ∙ at i (omega arith), a.1) (b.0 ∙ at (i + 1) (omega arith), b.1)
     (d.0 ∙ at (i + 2) (omega arith), d.1) (e.0 ∙ at (i + 3) (omega arith), e.1) w.0 in
