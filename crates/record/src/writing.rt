@@ -22,8 +22,7 @@ struct Row<'a> {
 // n and m.
 fn write_header(bytes: &mut [u8], n: usize, m: usize)
     requires { (4 ≤ length bytes.old) × (n ≤ 4096) × (m ≤ 16384) × (Begun bytes.old []) }
-    ensures begun { Begun bytes.new (header_bits n m) }
-    ensures bytes_len_unchanged { length bytes.new ≡ length bytes.old }
+    ensures { Begun bytes.new (header_bits n m) }
 {
     write::<13>(bytes, 0, n);
     write::<15>(bytes, 13, m);
@@ -33,8 +32,7 @@ fn write_header(bytes: &mut [u8], n: usize, m: usize)
 fn write_unary(lists: &Listing, bytes: &mut [u8])
     requires { (28 + (length lists.now.degrees.now + total lists.now.degrees.now) ≤ 8 * length bytes.old)
         × (Blank (bits_of bytes.old) 28) }
-    ensures begun { Begun bytes.new (take 28 (bits_of bytes.old) ++ unary_bits lists.now.degrees.now) }
-    ensures bytes_len_unchanged { length bytes.new ≡ length bytes.old }
+    ensures { Begun bytes.new (take 28 (bits_of bytes.old) ++ unary_bits lists.now.degrees.now) }
 {
     let mut at = 28;
     for degree in lists.degrees {
@@ -59,8 +57,7 @@ fn write_four(row: &Row, bytes: &mut [u8], i: usize, front: u64) -> u64
     requires laying { (Laying row.now.start (bits_of bytes.old) (map (λ v. v - 1) row.now.neighbours.now) bytes.old i)
         × (front ≡ front_of (bits_of bytes.old) (row.now.start + 12 * i)) }
     ensures { (Laying row.now.start (bits_of bytes.old) (map (λ v. v - 1) row.now.neighbours.now) bytes.new (i + 4))
-        × (result ≡ front_of (bits_of bytes.new) (row.now.start + 12 * (i + 4)))
-        × (length bytes.new ≡ length bytes.old) }
+        × (result ≡ front_of (bits_of bytes.new) (row.now.start + 12 * (i + 4))) }
 {
     let a = number(row, i);
     let b = number(row, i + 1);
@@ -73,9 +70,8 @@ fn write_four(row: &Row, bytes: &mut [u8], i: usize, front: u64) -> u64
 fn write_fields(row: &Row, bytes: &mut [u8])
     requires { (row.now.start + 12 * length row.now.neighbours.now ≤ 8 * length bytes.old)
         × (Blank (bits_of bytes.old) row.now.start) }
-    ensures begun { Begun bytes.new
+    ensures { Begun bytes.new
         (take row.now.start (bits_of bytes.old) ++ field_bits (map (λ v. v - 1) row.now.neighbours.now)) }
-    ensures bytes_len_unchanged { length bytes.new ≡ length bytes.old }
 {
     let fours = row.neighbours.len().saturating_sub(1) / 4;
     let mut front = bits::fields::front_of(bytes, row.start);

@@ -1,5 +1,5 @@
 -- `writing::write_fields` meets its contract: the fields are written from the front, by fours, and then on to the last.
-use mathlib.Core.Path.{◌≡◌, refl, sym, ◌∙◌}
+use mathlib.Core.Path.{◌≡◌, sym, ◌∙◌}
 use mathlib.Core.List.{map}
 use Prim.Native.Nat.{◌+◌, ◌-◌, ◌*◌}
 use native.Mathlib.Omega.{arith}
@@ -17,13 +17,13 @@ loop-k-init c =
     let (fits, blank) = c.requires in
     let laying = laying_start (map (λ v. v - 1) row.neighbours.now) bytes row.start (omega arith) blank in
     let none : row.start ≡ row.start + 0 = omega arith in
-    record { laying = laying; front = rw none at c.front_of-front.ensures; size = refl }
+    record { laying = laying; front = rw none at c.front_of-front.ensures }
 
 pub write_four-front-requires-clause-laying : goal.write_four-front-requires-clause-laying
 write_four-front-requires-clause-laying c =
     let bits = length_bits c.args.bytes.now in
     let inv = c.loop-k.invariant in
-    let size = inv.size in
+    let size = c.loop-k.auto.bytes in
     let fits = c.requires.0 in
     (laying_same inv.laying (omega arith), inv.front)
 
@@ -32,13 +32,9 @@ loop-k-preserved c =
     let bits = length_bits c.args.bytes.now in
     let inv = c.loop-k.invariant in
     let fits = c.requires.0 in
-    let (written, front, size) = c.write_four-front.ensures in
+    let (written, front) = c.write_four-front.ensures in
     let next : 4 * c.loop-k.k + 4 ≡ 4 * (c.loop-k.k + 1) = omega arith in
-    record {
-      laying = rw next at (laying_on inv.laying (omega arith) written);
-      front = rw next at front;
-      size = size ∙ inv.size;
-    }
+    record { laying = rw next at (laying_on inv.laying (omega arith) written); front = rw next at front }
 
 pub loop-i-preserved : goal.loop-i-preserved
 loop-i-preserved c =
@@ -46,9 +42,8 @@ loop-i-preserved c =
     let loop = c.loop-i in
     let bits = length_bits c.args.bytes.now in
     let numbers = length-map neighbours (λ v. v - 1) in
-    let size = loop.invariant.size in
+    let size = loop.auto.bytes in
     let fits = c.requires.0 in
     let (put, same) = c.write.ensures in
     let x = c.number.ensures.0 ∙ sym (get_or-map (λ v. v - 1) neighbours loop.i 0 0 c.loop-i-test.true) in
-    let more = laying_more loop.invariant.laying (omega arith) (omega arith) same _ (omega arith) x put in
-    record { laying = more; size = same ∙ size }
+    laying_more loop.invariant (omega arith) (omega arith) same _ (omega arith) x put

@@ -2,7 +2,6 @@
 use mathlib.Core.Path.{◌≡◌}
 use mathlib.Core.List.{map}
 use Prim.Native.Nat.{◌+◌, ◌-◌, ◌*◌}
-use lib.ListN.{length}
 use Rattle.bits.specs.Bits.{bits}
 use Rattle.bits.specs.Steps.{front_of}
 use Rattle.record.specs.Steps.{Laying}
@@ -12,11 +11,7 @@ abbrev pub invariant-loop-k : goal.invariant-loop-k
 invariant-loop-k l = record {
   laying : Laying l.row.start (bits l.initial.bytes) (map (λ v. v - 1) l.row.neighbours.now) l.bytes (4 * l.k);
   front : l.front ≡ front_of (bits l.bytes) (l.row.start + 12 * (4 * l.k));
-  size : length l.bytes ≡ length l.initial.bytes;
 }
 
 abbrev pub invariant-loop-i : goal.invariant-loop-i
-invariant-loop-i l = record {
-  laying : Laying l.row.start (bits l.fn.bytes) (map (λ v. v - 1) l.row.neighbours.now) l.bytes l.i;
-  size : length l.bytes ≡ length l.fn.bytes;
-}
+invariant-loop-i l = Laying l.row.start (bits l.fn.bytes) (map (λ v. v - 1) l.row.neighbours.now) l.bytes l.i

@@ -31,4 +31,4 @@ returns c =
     (a.0 ∙ at i (omega arith), a.1) (b.0 ∙ at (i + 1) (omega arith), b.1)
     (d.0 ∙ at (i + 2) (omega arith), d.1) (e.0 ∙ at (i + 3) (omega arith), e.1) w.0 in
     let next : start + 12 * i + 48 ≡ start + 12 * (i + 4) = omega arith in
-    (four, rw next at w.2, w.1)
+    (four, rw next at w.2)

@@ -6,9 +6,9 @@ use Rattle.bits.specs.Laws.Digits.{length_to_bits}
 use Rattle.record.specs.Record.{header_bits}
 use Rattle.record.proofs.writing.write_header.Goals as goal
 
-pub returns-clause-begun : goal.returns-clause-begun
+pub returns : goal.returns
 unfolding header_bits
-returns-clause-begun c =
+returns c =
     let (n, n_size) = c.write.ensures in
     let (m, m_size) = c.write-2.ensures in
     let first = begun_put c.requires.3 13 c.args.n refl (omega arith) n n_size in

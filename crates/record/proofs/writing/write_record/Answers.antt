@@ -18,16 +18,16 @@ pub write_unary-requires : goal.write_unary-requires
 write_unary-requires c =
     let l = c.args.lists.now.listed in
     let h = c.write_header.ensures in
-    let room = record_room l (h.bytes_len_unchanged ∙ c.fill.ensures.len ∙ c.requires.1) in
-    (room.2, begun_blank h.begun 28 (sym (length_header_bits _ _)))
+    let room = record_room l (c.write_header.auto.bytes ∙ c.fill.ensures.len ∙ c.requires.1) in
+    (room.2, begun_blank h 28 (sym (length_header_bits _ _)))
 
 pub write_fields-requires : goal.write_fields-requires
 write_fields-requires c =
     let l = c.args.lists.now.listed in
     let h = c.write_header.ensures in
     let u = c.write_unary.ensures in
-    let size = u.bytes_len_unchanged ∙ h.bytes_len_unchanged ∙ c.fill.ensures.len ∙ c.requires.1 in
-    let front = header_on c.args.lists.now.degrees.now c.args.lists.now.neighbours.now h.begun u.begun in
+    let size = c.write_unary.auto.bytes ∙ c.write_header.auto.bytes ∙ c.fill.ensures.len ∙ c.requires.1 in
+    let front = header_on c.args.lists.now.degrees.now c.args.lists.now.neighbours.now h u in
     ((record_room l size).3, begun_blank front _ (length_front l))
 
 pub returns : goal.returns
@@ -37,6 +37,6 @@ returns c =
     let u = c.write_unary.ensures in
     let w = c.write_fields.ensures in
     let size =
-    w.bytes_len_unchanged ∙ u.bytes_len_unchanged ∙ h.bytes_len_unchanged ∙ c.fill.ensures.len ∙ c.requires.1 in
-    let front = header_on c.args.lists.now.degrees.now c.args.lists.now.neighbours.now h.begun u.begun in
-    written l (search rules) size (begun_on front _ (length_front l) _ w.begun)
+    c.write_fields.auto.bytes ∙ c.write_unary.auto.bytes ∙ c.write_header.auto.bytes ∙ c.fill.ensures.len ∙ c.requires.1 in
+    let front = header_on c.args.lists.now.degrees.now c.args.lists.now.neighbours.now h u in
+    written l (search rules) size (begun_on front _ (length_front l) _ w)

@@ -1,5 +1,5 @@
 -- `writing::write_unary` meets its contract: D is written degree by degree.
-use mathlib.Core.Path.{◌≡◌, refl, ◌∙◌}
+use mathlib.Core.Path.{◌≡◌}
 use mathlib.Core.List.{List}
 use Prim.Native.Nat.{ℕ, ◌+◌, ◌*◌, ◌≤◌}
 use native.Mathlib.Omega.{arith}
@@ -23,25 +23,24 @@ room degrees bytes h =
 pub loop-degree-init : goal.loop-degree-init
 loop-degree-init c =
     let h = c.requires.0 in
-    record { marking = marking_start c.args.lists.now.degrees.now c.args.bytes.now 28 (omega arith) c.requires.1; size = refl }
+    marking_start c.args.lists.now.degrees.now c.args.bytes.now 28 (omega arith) c.requires.1
 
 pub set_bit-requires : goal.set_bit-requires
 set_bit-requires c =
     let r = room c.args.lists.now.degrees.now c.args.bytes.now c.requires.0 in
-    let size = c.loop-degree.invariant.size in
-    omega (arith, marking_room c.loop-degree.invariant.marking c.loop-degree-test.true)
+    let size = c.loop-degree.auto.bytes in
+    omega (arith, marking_room c.loop-degree.invariant c.loop-degree-test.true)
 
 pub overflow_add-at-in-loop-degree : goal.overflow_add-at-in-loop-degree
 overflow_add-at-in-loop-degree c =
     let r = room c.args.lists.now.degrees.now c.args.bytes.now c.requires.0 in
-    omega (arith, marking_room c.loop-degree.invariant.marking c.loop-degree-test.true)
+    omega (arith, marking_room c.loop-degree.invariant c.loop-degree-test.true)
 
 pub loop-degree-preserved : goal.loop-degree-preserved
 loop-degree-preserved c =
     let loop = c.loop-degree in
-    let size = loop.invariant.size in
+    let size = loop.auto.bytes in
     let r = room c.args.lists.now.degrees.now c.args.bytes.now c.requires.0 in
     let (set, same) = c.set_bit.ensures in
-    let more = marking_more loop.invariant.marking c.loop-degree-test.true c.from.result c.from.ensures (omega arith)
-    set same in
-    record { marking = more; size = same ∙ size }
+    marking_more loop.invariant c.loop-degree-test.true c.from.result c.from.ensures (omega arith)
+    set same
