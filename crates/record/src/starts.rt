@@ -16,6 +16,7 @@ fn part_end(i: usize, places: usize) -> usize
 
 // The starts of all blocks, and the end of the last one, by one pass over D: part by part, and in each part from one to
 // one. Each one enters the zeros before it as the next start.
+#[tactic(auto, using(crate::proofs::Laws::Reading::Filled::filling_steps))]
 pub fn fill_starts(layout: &Layout, starts: &mut [u16])
     requires { length starts.old ≡ layout.now.n + 1 }
     ensures { starts.new ≡ starts_of (unary layout.now.bytes.now) }

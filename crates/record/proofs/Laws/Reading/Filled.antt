@@ -144,3 +144,6 @@ module _ {d : List Bool} {starts : List ℕ} {w end k : ℕ} (e : Entering d sta
       let i = e.inside in
       let n : p + (end - p) ≡ end = omega arith in
       rw n at (filling_zeros (end - p) e.filling (omega arith) (sym e.left ∙ z))
+
+-- where a start is entered, and how many are
+pub ruleset filling_steps = (filling_bounds, entering_bounds)

@@ -5,7 +5,6 @@ use Rattle.record.proofs.fields.read_fields.Goals as goal
 
 pub loop-i-preserved : goal.loop-i-preserved
 loop-i-preserved c =
-    let size = c.loop-i.invariant.size in
     reads_more c.loop-i.invariant c.read.result (omega arith) c.read.ensures.0 c.put.ensures
 
 pub returns : goal.returns

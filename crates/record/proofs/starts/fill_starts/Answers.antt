@@ -1,9 +1,8 @@
 -- `starts::fill_starts` meets its contract: the starts of the blocks whose ones were read are entered, and in a part of
 -- D each turn enters the start of the highest one that is left.
 use mathlib.Core.Path.{◌∙◌}
-use Prim.Native.Nat.{◌+◌, ◌-◌, ◌≤◌, ◌<◌}
+use Prim.Native.Nat.{◌-◌}
 use native.Mathlib.Omega.{arith}
-use lib.ListN.{length}
 use Rattle.record.specs.Record.{unary}
 use Rattle.record.specs.Laws.Sounded.{sound_places, sound_ones, sound_part}
 use Rattle.record.proofs.Laws.Reading.Filled.{filling_start, filling_bounds, filling_end}
@@ -15,7 +14,6 @@ pub loop-i-init : goal.loop-i-init
 loop-i-init c =
     let layout = c.args.layout.now in
     let n = sound_ones layout.sound in
-    let l = c.requires in
     filling_start (unary layout.bytes.now) c.args.starts.now (omega arith)
 
 pub loop-left-init : goal.loop-left-init
@@ -27,24 +25,13 @@ loop-left-init c =
     let part = c.read_long-left.ensures ∙ sound_part sound (end - loop.i) loop.i (omega arith) in
     entering_start end loop.invariant (omega arith) (omega arith) part
 
--- the highest one that is left has a place, and its start a cell
-bounds : (c : After-top-h)
-    → (c.loop-left.k + c.top-h.result + 1 ≤ c.part_end-end.result) × (c.loop-left.k < length c.loop-left.starts)
-bounds c = entering_bounds c.loop-left.invariant c.top-h.result c.top-h.ensures.1
-
 pub overflow_sub-end-in-loop-left : goal.overflow_sub-end-in-loop-left
-overflow_sub-end-in-loop-left c = let b = bounds (goal.at.overflow_sub-end-in-loop-left c).After-top-h in omega arith
+overflow_sub-end-in-loop-left c =
+    omega (arith, entering_bounds c.loop-left.invariant c.top-h.result c.top-h.ensures.1)
 
 pub overflow_sub-end-in-loop-left-2 : goal.overflow_sub-end-in-loop-left-2
 overflow_sub-end-in-loop-left-2 c =
-    let b = bounds (goal.at.overflow_sub-end-in-loop-left-2 c).After-top-h in
-    omega arith
-
-pub put-requires : goal.put-requires
-put-requires c = let b = bounds (goal.at.put-requires c).After-top-h in omega arith
-
-pub overflow_add-k : goal.overflow_add-k
-overflow_add-k c = let b = bounds (goal.at.overflow_add-k c).After-top-h in omega arith
+    omega (arith, entering_bounds c.loop-left.invariant c.top-h.result c.top-h.ensures.1)
 
 pub loop-left-preserved : goal.loop-left-preserved
 loop-left-preserved c =
@@ -53,9 +40,6 @@ loop-left-preserved c =
 
 pub loop-i-preserved : goal.loop-i-preserved
 loop-i-preserved c = entering_end c.loop-left.invariant c.loop-left-test.false
-
-pub overflow_sub-i : goal.overflow_sub-i
-overflow_sub-i c = let b = filling_bounds c.loop-i.invariant in omega arith
 
 pub put-requires-2 : goal.put-requires-2
 put-requires-2 c =

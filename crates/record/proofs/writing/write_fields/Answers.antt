@@ -23,15 +23,12 @@ pub write_four-front-requires-clause-laying : goal.write_four-front-requires-cla
 write_four-front-requires-clause-laying c =
     let bits = length_bits c.args.bytes.now in
     let inv = c.loop-k.invariant in
-    let size = c.loop-k.auto.bytes in
-    let fits = c.requires.0 in
     (laying_same inv.laying (omega arith), inv.front)
 
 pub loop-k-preserved : goal.loop-k-preserved
 loop-k-preserved c =
     let bits = length_bits c.args.bytes.now in
     let inv = c.loop-k.invariant in
-    let fits = c.requires.0 in
     let (written, front) = c.write_four-front.ensures in
     let next : 4 * c.loop-k.k + 4 ≡ 4 * (c.loop-k.k + 1) = omega arith in
     record { laying = rw next at (laying_on inv.laying (omega arith) written); front = rw next at front }
@@ -42,8 +39,6 @@ loop-i-preserved c =
     let loop = c.loop-i in
     let bits = length_bits c.args.bytes.now in
     let numbers = length-map neighbours (λ v. v - 1) in
-    let size = loop.auto.bytes in
-    let fits = c.requires.0 in
     let (put, same) = c.write.ensures in
     let x = c.number.ensures.0 ∙ sym (get_or-map (λ v. v - 1) neighbours loop.i 0 0 c.loop-i-test.true) in
     laying_more loop.invariant (omega arith) (omega arith) same _ (omega arith) x put

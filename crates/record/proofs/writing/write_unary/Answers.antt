@@ -22,13 +22,11 @@ room degrees bytes h =
 
 pub loop-degree-init : goal.loop-degree-init
 loop-degree-init c =
-    let h = c.requires.0 in
     marking_start c.args.lists.now.degrees.now c.args.bytes.now 28 (omega arith) c.requires.1
 
 pub set_bit-requires : goal.set_bit-requires
 set_bit-requires c =
     let r = room c.args.lists.now.degrees.now c.args.bytes.now c.requires.0 in
-    let size = c.loop-degree.auto.bytes in
     omega (arith, marking_room c.loop-degree.invariant c.loop-degree-test.true)
 
 pub overflow_add-at-in-loop-degree : goal.overflow_add-at-in-loop-degree
@@ -39,7 +37,6 @@ overflow_add-at-in-loop-degree c =
 pub loop-degree-preserved : goal.loop-degree-preserved
 loop-degree-preserved c =
     let loop = c.loop-degree in
-    let size = loop.auto.bytes in
     let r = room c.args.lists.now.degrees.now c.args.bytes.now c.requires.0 in
     let (set, same) = c.set_bit.ensures in
     marking_more loop.invariant c.loop-degree-test.true c.from.result c.from.ensures (omega arith)
