@@ -1,5 +1,4 @@
 -- `arrays::check_arrays` meets its contract: rules 6 and 8 are those of the record's graph.
-use native.Mathlib.Omega.{arith}
 use Rattle.record.specs.Steps.{Laid}
 use Rattle.record.specs.Laws.Unpacked.{divided_of, check_told}
 use Rattle.record.proofs.arrays.check_arrays.Goals as goal
