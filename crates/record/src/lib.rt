@@ -23,7 +23,6 @@ pub mod arrays; // arrays.rt: the graph of a record in two arrays
 mod rooms; // rooms.rt: Check in room for the record's size
 mod lists; // lists.rt: two lists, rule 16, and the arrays that they give
 mod list_rooms; // list_rooms.rt: rules 6 and 8 of two lists in room for their size
-pub mod clear; // clear.rt: bytes of zero
 mod writing; // writing.rt: a record written from two lists
 
 use layout::Layout;
