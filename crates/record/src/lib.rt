@@ -105,16 +105,18 @@ pub fn degree(bytes: &[u8], v: Vertex) -> Result<usize, Refusal>
     ensures { counted result ≡ degree_of bytes.now v.0 }
 {
     let layout = header::order_r(bytes)?;
-    blocks::degree_in(&layout, v)
+    let part = blocks::part_in(&layout, v)?;
+    Ok(part.size)
 }
 
 // Where terminal v's part of an unpacked list of len numbers stands; nothing, at the front, where Neighbours refuses.
 pub fn part_of(bytes: &[u8], len: usize, v: Vertex) -> Part
     ensures { PartOf bytes.now len v.0 result.from result.size }
 {
+    let none = Part { from: 0, size: 0 };
     match header::order_r(bytes) {
-        Err(_) => Part { from: 0, size: 0 },
-        Ok(layout) => blocks::part_in(&layout, len, v),
+        Ok(layout) if len == 2 * layout.m => blocks::part_in(&layout, v).unwrap_or(none),
+        _ => none,
     }
 }
 

@@ -21,14 +21,6 @@ kept c = c.in_ok-in_room.ensures
 pub returns-then-bad_lists : goal.returns-then-bad_lists
 returns-then-bad_lists c = file_bad_lists _ _ _ (sym c.bad_lists.ensures ∙ c.if-bad_lists.true)
 
-pub record_length-requires : goal.record_length-requires
-record_length-requires c =
-    let l = passed (goal.at.record_length-requires c).Else-bad_lists in
-    let few = l.few in
-    let fits = l.fits in
-    let whole = l.whole in
-    (omega arith, omega arith)
-
 pub returns-then-bytes-record_length : goal.returns-then-bytes-record_length
 returns-then-bytes-record_length c =
     file_misfit (passed (goal.at.returns-then-bytes-record_length c).Else-bad_lists) _ (kept (goal.at.returns-then-bytes-record_length c).In_ok-in_room)

@@ -5,12 +5,14 @@
 --   part_spanned    where the terminal's part of a list stands, by these places
 --   part_outside    no part, for a number that is no terminal's
 --   part_misfit     none of a list of another length
---   part_unread     none where order R refuses
+--   part_refused    none where Degree refuses
+--   degree_unread   Degree refuses where order R does
+--   part_unread     and so there is no part
 --   part_fits       a part ends within its list
 --   part_listed     and is what Neighbours returns
 --   part_near       it ends within the longest list
 --   part_settles    no other numbers would do
-use Rattle.std.specs.Prelude.{◌≡◌, true, false, not, eqb, drop, replicate}
+use Rattle.std.specs.Prelude.{◌≡◌, Bool, true, false, not, ◌&&◌, eqb, drop, replicate}
 use Rattle.std.proofs.Math.Path.{refl, sym, ap, ap₂}
 use Rattle.std.proofs.Common.{subst, ◌∙◌, arith, length-take, length-drop}
 use mathlib.Core.List.{List, [], ◌∷◌}
@@ -33,7 +35,7 @@ use Rattle.record.specs.Laws.First.{both_kept, rule_kept}
 use Rattle.record.specs.Laws.Range.{range_inside}
 use Rattle.record.specs.Laws.Parts.{starts_rise, starts_fit, part_block}
 use Rattle.record.specs.Laws.Layout.{degree_starts}
-use Rattle.record.specs.Laws.Told.{told_back, untold}
+use Rattle.record.specs.Laws.Told.{told_back, told_append, untold}
 use Rattle.record.specs.Laws.Sounded.{sound_of, sound_shaped, sound_ones, sound_places}
 
 -- Neighbours gives numbers of the list that stand side by side, none after the 32,768th
@@ -181,23 +183,34 @@ module _ {bytes : List ℕ} {n m : ℕ} (s : Sound bytes n m) where
     unfolding neighbours_given
     part_outside e = part_none bytes v (λ list l. rw e)
 
-    pub part_misfit : {len : ℕ} → out_of_range n v ≡ false → (len ≡ 2 * m → ⊥) → PartOf bytes len v 0 0
+    pub part_misfit : {len : ℕ} → (len ≡ 2 * m → ⊥) → PartOf bytes len v 0 0
     unfolding neighbours_given other_length
-    part_misfit i d = part_none bytes v (λ list l. (
+    part_misfit d = part_none bytes v (λ list l. (
         let f = s.is_m in
-        let kept = eq-eqb (first_broken (degree_rules bytes v)) 0 (inside v i) in
-        rw (kept, ne_eqb (length list) (2 * wires bytes) (λ e. d (omega arith)))
+        rw (ne_eqb (length list) (2 * wires bytes) (λ e. d (omega arith)))
+        (go (eqb (first_broken (degree_rules bytes v)) 0))
         ))
+      where
+        go : (b : Bool) → (b && false) ≡ false
+        go true = refl
+        go false = refl
 
--- order R refuses
-pub part_unread : (bytes : List ℕ) (v : ℕ) {len k : ℕ} → refused k ≡ tried (order_r bytes) (sizes_of bytes)
-    → PartOf bytes len v 0 0
-unfolding degree_rules neighbours_given
-part_unread bytes v e = part_none bytes v (λ list l. (
-    let (i, f, g) = told_back (first_broken (order_r bytes)) (sizes_of bytes) e in
-    let broken = append_broken (order_r bytes) ((11, out_of_range (terminals bytes) v) ∷ []) i f in
-    rw (broken, ne_eqb (suc i) 0 (λ z. omega arith))
-    ))
+module _ (bytes : List ℕ) (v : ℕ) where
+  -- Degree refuses
+  pub part_refused : {len k : ℕ} → refused k ≡ degree bytes v → PartOf bytes len v 0 0
+  unfolding degree neighbours_given
+  part_refused e = part_none bytes v (λ list l. (
+      let (i, f, g) = told_back (first_broken (degree_rules bytes v)) _ e in
+      rw (f, ne_eqb (suc i) 0 (λ z. omega arith))
+      ))
+
+  -- order R does
+  pub degree_unread : {k : ℕ} → refused k ≡ tried (order_r bytes) (sizes_of bytes) → refused k ≡ degree bytes v
+  unfolding degree degree_rules
+  degree_unread e = told_append (order_r bytes) _ (sizes_of bytes) (length (block (blocks bytes) (v - 1))) e
+
+  pub part_unread : {len k : ℕ} → refused k ≡ tried (order_r bytes) (sizes_of bytes) → PartOf bytes len v 0 0
+  part_unread e = part_refused (degree_unread e)
 
 -- ---- the part of a list
 
