@@ -1,6 +1,5 @@
 -- `file` meets its contract: rule 16, rules 6 and 8 in a room, rule 17, and then the record.
 use mathlib.Core.Path.{◌≡◌, sym, ◌∙◌}
-use native.Mathlib.Omega.{arith}
 use Rattle.record.specs.Answers.{answered}
 use Rattle.record.specs.Operations.{check_graph}
 use Rattle.record.specs.Steps.{Listed, graph_from}

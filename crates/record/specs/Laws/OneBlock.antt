@@ -30,7 +30,7 @@ use Rattle.record.specs.Sized.{sizes_of}
 use Rattle.record.specs.Operations.{other_length, out_of_range, degree_rules, degree, neighbours_given, neighbours}
 use Rattle.record.specs.Operations.{neighbours_before, PartOf}
 use Rattle.record.specs.Steps.{Sound}
-use Rattle.record.specs.Laws.First.{first_broken_lem, first_kept, append_kept, append_broken, order_numbered}
+use Rattle.record.specs.Laws.First.{first_broken_lem, first_kept, append_kept, order_numbered}
 use Rattle.record.specs.Laws.First.{both_kept, rule_kept}
 use Rattle.record.specs.Laws.Range.{range_inside}
 use Rattle.record.specs.Laws.Parts.{starts_rise, starts_fit, part_block}
