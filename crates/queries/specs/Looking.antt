@@ -1,18 +1,18 @@
 -- What contracts inside the crate say while a list is looked up.
 --   HeadIs       where Head's climb stops, after however many steps
 --   Known        the heads that climbs have found
---   Room         arrays for a call, with no head known
 --   Vertices     the first k numbers of a list are vertices
 --   OnWay, Kept  the first k vertices of a way get a head, and all others keep their cells
 --   looked_of     what the code says of one terminal
 --   LookedAll    what it says of all, and the lists that it fills
-use Rattle.std.specs.Prelude.{◌≡◌, List, ◌⊎◌, ℕ, ◌+◌, ◌≤◌, ◌<◌, length, get_or}
+use Rattle.std.specs.Prelude.{◌≡◌, Result, List, ◌⊎◌, ℕ, ◌<◌, length, get_or}
 use Rattle.graph.specs.Walk.{Ends}
-use Rattle.record.specs.Answers.{Answer, refused, answered, number, tried}
+use Rattle.record.specs.Answers.{Answer, answered, tried, answer}
+use Rattle.record.specs.declared.Refusal.{Refusal}
 use Rattle.queries.specs.View.{View}
 use Rattle.queries.specs.Queries.{head_next}
 use Rattle.queries.specs.Lookup.{Lists, head_and_visit, asks, lookup_lists}
-use Rattle.queries.specs.declared.lookups.Looked.{Looked}
+use Rattle.queries.specs.declared.lookups.Seen.{Seen}
 
 -- ---- heads that are known
 
@@ -25,13 +25,6 @@ pub record HeadIs (w : View) (u h : ℕ) : Type 0 where
 pub record Known (w : View) (n : ℕ) (known : List ℕ) : Type 0 where
   pub size : length known ≡ n
   pub heads : (u : ℕ) → 0 < get_or known u 0 → HeadIs w u (get_or known u 0)
-
--- there is room for n vertices, and no head is known
-pub record Room (n : ℕ) (starts known way : List ℕ) : Type 0 where
-  pub for_starts : n + 1 ≤ length starts
-  pub for_known : n ≤ length known
-  pub for_way : n ≤ length way
-  pub none_known : (u : ℕ) → get_or known u 0 ≡ 0
 
 abbrev pub Vertices : ℕ → List ℕ → ℕ → Type 0
 Vertices n way k = (i : ℕ) → i < k → get_or way i 0 < n
@@ -48,9 +41,8 @@ pub record Kept (way : List ℕ) (k h : ℕ) (before after : List ℕ) : Type 0 
 
 -- ---- a terminal, and the list
 
-abbrev pub looked_of : Looked → Answer (ℕ × ℕ)
-looked_of (Looked.Both s) = answered (s.head.0, s.visit.0)
-looked_of (Looked.Refused r) = refused (number r)
+abbrev pub looked_of : Result Seen Refusal → Answer (ℕ × ℕ)
+looked_of = answer (λ (s : Seen). (s.head.0, s.visit.0))
 
 -- the first refusal in list order; where there is none, the lists have the answers
 pub record LookedAll (bytes index list : List ℕ) (found : Lists) (r : Answer (Unit {0})) : Type 0 where

@@ -1,17 +1,19 @@
 -- What contracts inside this crate say: of a record and an index that passed order Q, of stored numbers, and of one
 -- step of a climb.
-use Rattle.std.specs.Prelude.{◌≡◌, Bool, true, false, List, ◌⊎◌, ℕ, suc, ◌+◌, ◌≤◌, ◌<◌, length, get_or}
+use Rattle.std.specs.Prelude.{◌≡◌, Bool, List, ◌⊎◌, ℕ, suc, ◌+◌, ◌≤◌, ◌<◌, length, get_or, Result, Ok, Err}
 use Rattle.std.proofs.Common.{inl, inr}
+use Rattle.std.proofs.Math.Option.{Option, none, some}
+use Rattle.std.specs.Prelude as code
+use Rattle.std.specs.declared.ops.ControlFlow.{ControlFlow}
 use Rattle.record.specs.Record.{unary}
 use Rattle.record.specs.Starts.{starts_of}
-use Rattle.record.specs.Answers.{Answer, refused, answered}
+use Rattle.record.specs.Answers.{Answer, refused, answered, number, answer}
+use Rattle.record.specs.declared.Refusal.{Refusal}
 use Rattle.record.specs.Steps.{Sound}
 use Rattle.forest.specs.Index.{index_length}
 use Rattle.queries.specs.View.{number_of}
 use Rattle.queries.specs.Queries as Queries
-use Rattle.queries.specs.declared.climbs.Step.{Step}
-use Rattle.queries.specs.declared.climbs.Move.{Move}
-use Rattle.queries.specs.declared.climbs.Turn.{Turn}
+use Rattle.queries.specs.declared.climbs.Rise.{Rise}
 
 -- the index has the length that n and m give
 pub record Framed (index : List ℕ) (n m : ℕ) : Type 0 where
@@ -50,21 +52,28 @@ pub record Passed (index : List ℕ) (n m k u : ℕ) : Type 0 where
   pub upto : u ≤ n
   pub others : OthersBefore (number_of n m index) k u
 
--- a step, as the definitions name it
-abbrev pub step_of : Step → Queries.Step
-step_of Step.Stuck = Queries.stuck
-step_of Step.Top = Queries.top
-step_of (Step.Rise r) = Queries.rise r.at r.to
+-- what a step up tells: the position and the parent, none past a root, or 12
+abbrev pub risen : Queries.Step → Answer (Option (ℕ × ℕ))
+risen Queries.stuck = refused 12
+risen Queries.top = answered none
+risen (Queries.rise j p) = answered (some (j, p))
+
+-- and what the code says of it
+abbrev pub rise_or_none : code.Option Rise → Option (ℕ × ℕ)
+rise_or_none code.None = none
+rise_or_none (code.Some r) = some (r.at, r.to)
+
+abbrev pub step_of : Result (code.Option Rise) Refusal → Answer (Option (ℕ × ℕ))
+step_of = answer rise_or_none
 
 -- one step of Head from u
-abbrev pub move_of : ℕ → Move → Answer ℕ ⊎ ℕ
-move_of u Move.Refuse = inl (refused 12)
-move_of u Move.Here = inl (answered (suc u))
-move_of u (Move.Up p) = inr p
+abbrev pub move_of : ℕ → Result (code.Option ℕ) Refusal → Answer ℕ ⊎ ℕ
+move_of u (Err r) = inl (refused (number r))
+move_of u (Ok code.None) = inl (answered (suc u))
+move_of u (Ok (code.Some p)) = inr p
 
 -- one step of Ancestor
-abbrev pub turn_of : Turn → Answer Bool ⊎ ℕ
-turn_of Turn.Refuse = inl (refused 12)
-turn_of Turn.Yes = inl (answered true)
-turn_of Turn.No = inl (answered false)
-turn_of (Turn.Up p) = inr p
+abbrev pub turn_of : Result (ControlFlow Bool ℕ) Refusal → Answer Bool ⊎ ℕ
+turn_of (Err r) = inl (refused (number r))
+turn_of (Ok (ControlFlow.Break b)) = inl (answered b)
+turn_of (Ok (ControlFlow.Continue p)) = inr p

@@ -1,93 +1,70 @@
 // Climbs with the starts of all blocks on the stack, filled by one pass over D.
-ghost use Rattle.std.specs.Prelude.{◌≡◌, ◌+◌, ◌-◌, ◌<◌, ◌≤◌, length};
-ghost use Rattle.queries.specs.View.{view_by};
+ghost use Rattle.std.specs.Prelude.{◌≡◌, ◌+◌, ◌-◌, ◌<◌, ◌≤◌};
+ghost use Rattle.queries.specs.Seen.{seen};
 ghost use Rattle.queries.specs.Queries.{head_of, ancestor_of};
 ghost use Rattle.queries.specs.Answers.{terminal, related};
-ghost use Rattle.queries.specs.Steps.{Beside, Ranged};
+ghost use Rattle.queries.specs.Steps.{Ranged};
 
 use super::climbs::{climb_ancestor, climb_head};
-use super::{Found, Related};
-use record::Vertex;
+use super::indexed::{Ascent, Indexed};
 use record::starts::fill_starts;
+use record::{Refusal, Vertex};
 
-fn head_by(bytes: &[u8], index: &[u8], n: usize, m: usize, u: usize, starts: &mut [u16]) -> Found
-    requires { (Beside bytes.now index.now n m) × (u < n) × (length starts.old ≡ n + 1) }
-    ensures { terminal result ≡ head_of (view_by n m bytes.now index.now) u }
+// The head of vertex u, with room for the starts of n blocks and for their end.
+#[inline(never)]
+fn head_with<const ROOM: usize>(i: &Indexed, u: usize) -> Result<Vertex, Refusal>
+    requires { (u < i.now.layout.n) × (i.now.layout.n + 1 ≤ ROOM) × (ROOM ≤ 4097) }
+    ensures { terminal result ≡ head_of (seen i.now) u }
 {
-    fill_starts(bytes, n, m, starts);
-    climb_head(bytes, index, n, m, starts, u)
-}
-
-// The head of vertex u, with starts of at most 256 blocks.
-fn head_small(bytes: &[u8], index: &[u8], n: usize, m: usize, u: usize) -> Found
-    requires { (Beside bytes.now index.now n m) × (u < n) × (n ≤ 256) }
-    ensures { terminal result ≡ head_of (view_by n m bytes.now index.now) u }
-{
-    let mut starts = [0u16; 257];
-    head_by(bytes, index, n, m, u, &mut starts[..n + 1])
-}
-
-// The same with starts of as many as there can be.
-fn head_full(bytes: &[u8], index: &[u8], n: usize, m: usize, u: usize) -> Found
-    requires { (Beside bytes.now index.now n m) × (u < n) }
-    ensures { terminal result ≡ head_of (view_by n m bytes.now index.now) u }
-{
-    let mut starts = [0u16; 4097];
-    head_by(bytes, index, n, m, u, &mut starts[..n + 1])
+    let mut starts = [0u16; ROOM];
+    let blocks = i.layout.n + 1;
+    fill_starts(&i.layout, &mut starts[..blocks]);
+    climb_head(
+        &Ascent {
+            indexed: *i,
+            starts: &starts[..blocks],
+        },
+        u,
+    )
 }
 
 // The head of a terminal.
-pub fn head_in(bytes: &[u8], index: &[u8], n: usize, m: usize, v: Vertex) -> Found
-    requires { (Beside bytes.now index.now n m) × (Ranged n v.0) }
-    ensures { terminal result ≡ head_of (view_by n m bytes.now index.now) (v.0 - 1) }
+pub fn head_in(i: &Indexed, v: Vertex) -> Result<Vertex, Refusal>
+    requires { Ranged i.now.layout.n v.0 }
+    ensures { terminal result ≡ head_of (seen i.now) (v.0 - 1) }
 {
-    if n <= 256 {
-        return head_small(bytes, index, n, m, v.0 - 1);
+    if i.layout.n <= 256 {
+        return head_with::<257>(i, v.0 - 1);
     }
-    head_full(bytes, index, n, m, v.0 - 1)
+    head_with::<4097>(i, v.0 - 1)
 }
 
-fn ancestor_by(
-    bytes: &[u8],
-    index: &[u8],
-    n: usize,
-    m: usize,
-    x: usize,
-    u: usize,
-    starts: &mut [u16],
-) -> Related
-    requires { (Beside bytes.now index.now n m) × (u < n) × (length starts.old ≡ n + 1) }
-    ensures { related result ≡ ancestor_of (view_by n m bytes.now index.now) x u }
+// Whether x is vertex u or above it, with room for the starts of n blocks and for their end.
+#[inline(never)]
+fn ancestor_with<const ROOM: usize>(i: &Indexed, x: usize, u: usize) -> Result<bool, Refusal>
+    requires { (u < i.now.layout.n) × (i.now.layout.n + 1 ≤ ROOM) × (ROOM ≤ 4097) }
+    ensures { related result ≡ ancestor_of (seen i.now) x u }
 {
-    fill_starts(bytes, n, m, starts);
-    climb_ancestor(bytes, index, n, m, starts, x, u)
-}
-
-// Whether x is vertex u or above it, with starts of at most 256 blocks.
-fn ancestor_small(bytes: &[u8], index: &[u8], n: usize, m: usize, x: usize, u: usize) -> Related
-    requires { (Beside bytes.now index.now n m) × (u < n) × (n ≤ 256) }
-    ensures { related result ≡ ancestor_of (view_by n m bytes.now index.now) x u }
-{
-    let mut starts = [0u16; 257];
-    ancestor_by(bytes, index, n, m, x, u, &mut starts[..n + 1])
-}
-
-// The same with starts of as many as there can be.
-fn ancestor_full(bytes: &[u8], index: &[u8], n: usize, m: usize, x: usize, u: usize) -> Related
-    requires { (Beside bytes.now index.now n m) × (u < n) }
-    ensures { related result ≡ ancestor_of (view_by n m bytes.now index.now) x u }
-{
-    let mut starts = [0u16; 4097];
-    ancestor_by(bytes, index, n, m, x, u, &mut starts[..n + 1])
+    let mut starts = [0u16; ROOM];
+    let blocks = i.layout.n + 1;
+    fill_starts(&i.layout, &mut starts[..blocks]);
+    climb_ancestor(
+        &Ascent {
+            indexed: *i,
+            starts: &starts[..blocks],
+        },
+        x,
+        u,
+    )
 }
 
 // Whether terminal u is v or above it.
-pub fn ancestor_in(bytes: &[u8], index: &[u8], n: usize, m: usize, u: Vertex, v: Vertex) -> Related
-    requires { (Beside bytes.now index.now n m) × (Ranged n u.0) × (Ranged n v.0) }
-    ensures { related result ≡ ancestor_of (view_by n m bytes.now index.now) (u.0 - 1) (v.0 - 1) }
+pub fn ancestor_in(i: &Indexed, u: Vertex, v: Vertex) -> Result<bool, Refusal>
+    requires { (Ranged i.now.layout.n u.0) × (Ranged i.now.layout.n v.0) }
+    ensures { related result ≡ ancestor_of (seen i.now) (u.0 - 1) (v.0 - 1) }
 {
-    if n <= 256 {
-        return ancestor_small(bytes, index, n, m, u.0 - 1, v.0 - 1);
+    if i.layout.n <= 256 {
+        return ancestor_with::<257>(i, u.0 - 1, v.0 - 1);
     }
-    ancestor_full(bytes, index, n, m, u.0 - 1, v.0 - 1)
+    ancestor_with::<4097>(i, u.0 - 1, v.0 - 1)
 }

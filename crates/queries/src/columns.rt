@@ -3,55 +3,50 @@
 ghost use Rattle.std.specs.Prelude.{◌≡◌, suc, ◌+◌, ◌<◌, length};
 ghost use Rattle.record.specs.Record.{unary};
 ghost use Rattle.record.specs.Starts.{starts_of};
-ghost use Rattle.queries.specs.View.{number_of, view_by};
 ghost use Rattle.queries.specs.Queries.{child_count};
-ghost use Rattle.queries.specs.Steps.{Framed, Beside};
-ghost use Rattle.queries.specs.Filling.{Ready, Cells, parent_at, head_at, ParentsTo, HeadsTo};
+ghost use Rattle.queries.specs.Filling.{Cells, parent_at, head_at, ParentsTo, HeadsTo};
 ghost use Rattle.queries.specs.Table.{columns, table_on};
+ghost use Rattle.queries.specs.Seen.{seen};
 
 use super::blocks::count_children;
-use super::climbs::{Step, step_up};
+use super::built::Built;
+use super::climbs::step_up;
+use super::indexed::{Ascent, Indexed};
 use super::marks::{bridge_mark, stored};
 use adjacency::cells::{get, put};
 use record::starts::fill_starts;
 
 // The visit numbers, from 1.
-fn fill_visits(index: &[u8], n: usize, m: usize, visits: &mut [u16])
-    requires { (Framed index.now n m) × (length visits.old ≡ n) }
-    ensures { Cells (λ v. v) (λ v. suc (number_of n m index.now v)) n n visits.new }
+fn fill_visits(i: &Indexed, visits: &mut [u16])
+    requires { length visits.old ≡ i.now.layout.n }
+    ensures { let n = i.now.layout.n in Cells (λ v. v) (λ v. suc ((seen i.now).stored v)) n n visits.new }
 {
-    let mut v = 0;
-    while v < n {
-        put(visits, v, stored(index, n, m, v) + 1);
-        v += 1;
+    for v in 0..i.layout.n {
+        put(visits, v, stored(i, v) + 1);
     }
 }
 
 // How many children each vertex has.
-fn fill_counts(bytes: &[u8], index: &[u8], n: usize, m: usize, starts: &[u16], counts: &mut [u16])
-    requires { (Beside bytes.now index.now n m) × (starts.now ≡ starts_of (unary bytes.now)) × (length counts.old ≡ n) }
-    ensures { Cells (λ v. v) (child_count (view_by n m bytes.now index.now)) n n counts.new }
+fn fill_counts(a: &Ascent, counts: &mut [u16])
+    requires { length counts.old ≡ a.now.indexed.layout.n }
+    ensures { let n = a.now.indexed.layout.n in Cells (λ v. v) (child_count (seen a.now.indexed)) n n counts.new }
 {
-    let mut v = 0;
-    while v < n {
-        let a = get(starts, v);
-        let b = get(starts, v + 1);
-        put(counts, v, count_children(index, n, m, a + v + 1, b - a));
-        v += 1;
+    let i = &a.indexed;
+    for v in 0..i.layout.n {
+        let from = get(a.starts, v);
+        let to = get(a.starts, v + 1);
+        put(counts, v, count_children(i, from + v + 1, to - from));
     }
 }
 
-// The vertices in order of visits. The record and the index stand here for the contract only.
-fn fill_order(bytes: &[u8], index: &[u8], n: usize, m: usize, visits: &[u16], order: &mut [u16])
-    requires { (Ready bytes.now index.now n m)
-        × (Cells (λ v. v) (λ v. suc (number_of n m index.now v)) n n visits.now)
-        × (length order.old ≡ n) }
-    ensures { Cells (number_of n m index.now) (λ v. v) n n order.new }
+// The vertices in order of visits.
+fn fill_order(b: &Built, visits: &[u16], order: &mut [u16])
+    requires { let n = b.now.indexed.layout.n in
+        (Cells (λ v. v) (λ v. suc ((seen b.now.indexed).stored v)) n n visits.now) × (length order.old ≡ n) }
+    ensures { let n = b.now.indexed.layout.n in Cells (seen b.now.indexed).stored (λ v. v) n n order.new }
 {
-    let mut v = 0;
-    while v < n {
+    for v in 0..b.indexed.layout.n {
         put(order, get(visits, v) - 1, v);
-        v += 1;
     }
 }
 
@@ -63,79 +58,64 @@ struct Placed {
 }
 
 // What stands above vertex v, by the heads of those that are visited before it.
-fn place_of(
-    bytes: &[u8],
-    index: &[u8],
-    n: usize,
-    m: usize,
-    starts: &[u16],
-    v: usize,
-    heads: &[u16],
-) -> Placed
-    requires { (Ready bytes.now index.now n m) × (starts.now ≡ starts_of (unary bytes.now)) × (v < n)
-        × (HeadsTo bytes.now index.now n m (number_of n m index.now v) heads.now) }
-    ensures { (result.parent ≡ parent_at bytes.now index.now n m v)
-        × (result.head ≡ head_at bytes.now index.now n m v)
+fn place_of(b: &Built, starts: &[u16], v: usize, heads: &[u16]) -> Placed
+    requires { let i = b.now.indexed in
+        (starts.now ≡ starts_of (unary i.layout.bytes.now)) × (v < i.layout.n)
+        × (HeadsTo i.layout.bytes.now i.index.now i.layout.n i.layout.m ((seen i).stored v) heads.now) }
+    ensures { let i = b.now.indexed in
+        (result.parent ≡ parent_at i.layout.bytes.now i.index.now i.layout.n i.layout.m v)
+        × (result.head ≡ head_at i.layout.bytes.now i.index.now i.layout.n i.layout.m v)
         × (result.parent < 65536) × (result.head < 65536) }
 {
-    let a = get(starts, v);
-    let b = get(starts, v + 1);
-    match step_up(bytes, index, n, m, v, a, b) {
-        Step::Stuck => Placed { parent: 0, head: 0 },
-        Step::Top => Placed {
+    let i = &b.indexed;
+    let from = get(starts, v);
+    let to = get(starts, v + 1);
+    let Some(rise) = step_up(i, v, from, to).unwrap() else {
+        return Placed {
             parent: 0,
             head: v + 1,
-        },
-        Step::Rise(r) => {
-            let at = r.at;
-            let to = r.to;
-            if bridge_mark(index, n, m, a + v + 1 + at) {
-                return Placed {
-                    parent: to + 1,
-                    head: v + 1,
-                };
-            }
-            Placed {
-                parent: to + 1,
-                head: get(heads, to),
-            }
-        }
+        };
+    };
+    let parent = rise.to + 1;
+    if bridge_mark(i, from + v + 1 + rise.at) {
+        return Placed {
+            parent,
+            head: v + 1,
+        };
+    }
+    Placed {
+        parent,
+        head: get(heads, rise.to),
     }
 }
 
-// The parents and heads of all vertices.
+// The parents and heads of all vertices, in order of visits.
 fn fill_climbs(
-    bytes: &[u8],
-    index: &[u8],
-    n: usize,
-    m: usize,
+    b: &Built,
     starts: &[u16],
     order: &[u16],
     parents: &mut [u16],
     heads: &mut [u16],
 )
-    requires { (Ready bytes.now index.now n m) × (starts.now ≡ starts_of (unary bytes.now))
-        × (Cells (number_of n m index.now) (λ v. v) n n order.now) × (length parents.old ≡ n)
-        × (length heads.old ≡ n) }
-    ensures { (ParentsTo bytes.now index.now n m n parents.new)
-        × (HeadsTo bytes.now index.now n m n heads.new) }
+    requires { let i = b.now.indexed in
+        (starts.now ≡ starts_of (unary i.layout.bytes.now))
+        × (Cells (seen i).stored (λ v. v) i.layout.n i.layout.n order.now)
+        × (length parents.old ≡ i.layout.n) × (length heads.old ≡ i.layout.n) }
+    ensures { let i = b.now.indexed in
+        (ParentsTo i.layout.bytes.now i.index.now i.layout.n i.layout.m i.layout.n parents.new)
+        × (HeadsTo i.layout.bytes.now i.index.now i.layout.n i.layout.m i.layout.n heads.new) }
 {
-    let mut k = 0;
-    while k < n {
-        let v = get(order, k);
-        let p = place_of(bytes, index, n, m, starts, v, heads);
+    for x in order {
+        let v = usize::from(*x);
+        let p = place_of(b, starts, v, heads);
         put(parents, v, p.parent);
         put(heads, v, p.head);
-        k += 1;
     }
 }
 
 // The four lists. The starts and the order are room to work in.
 pub fn fill(
-    bytes: &[u8],
-    index: &[u8],
-    n: usize,
-    m: usize,
+    b: &Built,
     starts: &mut [u16],
     order: &mut [u16],
     visits: &mut [u16],
@@ -143,19 +123,26 @@ pub fn fill(
     counts: &mut [u16],
     heads: &mut [u16],
 )
-    requires { (Ready bytes.now index.now n m)
-        × (length starts.old ≡ n + 1)
+    requires { let n = b.now.indexed.layout.n in
+        (length starts.old ≡ n + 1)
         × (length order.old ≡ n)
         × (length visits.old ≡ n)
         × (length parents.old ≡ n)
         × (length counts.old ≡ n)
         × (length heads.old ≡ n) }
     ensures { columns visits.new parents.new counts.new heads.new
-        ≡ table_on bytes.now index.now }
+        ≡ table_on b.now.indexed.layout.bytes.now b.now.indexed.index.now }
 {
-    fill_starts(bytes, n, m, starts);
-    fill_visits(index, n, m, visits);
-    fill_counts(bytes, index, n, m, starts, counts);
-    fill_order(bytes, index, n, m, visits, order);
-    fill_climbs(bytes, index, n, m, starts, order, parents, heads);
+    let i = &b.indexed;
+    fill_starts(&i.layout, starts);
+    fill_visits(i, visits);
+    fill_counts(
+        &Ascent {
+            indexed: *i,
+            starts,
+        },
+        counts,
+    );
+    fill_order(b, visits, order);
+    fill_climbs(b, starts, order, parents, heads);
 }

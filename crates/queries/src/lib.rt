@@ -14,7 +14,7 @@ ghost use Rattle.queries.specs.Lookup.{lists, LookupDone};
 
 use forest::Dfi;
 use record::range::out_of_range;
-use record::{Counted, Refusal, Shape, Verdict, Vertex};
+use record::{Refusal, Vertex};
 
 mod indexed; // indexed.rt: what the questions go over
 mod order; // order.rt: order R with rule 10, and order Q
@@ -24,138 +24,70 @@ mod climbs; // climbs.rt: steps up the forest
 mod ascents; // ascents.rt: climbs, with the starts of the blocks
 mod single; // single.rt: one vertex
 mod visits; // visits.rt: the stored numbers
+mod built; // built.rt: an index that Build wrote
 mod columns; // columns.rt: the lists of a table
 mod tables; // tables.rt: Table, behind order R
 mod known; // known.rt: Head by what earlier climbs have found
 mod lookups; // lookups.rt: Lookup, behind order R and rule 10
 pub mod pair; // pair.rt: demand 3 over the running code
 
-// What stands above a terminal.
-#[derive(Clone, Copy)]
-pub enum Above {
-    Root,
-    Parent(Vertex),
-    Refused(Refusal),
-}
-
-#[derive(Clone, Copy)]
-pub enum Found {
-    Terminal(Vertex),
-    Refused(Refusal),
-}
-
-#[derive(Clone, Copy)]
-pub enum Related {
-    Yes,
-    No,
-    Refused(Refusal),
-}
-
-#[derive(Clone, Copy)]
-pub enum Numbered {
-    Number(Dfi),
-    Refused(Refusal),
-}
-
-// Parent: the parent of terminal v, or that it is a root.
-pub fn parent(bytes: &[u8], index: &[u8], v: Vertex) -> Above
+// Parent: the parent of terminal v, or none for a root.
+pub fn parent(bytes: &[u8], index: &[u8], v: Vertex) -> Result<Option<Vertex>, Refusal>
     ensures { above result ≡ parent_of bytes.now index.now v.0 }
 {
-    match order::order_q(bytes, index, v.0) {
-        Shape::Refused(r) => Above::Refused(r),
-        Shape::Passed(s) => {
-            let n = s.n;
-            let m = s.m;
-            single::parent_in(bytes, index, n, m, v)
-        }
-    }
+    let i = order::order_q(bytes, index, v.0)?;
+    single::parent_in(&i, v)
 }
 
 // Head: where the climb from terminal v stops.
-pub fn head(bytes: &[u8], index: &[u8], v: Vertex) -> Found
+pub fn head(bytes: &[u8], index: &[u8], v: Vertex) -> Result<Vertex, Refusal>
     ensures { terminal result ≡ head_of bytes.now index.now v.0 }
 {
-    match order::order_q(bytes, index, v.0) {
-        Shape::Refused(r) => Found::Refused(r),
-        Shape::Passed(s) => {
-            let n = s.n;
-            let m = s.m;
-            ascents::head_in(bytes, index, n, m, v)
-        }
-    }
+    let i = order::order_q(bytes, index, v.0)?;
+    ascents::head_in(&i, v)
 }
 
 // Ancestor: whether terminal u is v or stands above it.
-pub fn ancestor(bytes: &[u8], index: &[u8], u: Vertex, v: Vertex) -> Related
+pub fn ancestor(bytes: &[u8], index: &[u8], u: Vertex, v: Vertex) -> Result<bool, Refusal>
     ensures { related result ≡ ancestor_of bytes.now index.now u.0 v.0 }
 {
-    match order::order_q(bytes, index, u.0) {
-        Shape::Refused(r) => Related::Refused(r),
-        Shape::Passed(s) => {
-            let n = s.n;
-            let m = s.m;
-            if out_of_range(n, v.0) {
-                return Related::Refused(Refusal::NoTerminal);
-            }
-            ascents::ancestor_in(bytes, index, n, m, u, v)
-        }
+    let i = order::order_q(bytes, index, u.0)?;
+    if out_of_range(i.layout.n, v.0) {
+        return Err(Refusal::NoTerminal);
     }
+    ascents::ancestor_in(&i, u, v)
 }
 
 // Children: how many children terminal v has.
-pub fn children(bytes: &[u8], index: &[u8], v: Vertex) -> Counted
+pub fn children(bytes: &[u8], index: &[u8], v: Vertex) -> Result<usize, Refusal>
     ensures { counted result ≡ children_of bytes.now index.now v.0 }
 {
-    match order::order_q(bytes, index, v.0) {
-        Shape::Refused(r) => Counted::Refused(r),
-        Shape::Passed(s) => {
-            let n = s.n;
-            let m = s.m;
-            Counted::Count(single::children_in(bytes, index, n, m, v))
-        }
-    }
+    let i = order::order_q(bytes, index, v.0)?;
+    Ok(single::children_in(&i, v))
 }
 
 // Child: the j-th child of terminal v.
-pub fn child(bytes: &[u8], index: &[u8], v: Vertex, j: usize) -> Found
+pub fn child(bytes: &[u8], index: &[u8], v: Vertex, j: usize) -> Result<Vertex, Refusal>
     ensures { terminal result ≡ child_of bytes.now index.now v.0 j }
 {
-    match order::order_q(bytes, index, v.0) {
-        Shape::Refused(r) => Found::Refused(r),
-        Shape::Passed(s) => {
-            let n = s.n;
-            let m = s.m;
-            single::child_in(bytes, index, n, m, v, j)
-        }
-    }
+    let i = order::order_q(bytes, index, v.0)?;
+    single::child_in(&i, v, j)
 }
 
 // Visit: the visit number of terminal v.
-pub fn visit(bytes: &[u8], index: &[u8], v: Vertex) -> Numbered
+pub fn visit(bytes: &[u8], index: &[u8], v: Vertex) -> Result<Dfi, Refusal>
     ensures { numbered result ≡ visit_of bytes.now index.now v.0 }
 {
-    match order::order_q(bytes, index, v.0) {
-        Shape::Refused(r) => Numbered::Refused(r),
-        Shape::Passed(s) => {
-            let n = s.n;
-            let m = s.m;
-            visits::visit_in(bytes, index, n, m, v)
-        }
-    }
+    let i = order::order_q(bytes, index, v.0)?;
+    visits::visit_in(&i, v)
 }
 
 // Visited: the lowest terminal whose visit number is i.
-pub fn visited(bytes: &[u8], index: &[u8], i: Dfi) -> Found
+pub fn visited(bytes: &[u8], index: &[u8], i: Dfi) -> Result<Vertex, Refusal>
     ensures { terminal result ≡ visited_of bytes.now index.now i.0 }
 {
-    match order::order_q(bytes, index, i.0) {
-        Shape::Refused(r) => Found::Refused(r),
-        Shape::Passed(s) => {
-            let n = s.n;
-            let m = s.m;
-            visits::visited_in(bytes, index, n, m, i)
-        }
-    }
+    let asked = order::order_q(bytes, index, i.0)?;
+    visits::visited_in(&asked, i)
 }
 
 // Lookup: what Head and Visit answer for each terminal of a list, cell i for the list's terminal i. Order R, 10 and 15
@@ -167,20 +99,14 @@ pub fn lookup(
     list: &[u16],
     heads: &mut [u16],
     visits: &mut [u16],
-) -> Verdict
+) -> Result<(), Refusal>
     ensures { LookupDone bytes.now index.now list.now
         (lists heads.old visits.old)
         (lists heads.new visits.new)
         (verdict result) }
 {
-    match order::beside(bytes, index) {
-        Shape::Refused(r) => Verdict::Refused(r),
-        Shape::Passed(s) => {
-            let n = s.n;
-            let m = s.m;
-            lookups::lookup_in(bytes, index, n, m, list, heads, visits)
-        }
-    }
+    let i = order::beside(bytes, index)?;
+    lookups::lookup_in(&i, list, heads, visits)
 }
 
 // Table: what Visit, Parent (0 for a root), Children and Head answer for every terminal on the index that Build writes
@@ -194,18 +120,12 @@ pub fn table(
     parents: &mut [u16],
     counts: &mut [u16],
     heads: &mut [u16],
-) -> Verdict
+) -> Result<(), Refusal>
     ensures { TableDone bytes.now start.0 work.old
         (columns visits.old parents.old counts.old heads.old)
         (columns visits.new parents.new counts.new heads.new)
         (verdict result) }
 {
-    match record::header::order_r(bytes) {
-        Shape::Refused(r) => Verdict::Refused(r),
-        Shape::Passed(s) => {
-            let n = s.n;
-            let m = s.m;
-            tables::table_in(bytes, n, m, start, work, visits, parents, counts, heads)
-        }
-    }
+    let layout = record::header::order_r(bytes)?;
+    tables::table_in(&layout, start, work, visits, parents, counts, heads)
 }

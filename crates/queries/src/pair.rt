@@ -6,15 +6,14 @@ ghost use Rattle.queries.specs.Answers.{terminal};
 ghost use Rattle.queries.specs.Operations.{head};
 ghost use Rattle.queries.specs.Written.{Terminal, HeadsTell};
 
-use super::Found;
-use record::{Verdict, Vertex};
+use record::{Refusal, Vertex};
 
 // What Build and the two calls of Head answer.
 #[derive(Clone, Copy)]
 pub struct Heads {
-    pub built: Verdict,
-    pub first: Found,
-    pub second: Found,
+    pub built: Result<(), Refusal>,
+    pub first: Result<Vertex, Refusal>,
+    pub second: Result<Vertex, Refusal>,
 }
 
 // Builds the index of a record with a start and asks for the heads of terminals u and v, with the buffer as Build left

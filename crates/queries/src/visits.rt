@@ -1,35 +1,34 @@
 // Questions about the stored numbers.
 ghost use Rattle.std.specs.Prelude.{◌≡◌, ◌-◌};
-ghost use Rattle.queries.specs.View.{view_by};
+ghost use Rattle.queries.specs.Seen.{seen};
 ghost use Rattle.queries.specs.Queries.{visit_of, visited_of};
 ghost use Rattle.queries.specs.Answers.{numbered, terminal};
-ghost use Rattle.queries.specs.Steps.{Framed, Beside, Ranged, Passed};
+ghost use Rattle.queries.specs.Steps.{Ranged, Passed};
 
+use super::indexed::Indexed;
 use super::marks::{stored, stored_four};
-use super::{Found, Numbered};
 use forest::Dfi;
 use record::{Refusal, Vertex};
 
-// The visit number of a terminal. The record stands here for the contract only.
-pub fn visit_in(bytes: &[u8], index: &[u8], n: usize, m: usize, v: Vertex) -> Numbered
-    requires { (Beside bytes.now index.now n m) × (Ranged n v.0) }
-    ensures { numbered result ≡ visit_of (view_by n m bytes.now index.now) (v.0 - 1) }
+// The visit number of a terminal.
+pub fn visit_in(i: &Indexed, v: Vertex) -> Result<Dfi, Refusal>
+    requires { Ranged i.now.layout.n v.0 }
+    ensures { numbered result ≡ visit_of (seen i.now) (v.0 - 1) }
 {
-    let x = stored(index, n, m, v.0 - 1);
-    if x < n {
-        return Numbered::Number(Dfi(x + 1));
+    let x = stored(i, v.0 - 1);
+    if i.layout.n <= x {
+        return Err(Refusal::BadIndex);
     }
-    Numbered::Refused(Refusal::BadIndex)
+    Ok(Dfi(x + 1))
 }
 
 // Numbers other than k, passed over in fours. Returns the vertex to look on from.
-fn pass_fours(index: &[u8], n: usize, m: usize, k: usize) -> usize
-    requires { Framed index.now n m }
-    ensures { Passed index.now n m k result }
+fn pass_fours(i: &Indexed, k: usize) -> usize
+    ensures { Passed i.now.index.now i.now.layout.n i.now.layout.m k result }
 {
     let mut u = 0;
-    while u + 5 <= n {
-        let x = stored_four(index, n, m, u);
+    while u + 5 <= i.layout.n {
+        let x = stored_four(i, u);
         if x.a == k {
             return u;
         }
@@ -47,19 +46,16 @@ fn pass_fours(index: &[u8], n: usize, m: usize, k: usize) -> usize
     u
 }
 
-// The lowest terminal whose visit number is i: in fours up to it, and then one by one. The record stands here for the
-// contract only.
-pub fn visited_in(bytes: &[u8], index: &[u8], n: usize, m: usize, i: Dfi) -> Found
-    requires { (Beside bytes.now index.now n m) × (Ranged n i.0) }
-    ensures { terminal result ≡ visited_of (view_by n m bytes.now index.now) (i.0 - 1) }
+// The lowest terminal whose visit number is d: in fours up to it, and then one by one.
+pub fn visited_in(i: &Indexed, d: Dfi) -> Result<Vertex, Refusal>
+    requires { Ranged i.now.layout.n d.0 }
+    ensures { terminal result ≡ visited_of (seen i.now) (d.0 - 1) }
 {
-    let k = i.0 - 1;
-    let mut u = pass_fours(index, n, m, k);
-    while u < n {
-        if stored(index, n, m, u) == k {
-            return Found::Terminal(Vertex(u + 1));
+    let k = d.0 - 1;
+    for u in pass_fours(i, k)..i.layout.n {
+        if stored(i, u) == k {
+            return Ok(Vertex(u + 1));
         }
-        u += 1;
     }
-    Found::Refused(Refusal::BadIndex)
+    Err(Refusal::BadIndex)
 }

@@ -1,106 +1,114 @@
 -- From order Q to a query's answer.
-use mathlib.Core.Path.{◌≡◌, sym, ap, ap₂, ◌∙◌}
+--   query_refused    what order Q refuses is the query's refusal
+--   query_ranged     what it hands on is in range
+--   query_answered   and the query answers what the view gives
+--   then_append      rules, and then more of them
+--   second_outside, second_inside    rule 11 for Ancestor's second terminal
+--   ranged_by        a number that the code finds in range
+use mathlib.Core.Path.{◌≡◌, refl, sym, ap, ap₂, ◌∙◌}
 use mathlib.Core.Bool.{Bool, true, false}
-use mathlib.Core.List.{List, [], ◌∷◌, ◌++◌, append-nil}
-use Prim.Native.Nat.{ℕ}
+use mathlib.Core.List.{List, [], ◌∷◌, ◌++◌}
+use Prim.Native.Nat.{ℕ, zero, suc, ◌-◌}
+use native.Mathlib.Omega.{arith}
 use Rattle.record.specs.Record.{terminals}
 use Rattle.record.specs.Rules.{Rule, first_broken}
-use Rattle.record.specs.Answers.{Answer, refused, tried, tried_then, sizes_of, shape, number}
+use Rattle.record.specs.Answers.{Answer, refused, answered, tried, tried_then, otherwise}
+use Rattle.record.specs.Sized.{sizes_of}
 use Rattle.record.specs.Operations.{out_of_range}
-use Rattle.record.specs.declared.Sizes.{Sizes}
-use Rattle.record.specs.declared.Refusal.{Refusal}
-use Rattle.record.specs.declared.Shape.{Shape}
-use Rattle.record.specs.Laws.First.{first_broken_lem, first_kept}
+use Rattle.record.specs.Laws.First.{Numbered, first_broken_lem, first_kept, append_kept, append_broken}
 use Rattle.record.specs.Laws.Range.{range_inside}
-use Rattle.record.specs.Laws.Told.{then_told, then_untold, then_refused, then_passed}
+use Rattle.record.specs.Laws.Told.{told_back, untold, untold_back, then_told, then_untold}
 use Rattle.queries.specs.View.{View, view_by, view_of}
-use Rattle.queries.specs.Operations.{order_q}
-use Rattle.queries.specs.Steps.{Beside, Ranged}
+use Rattle.queries.specs.Operations.{order_q, ancestor_rules, ancestor}
+use Rattle.queries.specs.Queries.{ancestor_of}
+use Rattle.queries.specs.Seen.{seen}
+use Rattle.queries.specs.Steps.{Ranged}
+use Rattle.queries.specs.declared.indexed.Indexed.{Indexed}
 use Rattle.queries.specs.Laws.Asked.{Asked, asked, order_numbered_q}
 
-module _ {A : Type 0} {bytes index : List ℕ} {v n m : ℕ} (q : Asked bytes index v n m) (f : View → Answer A) where
-  same_view : f (view_by n m bytes index) ≡ f (view_of bytes index)
-  same_view = ap₂ (λ (x y : ℕ). f (view_by x y bytes index)) q.beside.sound.is_n q.beside.sound.is_m
+-- rules that are numbered from 1, and then more of them
+pub then_append : {A : Type 0} {first : List Rule} → Numbered first → (more : List Rule) (a : Answer A)
+    → tried_then (first ++ more) a ≡ tried_then first (tried_then more a)
+unfolding otherwise
+then_append {first = first} n more a = go (first_broken first) refl
+  where
+    go : (k : ℕ) → first_broken first ≡ k → tried_then (first ++ more) a ≡ otherwise k (tried_then more a)
+    go zero e = ap (λ (k : ℕ). otherwise k a) (append_kept n more e)
+    go (suc k) e = ap (λ (k : ℕ). otherwise k a) (append_broken first more k e)
 
+-- the same view
+module _ {A : Type 0} {bytes index : List ℕ} {v n m : ℕ} (q : Asked bytes index v n m) (f : View → Answer A) where
   pub passed_on : {a : Answer A} → a ≡ f (view_by n m bytes index)
       → a ≡ tried_then (order_q bytes index v) (f (view_of bytes index))
-  passed_on e = e ∙ same_view ∙ then_untold (order_q bytes index v) (f (view_of bytes index)) q.kept
+  passed_on e =
+      e ∙ ap₂ (λ (x y : ℕ). f (view_by x y bytes index)) q.beside.sound.is_n q.beside.sound.is_m
+      ∙ then_untold (order_q bytes index v) (f (view_of bytes index)) q.kept
 
--- rules after order Q
-module _ {A : Type 0} {bytes index : List ℕ} {v n m : ℕ} (q : Asked bytes index v n m) (more : List Rule)
-    (a : Answer A) where
-  passed_further : {r : Answer A} → r ≡ tried_then more a → r ≡ tried_then (order_q bytes index v ++ more) a
-  passed_further e = e ∙ then_passed more a (order_numbered_q bytes index v) q.kept
+-- order Q as the code tries it
+module _ (bytes index : List ℕ) (k : ℕ) where
+  -- the bytes that are read
+  abbrev both : List ℕ × List ℕ
+  both = (bytes, index)
 
--- a refusal by order Q is the query's
-refused_on : {A : Type 0} (bytes index : List ℕ) (v : ℕ) (a : Answer A) {k : ℕ}
-    → refused k ≡ tried (order_q bytes index v) (sizes_of bytes) → refused k ≡ tried_then (order_q bytes index v) a
-refused_on bytes index v a e =
-    then_refused (order_q bytes index v) [] (sizes_of bytes) a e
-    ∙ ap (λ (l : List Rule). tried_then l a) (append-nil (order_q bytes index v))
+  abbrev its : Indexed → List ℕ × List ℕ
+  its i = (i.layout.bytes.now, i.index.now)
 
--- order Q as the code tries it: r is what it hands on
-module _ (bytes index : List ℕ) (k : ℕ) {r : Shape} (e : shape r ≡ tried (order_q bytes index k) (sizes_of bytes)) where
-  let_pass : {s : Sizes} → r ≡ Shape.Passed s → Asked bytes index k s.n s.m
-  let_pass f = asked bytes index k (sym (ap shape f) ∙ e)
+  pub query_refused : {A : Type 0} (a : Answer A) {q : ℕ} → refused q ≡ tried (order_q bytes index k) both
+      → refused q ≡ tried_then (order_q bytes index k) a
+  query_refused a e =
+      let (j, f, g) = told_back (first_broken (order_q bytes index k)) both e in
+      rw g (then_told (order_q bytes index k) a f)
 
-  -- what the function behind it may ask
-  pub asked_for : {s : Sizes} → r ≡ Shape.Passed s → (Beside bytes index s.n s.m) × (Ranged s.n k)
-  asked_for f = let q = let_pass f in (q.beside, q.ranged)
+  -- i is what it hands on
+  module _ (i : Indexed) (e : answered (its i) ≡ tried (order_q bytes index k) both) where
+    kept : first_broken (order_q bytes index k) ≡ 0
+    kept = (untold_back (first_broken (order_q bytes index k)) both e).0
 
-  -- what the query answers
-  module _ {A : Type 0} (question : View → Answer A) where
-    pub query_refused : {q : Refusal} → r ≡ Shape.Refused q
-        → refused (number q) ≡ tried_then (order_q bytes index k) (question (view_of bytes index))
-    query_refused f = refused_on bytes index k (question (view_of bytes index)) (sym (ap shape f) ∙ e)
+    same : its i ≡ both
+    same = (untold_back (first_broken (order_q bytes index k)) both e).1
 
-    pub query_answered : {s : Sizes} → r ≡ Shape.Passed s → {a : Answer A}
-        → a ≡ question (view_by s.n s.m bytes index)
+    is_n : i.layout.n ≡ terminals bytes
+    is_n = i.layout.sound.is_n ∙ ap (λ (p : List ℕ × List ℕ). terminals p.0) same
+
+    pub query_ranged : Ranged i.layout.n k
+    query_ranged =
+        let r = (asked bytes index k (untold (sizes_of bytes) kept)).ranged in
+        record { some = r.some; upto = omega (arith, r.upto, is_n) }
+
+    seen_is : seen i ≡ view_of bytes index
+    seen_is =
+        ap₂ (λ (x y : ℕ). view_by x y i.layout.bytes.now i.index.now) i.layout.sound.is_n i.layout.sound.is_m
+        ∙ ap (λ (p : List ℕ × List ℕ). view_of p.0 p.1) same
+
+    pub query_answered : {A : Type 0} (question : View → Answer A) {a : Answer A} → a ≡ question (seen i)
         → a ≡ tried_then (order_q bytes index k) (question (view_of bytes index))
-    query_answered f a = passed_on (let_pass f) question a
+    query_answered question q =
+        q ∙ ap question seen_is ∙ then_untold (order_q bytes index k) (question (view_of bytes index)) kept
 
-    -- the same with rules of its own after order Q, which ask the view too
-    module _ (more : View → List Rule) where
-      pub query_refused_first : {q : Refusal} → r ≡ Shape.Refused q
-          → refused (number q)
-          ≡ tried_then (order_q bytes index k ++ more (view_of bytes index)) (question (view_of bytes index))
-      query_refused_first f =
-          then_refused (order_q bytes index k) (more (view_of bytes index)) (sizes_of bytes)
-          (question (view_of bytes index))
-          (sym (ap shape f) ∙ e)
-
-      pub query_answered_then : {s : Sizes} → r ≡ Shape.Passed s → {a : Answer A}
-          → a ≡ tried_then (more (view_by s.n s.m bytes index)) (question (view_by s.n s.m bytes index))
-          → a ≡ tried_then (order_q bytes index k ++ more (view_of bytes index)) (question (view_of bytes index))
-      query_answered_then f a =
-          let q = let_pass f in
-          passed_further q (more (view_of bytes index)) (question (view_of bytes index))
-          (a ∙ same_view q (λ (w : View). tried_then (more w) (question w)))
-
--- a second terminal v, of Ancestor, by the test of it
-module _ (bytes index : List ℕ) (u v : ℕ) {r : Shape} (e : shape r ≡ tried (order_q bytes index u) (sizes_of bytes))
-    {A : Type 0} (question : View → Answer A) {s : Sizes} (f : r ≡ Shape.Passed s) {t : Bool}
-    (h : t ≡ out_of_range s.n v) where
+-- a second terminal v, of Ancestor, once order Q is kept for u
+module _ (bytes index : List ℕ) (u v : ℕ) (i : Indexed)
+    (e : answered (its bytes index u i) ≡ tried (order_q bytes index u) (both bytes index u)) {b : Bool}
+    (t : out_of_range i.layout.n v ≡ b) where
   abbrev last : List Rule
   last = (11, out_of_range (terminals bytes) v) ∷ []
 
-  tested : t ≡ out_of_range (terminals bytes) v
-  tested = h ∙ ap (λ (k : ℕ). out_of_range k v) (let_pass bytes index u e f).beside.sound.is_n
+  tested : out_of_range (terminals bytes) v ≡ b
+  tested = sym (ap (λ (k : ℕ). out_of_range k v) (is_n bytes index u i e)) ∙ t
 
-  pub second_outside : t ≡ true → refused 11 ≡ tried_then (order_q bytes index u ++ last) (question (view_of bytes index))
-  second_outside o =
-      query_answered_then bytes index u e question (λ w. last) f
-      (then_told last _ (first_broken_lem 11 [] (sym tested ∙ o)))
+  answers : {a : Answer Bool} → a ≡ tried_then last (ancestor_of (seen i) (u - 1) (v - 1)) → a ≡ ancestor bytes index u v
+  unfolding ancestor ancestor_rules
+  answers a =
+      query_answered bytes index u i e (λ (w : View). tried_then last (ancestor_of w (u - 1) (v - 1))) a
+      ∙ sym (then_append (order_numbered_q bytes index u) last (ancestor_of (view_of bytes index) (u - 1) (v - 1)))
 
-  pub second_inside : t ≡ false → {a : Answer A} → a ≡ question (view_by s.n s.m bytes index)
-      → a ≡ tried_then (order_q bytes index u ++ last) (question (view_of bytes index))
+  pub second_outside : b ≡ true → refused 11 ≡ ancestor bytes index u v
+  second_outside o = answers (then_told last _ (first_broken_lem 11 [] (tested ∙ o)))
+
+  pub second_inside : b ≡ false → {a : Answer Bool} → a ≡ ancestor_of (seen i) (u - 1) (v - 1)
+      → a ≡ ancestor bytes index u v
   unfolding first_broken
-  second_inside i a =
-      query_answered_then bytes index u e question (λ w. last) f
-      (a ∙ then_untold last _ (first_kept 11 [] (sym tested ∙ i)))
+  second_inside o a = answers (a ∙ then_untold last _ (first_kept 11 [] (tested ∙ o)))
 
--- in range, by the test
-pub ranged_by : {n k : ℕ} {r : Bool} → r ≡ out_of_range n k → r ≡ false → Ranged n k
-ranged_by {n} {k} e f =
-    let (a, b) = range_inside n k (sym e ∙ f) in
-    record { some = a; upto = b }
+-- a number that the code finds in range
+pub ranged_by : {n k : ℕ} {t : Bool} → t ≡ out_of_range n k → t ≡ false → Ranged n k
+ranged_by {n} {k} e f = let (a, b) = range_inside n k (sym e ∙ f) in record { some = a; upto = b }

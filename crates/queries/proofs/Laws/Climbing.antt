@@ -1,8 +1,9 @@
 -- Climbs: what one step says of the next vertex, and a climb from its begin to its end.
-use mathlib.Core.Path.{◌≡◌, refl, sym, ap, subst, ◌∙◌}
+use mathlib.Core.Path.{◌≡◌, refl, sym, ap, ap₂, subst, ◌∙◌}
 use mathlib.Core.Logic.{◌⊎◌, inl, inr}
 use mathlib.Core.Bool.{Bool, true, false}
 use mathlib.Core.List.{List}
+use mathlib.Core.Option.{none, some}
 use Prim.Native.Nat.{ℕ, zero, suc, ◌+◌, ◌-◌, ◌*◌, ◌≤◌, ◌<◌}
 use native.Mathlib.Decide.{ℕ_discrete}
 use native.Mathlib.Omega.{arith}
@@ -24,11 +25,16 @@ use Rattle.record.specs.Laws.Sounded.{sound_shaped, sound_vertices}
 use Rattle.queries.specs.View.{View, view_by, block_marks, section_of}
 use Rattle.queries.specs.Queries.{Step, stuck, top, rise, step_by, step_up}
 use Rattle.queries.specs.Queries.{head_by, head_next, head_of, ancestor_by, ancestor_next, ancestor_of}
-use Rattle.queries.specs.Steps.{Beside}
+use Rattle.queries.specs.Steps.{Beside, risen}
+use Rattle.queries.specs.declared.indexed.Indexed.{Indexed}
 use Rattle.queries.specs.Laws.Inside.{Inside, step_inside}
 use Rattle.queries.proofs.Laws.Ones.{part_length, part_bit}
 use Rattle.queries.specs.Laws.Framed.{length_p, length_b}
 use Rattle.queries.proofs.Laws.Stepping.{block_bounds, block_marks_lem}
+
+-- what the type tells
+pub beside : (i : Indexed) → Beside i.layout.bytes.now i.index.now i.layout.n i.layout.m
+beside i = record { sound = i.layout.sound; framed = i.framed }
 
 -- the two sides of a choice
 sides_apart : {A B : Type 0} {a : A} {b : B} → inr b ≡ inl a → ⊥
@@ -36,6 +42,25 @@ sides_apart e = let z : ◌≡◌ {A = ℕ} 0 1 = cc in omega arith
 
 same_side : {A B : Type 0} {a b : B} → ◌≡◌ {A = A ⊎ B} (inr a) (inr b) → a ≡ b
 same_side e = cc
+
+-- ---- what a step up tells
+
+pub refused_told : (s : Step) {k : ℕ} → refused k ≡ risen s → (k ≡ 12) × (stuck ≡ s)
+refused_told stuck e = (cc, refl)
+refused_told top e = absurd (let z : ◌≡◌ {A = ℕ} 0 1 = cc in omega arith)
+refused_told (rise j p) e = absurd (let z : ◌≡◌ {A = ℕ} 0 1 = cc in omega arith)
+
+pub top_told : (s : Step) → answered none ≡ risen s → top ≡ s
+top_told stuck e = absurd (let z : ◌≡◌ {A = ℕ} 0 1 = cc in omega arith)
+top_told top e = refl
+top_told (rise j p) e = absurd (let z : ◌≡◌ {A = ℕ} 0 1 = cc in omega arith)
+
+pub rise_told : (s : Step) {j p : ℕ} → answered (some (j, p)) ≡ risen s → rise j p ≡ s
+rise_told stuck e = absurd (let z : ◌≡◌ {A = ℕ} 0 1 = cc in omega arith)
+rise_told top e = absurd (let z : ◌≡◌ {A = ℕ} 0 1 = cc in omega arith)
+rise_told (rise i q) {j} {p} e =
+    let z : ◌≡◌ {A = ℕ × ℕ} (j, p) (i, q) = cc in
+    ap₂ rise (ap (λ (x : ℕ × ℕ). x.0) z) (ap (λ (x : ℕ × ℕ). x.1) z)
 
 -- ---- a climb
 
@@ -45,27 +70,41 @@ climb next late zero u = late
 climb next late (suc k) u = walk next late k u
 
 module _ {A : Type 0} (next : ℕ → A ⊎ ℕ) (late : A) {final : A} where
-  climb_begin : (n u : ℕ) → 0 < n → walk next late (n - 1) u ≡ final → climb next late n u ≡ final
+  climb_begin : (n u : ℕ) → 0 < n → walk next late (n - 1) u ≡ final → climb next late (n - 0) u ≡ final
   climb_begin zero u h w = absurd (omega arith)
   climb_begin (suc k) u h w =
+      let y : suc k - 0 ≡ suc k = omega arith in
       let z : k ≡ suc k - 1 = omega arith in
-      ap (λ (x : ℕ). walk next late x u) z ∙ w
+      ap (λ (x : ℕ). climb next late x u) y ∙ ap (λ (x : ℕ). walk next late x u) z ∙ w
 
-  pub climb_stop : (left u : ℕ) {a : A} → 0 < left → inl a ≡ next u → climb next late left u ≡ final → a ≡ final
-  climb_stop zero u h e w = absurd (omega arith)
-  climb_stop (suc k) u h e w = sym (walk_stop next late k (sym e)) ∙ w
+  stop : (left u : ℕ) {a : A} → 0 < left → inl a ≡ next u → climb next late left u ≡ final → a ≡ final
+  stop zero u h e w = absurd (omega arith)
+  stop (suc k) u h e w = sym (walk_stop next late k (sym e)) ∙ w
 
-  pub climb_on : (left u : ℕ) {p : ℕ} → 0 < left → inr p ≡ next u → climb next late left u ≡ final
+  on : (left u : ℕ) {p : ℕ} → 0 < left → inr p ≡ next u → climb next late left u ≡ final
       → climb next late (left - 1) p ≡ final
-  climb_on zero u h e w = absurd (omega arith)
-  climb_on (suc zero) u h e w = sym (walk_late next late (sym e)) ∙ w
-  climb_on (suc (suc k)) u {p} h e w =
+  on zero u h e w = absurd (omega arith)
+  on (suc zero) u h e w = sym (walk_late next late (sym e)) ∙ w
+  on (suc (suc k)) u {p} h e w =
       let z : suc (suc k) - 1 ≡ suc k = omega arith in
       ap (λ (x : ℕ). climb next late x p) z ∙ sym (walk_up next late k (sym e)) ∙ w
 
-  pub climb_late : (left u : ℕ) → left ≤ 0 → climb next late left u ≡ final → late ≡ final
-  climb_late zero u h w = w
-  climb_late (suc k) u h w = absurd (omega arith)
+  late_at : (left u : ℕ) → left ≤ 0 → climb next late left u ≡ final → late ≡ final
+  late_at zero u h w = w
+  late_at (suc k) u h w = absurd (omega arith)
+
+  -- after i of n steps
+  module _ (n i u : ℕ) (w : climb next late (n - i) u ≡ final) where
+    pub climb_stop : {a : A} → i < n → inl a ≡ next u → a ≡ final
+    climb_stop h e = stop (n - i) u (omega arith) e w
+
+    pub climb_on : {p : ℕ} → i < n → inr p ≡ next u → climb next late (n - (i + 1)) p ≡ final
+    climb_on {p} h e =
+        let z : n - (i + 1) ≡ n - i - 1 = omega arith in
+        ap (λ (x : ℕ). climb next late x p) z ∙ on (n - i) u (omega arith) e w
+
+    pub climb_late : n ≤ i → late ≡ final
+    climb_late h = late_at (n - i) u (omega arith) w
 
 -- ---- where a step leads
 
@@ -83,11 +122,11 @@ one_risen g u i {j} {p} (fail e) h =
     let z = ap tag f in
     absurd (omega arith)
 
-risen : (g : Blocks) (u c i : ℕ) {j p : ℕ} → rise j p ≡ step_by g u c i → (c ≡ 1) × (j ≡ i)
+risen_by : (g : Blocks) (u c i : ℕ) {j p : ℕ} → rise j p ≡ step_by g u c i → (c ≡ 1) × (j ≡ i)
 unfolding step_by tag
-risen g u zero i h = let z = ap tag h in absurd (omega arith)
-risen g u (suc zero) i h = (refl, one_risen g u i (told (ltb (target g u i) (length g))) h)
-risen g u (suc (suc c)) i h = let z = ap tag h in absurd (omega arith)
+risen_by g u zero i h = let z = ap tag h in absurd (omega arith)
+risen_by g u (suc zero) i h = (refl, one_risen g u i (told (ltb (target g u i) (length g))) h)
+risen_by g u (suc (suc c)) i h = let z = ap tag h in absurd (omega arith)
 
 module _ {bytes : List ℕ} {n m u a b : ℕ} (o : Sound bytes n m) (h : u < n)
     (ea : a ≡ get_or (starts_of (unary bytes)) u 0) (eb : b ≡ get_or (starts_of (unary bytes)) (u + 1) 0)
@@ -97,7 +136,7 @@ module _ {bytes : List ℕ} {n m u a b : ℕ} (o : Sound bytes n m) (h : u < n)
   unfolding step_up
   rise_at =
       let x : List Bool = block_marks bytes s u in
-      let (c, i) = risen (blocks bytes) u (count x) (select x 1 - 1) e in
+      let (c, i) = risen_by (blocks bytes) u (count x) (select x 1 - 1) e in
       let (q, r) = block_bounds o h ea eb in
       let d : length x ≡ b - a =
       ap length (block_marks_lem o h ea eb s) ∙ part_length s (a + u + 1) (b - a) (omega arith) in
@@ -209,7 +248,7 @@ module _ {bytes : List ℕ} {n m : ℕ} (o : Sound bytes n m) where
   starts_long e = ap length e ∙ starts_count (sound_shaped o) ∙ ap (λ (x : ℕ). x + 1) (sym o.is_n)
 
   module _ (index : List ℕ) (v : ℕ) (h : v < n) where
-    pub head_begin : climb (head_next (view_by n m bytes index)) (refused 12) n v ≡ head_of (view_by n m bytes index) v
+    pub head_begin : climb (head_next (view_by n m bytes index)) (refused 12) (n - 0) v ≡ head_of (view_by n m bytes index) v
     unfolding head_of
     head_begin =
         let next = head_next (view_by n m bytes index) in
@@ -217,7 +256,7 @@ module _ {bytes : List ℕ} {n m : ℕ} (o : Sound bytes n m) where
         (ap (λ (k : ℕ). walk next (refused 12) (k - 1) v) (sym (sound_vertices o)))
 
     pub ancestor_begin : (x : ℕ)
-        → climb (ancestor_next (view_by n m bytes index) x) (refused 12) n v ≡ ancestor_of (view_by n m bytes index) x v
+        → climb (ancestor_next (view_by n m bytes index) x) (refused 12) (n - 0) v ≡ ancestor_of (view_by n m bytes index) x v
     unfolding ancestor_of
     ancestor_begin x =
         let next = ancestor_next (view_by n m bytes index) x in

@@ -1,7 +1,5 @@
 -- Heads that are known: a way that gets a head, and a climb up to a head that is known.
---   keep_none, keep_one      a way that gets a head, vertex by vertex
 --   known_none, known_kept   the known heads at first, and after a way has got one
---   room                     arrays of zeros are room
 --   head_at_lem                  a climb that stops is what Head answers
 --   head_here, head_above    a climb that stops here, and one that goes on
 --   WayTo, way_..            the vertices that a climb has passed, and where it stands
@@ -12,48 +10,18 @@ use mathlib.Core.List.{List, [], ◌∷◌}
 use Prim.Native.Nat.{ℕ, zero, suc, ◌+◌, ◌-◌, ◌≤◌, ◌<◌}
 use native.Mathlib.Decide.{ℕ_discrete}
 use native.Mathlib.Omega.{arith}
-use lib.ListN.{length, take, get_or, set, replicate, length-replicate, length-set}
+use lib.ListN.{length, take, get_or, set, length-take, length-set}
+use Rattle.std.proofs.lemmas.List.{get_or-take}
 use lib.Seq.{length-take-le}
-use Rattle.adjacency.specs.Laws.Stores.{cell_zero, cell_same, cell_other}
+use Rattle.adjacency.specs.Laws.Stores.{cell_same, cell_other}
 use Rattle.graph.specs.Walk.{here, up}
 use Rattle.graph.specs.Laws.Heads.Limits.{walk_stops}
 use Rattle.record.specs.Answers.{Answer, refused, answered}
 use Rattle.queries.specs.View.{View, view_by}
 use Rattle.queries.specs.Queries.{head_next, head_of}
 use Rattle.queries.specs.Steps.{Beside}
-use Rattle.queries.specs.Looking.{HeadIs, Known, Room, Vertices, OnWay, Kept}
-use Rattle.queries.proofs.Laws.Climbing.{climb, climb_stop, climb_on, climb_late, head_inside, head_begin}
-
--- ---- a way that gets a head
-
-pub keep_none : (way : List ℕ) (h : ℕ) (known : List ℕ) → Kept way 0 h known known
-keep_none way h known = record { size = refl; cells = λ u. inl refl }
-
-module _ {way : List ℕ} {i h : ℕ} {before found : List ℕ} (k : Kept way i h before found) where
-  more : {u : ℕ} → OnWay way i u → OnWay way (i + 1) u
-  more o = let b = o.before in record { at = o.at; before = omega arith; is = o.is }
-
-  pub keep_one : {after : List ℕ} → after ≡ set found (get_or way i 0) h → get_or way i 0 < length before
-      → Kept way (i + 1) h before after
-  keep_one {after} e l = record {
-    size = ap length e ∙ length-set found (get_or way i 0) h ∙ k.size;
-    cells = λ u. cell u (ℕ_discrete u (get_or way i 0));
-  }
-    where
-      cell : (u : ℕ) → Dec (u ≡ get_or way i 0)
-          → (get_or after u 0 ≡ get_or before u 0) ⊎ ((get_or after u 0 ≡ h) × OnWay way (i + 1) u)
-      cell u (yes q) =
-          let s = k.size in
-          inr (
-            ap (λ (t : List ℕ). get_or t u 0) e ∙ cell_same found h q (omega arith),
-            record { at = i; before = omega arith; is = sym q },
-          )
-      cell u (no q) =
-          let same = ap (λ (t : List ℕ). get_or t u 0) e ∙ cell_other found h q in
-          elim (k.cells u) [
-            | inl a ↦ inl (same ∙ a)
-            | inr a ↦ inr (same ∙ a.0, more a.1)
-          ]
+use Rattle.queries.specs.Looking.{HeadIs, Known, Vertices, OnWay, Kept}
+use Rattle.queries.proofs.Laws.Climbing.{climb, climb_stop, climb_on, head_inside, head_begin}
 
 -- ---- the known heads
 
@@ -70,13 +38,6 @@ known_none w n known h zeros = record {
     front (suc k) [] u e = refl
     front (suc k) (x ∷ l) zero e = e
     front (suc k) (x ∷ l) (suc u) e = front k l u e
-
--- room in arrays of zeros
-pub room : (n a k : ℕ) → n + 1 ≤ a → n ≤ k → Room n (replicate a 0) (replicate k 0) (replicate k 0)
-room n a k f g =
-    let s = length-replicate {A = ℕ} a 0 in
-    let t = length-replicate {A = ℕ} k 0 in
-    record { for_starts = omega arith; for_known = omega arith; for_way = omega arith; none_known = cell_zero k }
 
 module _ {w : View} {n : ℕ} where
   pub known_kept : {way : List ℕ} {k h : ℕ} {before after : List ℕ} → Known w n before → Kept way k h before after
@@ -167,15 +128,11 @@ module _ {w : View} {n v : ℕ} {way : List ℕ} {k u : ℕ} (y : WayTo w n v wa
     pub way_head : length w.graph ≡ n → v < n → answered h ≡ head_of w v
     way_head e l = head_at_lem w e l (y.begun h is)
 
-    pub way_kept : {before after : List ℕ} → Known w n before → Kept way k h before after → Known w n after
-    way_kept known t = known_kept known t (y.passed h is)
-
-  -- what `keep` asks for
-  pub way_lent : {known : List ℕ} → Known w n known → k ≤ n → (k ≤ length way) × Vertices (length known) way k
-  way_lent known h =
-      let s = y.size in
-      let t = known.size in
-      (omega arith, λ i l. omega (arith, y.vertices i l))
+    pub way_kept : {before after : List ℕ} → Known w n before
+        → Kept (take k way) (length (take k way)) h before after → Known w n after
+    way_kept known t =
+        known_kept known t (λ i l. let b : i < k = omega (arith, length-take k way) in
+        subst (λ (x : ℕ). HeadIs w x h) (sym (get_or-take k way i 0 b)) (y.passed h is i b))
 
 -- ---- the loop
 
@@ -189,13 +146,10 @@ pub climbed_begins : {bytes index known way : List ℕ} {n m v : ℕ} → Beside
     → Known (view_by n m bytes index) n known → length way ≡ n → v < n
     → Climbed (view_by n m bytes index) n v known way v 0
 climbed_begins {bytes} {index} {n = n} {m = m} {v = v} b known size l =
-    let z : n - 0 ≡ n = omega arith in
     record {
       heads = known;
       along = way_begins (view_by n m bytes index) l size;
-      rest =
-          ap (λ (x : ℕ). climb (head_next (view_by n m bytes index)) (refused 12) x v) z
-          ∙ head_begin b.sound index v l;
+      rest = head_begin b.sound index v l;
     }
 
 module _ {w : View} {n v : ℕ} {known way : List ℕ} {u k : ℕ} (c : Climbed w n v known way u k) where
@@ -205,19 +159,13 @@ module _ {w : View} {n v : ℕ} {known way : List ℕ} {u k : ℕ} (c : Climbed 
 
   module _ (l : k < n) where
     pub climbed_stops : {a : Answer ℕ} → inl a ≡ head_next w u → a ≡ head_of w v
-    climbed_stops e = climb_stop (head_next w) (refused 12) (n - k) u (omega arith) e c.rest
+    climbed_stops e = climb_stop (head_next w) (refused 12) n k u c.rest l e
 
     pub climbed_on : {next : List ℕ} {p : ℕ} → next ≡ set way k u → inr p ≡ head_next w u → p < n
         → Climbed w n v known next p (k + 1)
     climbed_on {p = p} e f i =
-        let z : n - (k + 1) ≡ n - k - 1 = omega arith in
         record {
           heads = c.heads;
           along = way_up (way_put c.along l e) f i;
-          rest =
-              ap (λ (x : ℕ). climb (head_next w) (refused 12) x p) z
-              ∙ climb_on (head_next w) (refused 12) (n - k) u (omega arith) f c.rest;
+          rest = climb_on (head_next w) (refused 12) n k u c.rest l f;
         }
-
-  pub climbed_late : n ≤ k → refused 12 ≡ head_of w v
-  climbed_late h = climb_late (head_next w) (refused 12) (n - k) u (omega arith) c.rest

@@ -2,9 +2,9 @@
 --   outside_told, head_refused, visit_refused, both_told, both_near    one terminal
 --   LookingAt    the terminals before cell i are answered, and their answers are in the lists
 --   looking_..   from its begin to its end
---   lookup-..    the call, by the rules that are tried in turn
+--   lookup_..    the call, by the rules that are tried in turn
 --   list_long, heads_misfit, visits_tested, lists_fit    rule 15
-use mathlib.Core.Path.{◌≡◌, refl, sym, ap₂, ◌∙◌}
+use mathlib.Core.Path.{◌≡◌, refl, sym, ap₂, subst, ◌∙◌}
 use mathlib.Core.Bool.{true, false, not}
 use mathlib.Core.List.{List, ◌∷◌, ◌++◌}
 use Prim.Native.Nat.{ℕ, ◌+◌, ◌-◌, ◌≤◌, ◌<◌}
@@ -15,7 +15,7 @@ use lib.ListN.{length, drop, get_or, set, length-map}
 use Rattle.adjacency.specs.Laws.Anywhere.{neither}
 use Rattle.adjacency.specs.Laws.InOrder.{InOrder, order_start, order_more, order_end}
 use Rattle.record.specs.Rules.{Rule, first_broken}
-use Rattle.record.specs.Answers.{Answer, refused, answered, said, tried, sizes_of, number}
+use Rattle.record.specs.Answers.{Answer, refused, answered, said, tried, number}
 use Rattle.record.specs.Operations.{other_length, out_of_range}
 use Rattle.record.specs.declared.Refusal.{Refusal}
 use Rattle.record.specs.Laws.First.{first_broken_lem, append_kept, append_broken}
@@ -156,16 +156,24 @@ module _ (bytes index list : List ℕ) (lent : Lists) where
   rest = (15, bad_list list lent) ∷ asks (head_and_visit bytes index) list
 
   -- order R or rule 10 is broken
-  pub lookup_unread : {k : ℕ} → refused k ≡ tried (beside_rules bytes index) (sizes_of bytes)
+  pub lookup_unread : {A : Type 0} (a : A) {k : ℕ} → refused k ≡ tried (beside_rules bytes index) a
       → LookupDone bytes index list lent lent (refused k)
   unfolding lookup looked_up lookup_rules
-  lookup_unread e =
-      let (i, f, g) = told_back (first_broken (beside_rules bytes index)) (sizes_of bytes) e in
+  lookup_unread a e =
+      let (i, f, g) = told_back (first_broken (beside_rules bytes index)) a e in
       let h = append_broken (beside_rules bytes index) rest i f in
       record {
         answers = rw g (told tt h);
         leaves = buffer_kept (beside_rules bytes index ++ rest) (lookup_lists bytes index list) lent h;
       }
+
+  -- what they let pass is the record and the index that they were asked of
+  pub lookup_read : {p : List ℕ × List ℕ} {after : Lists} {r : Answer (Unit {0})}
+      → answered p ≡ tried (beside_rules bytes index) (bytes, index) → LookupDone p.0 p.1 list lent after r
+      → LookupDone bytes index list lent after r
+  lookup_read {after = after} {r = r} e d =
+      let same = (untold_back (first_broken (beside_rules bytes index)) (bytes, index) e).1 in
+      subst (λ (p : List ℕ × List ℕ). LookupDone p.0 p.1 list lent after r) same d
 
   module _ {n m : ℕ} (b : Beside bytes index n m) where
     rest_told : first_broken (lookup_rules bytes index list lent) ≡ first_broken rest

@@ -5,6 +5,7 @@ use Prim.Native.Nat.{ℕ, ◌+◌, ◌*◌, ◌/◌, ◌≤◌}
 use native.Mathlib.Omega.{arith}
 use borrow.Author.Tests.{eq-eqb, ne_eqb}
 use lib.Dec.{eqb}
+use mir.Val.{bool_byte}
 use Rattle.bits.specs.Bits.{bit}
 use Rattle.forest.specs.Index.{mark_bytes, number_bytes, index_length}
 
@@ -15,13 +16,10 @@ index_short {n} {m} a b =
     let numbers : (12 * n + 7) / 8 ≤ 6144 = omega arith in
     omega arith
 
--- one more where b holds
-module _ {size k : ℕ} {b : Bool} (e : size ≡ k) where
-  pub one_more : b ≡ true → size + 1 ≡ k + bit b
-  one_more q = rw (q, e)
-
-  pub as_long : b ≡ false → size ≡ k + bit b
-  as_long q = rw q (omega arith)
+-- a flag as a number
+pub flag_small : (b : Bool) → bool_byte b ≤ 1
+flag_small true = omega arith
+flag_small false = omega arith
 
 -- such a buffer has another length just where b holds, and is hardly longer
 pub other_where : (k : ℕ) (b : Bool) → not (eqb (k + bit b) k) ≡ b

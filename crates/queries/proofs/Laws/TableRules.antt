@@ -8,14 +8,15 @@ use lib.Dec.{eqb}
 use lib.ListN.{length}
 use Rattle.record.specs.Record.{terminals, wires, blocks}
 use Rattle.record.specs.Rules.{Rule, first_broken, order_r, layout_rules, check_rules}
-use Rattle.record.specs.Answers.{refused, answered, tried, sizes_of}
-use Rattle.record.specs.Operations.{other_length}
+use Rattle.record.specs.Answers.{Answer, refused, answered, tried}
+use Rattle.record.specs.Sized.{sizes_of}
+use Rattle.record.specs.Operations.{Accepted, other_length}
 use Rattle.record.specs.Steps.{Sound}
 use Rattle.record.specs.Laws.First.{rule_kept, append_broken, both_kept, check_numbered}
 use Rattle.adjacency.specs.Laws.Anywhere.{neither}
 use Rattle.record.specs.Laws.Told.{told, untold, told_back, untold_back, buffer_kept, buffer_written}
 use Rattle.forest.specs.Index.{index_of, index_length}
-use Rattle.forest.specs.Operations.{build_rules, build, built}
+use Rattle.forest.specs.Operations.{build_rules, build, built, no_start}
 use Rattle.queries.specs.Written.{Written}
 use Rattle.queries.specs.Demands.{build_writes}
 use Rattle.queries.specs.Filling.{Ready}
@@ -38,6 +39,11 @@ module _ (bytes : List ℕ) (start : ℕ) (work : List ℕ) (lent : Columns) whe
       let (i, f, g) = told_back (first_broken (order_r bytes)) (sizes_of bytes) e in
       let l = append_broken (layout_rules bytes) _ i (append_broken (order_r bytes) _ i f) in
       rw g (refuses (append_broken (check_rules bytes) _ i l))
+
+  -- order R lets pass the record that it was asked of
+  pub table_read : {read : List ℕ} {next : Columns} {r : Answer (Unit {0})} → read ≡ bytes
+      → TableDone read start work lent next r → TableDone bytes start work lent next r
+  table_read {next = next} {r = r} same d = subst (λ (x : List ℕ). TableDone x start work lent next r) same d
 
   -- behind order R
   module _ {n m : ℕ} (s : Sound bytes n m) (index : List ℕ)
@@ -66,9 +72,21 @@ module _ (bytes : List ℕ) (start : ℕ) (work : List ℕ) (lent : Columns) whe
       kept : first_broken (table_rules bytes start work lent) ≡ 0
       kept = ap first_broken (sym same_rules) ∙ build_kept
 
+      written : (w : Written bytes (built bytes start work index)) × (w.start ≡ start)
+      written = build_writes bytes start work index (sym e)
+
+      pub table_accepted : Accepted bytes
+      table_accepted = written.0.accepted
+
+      pub table_taken : no_start (terminals bytes) start ≡ false
+      table_taken = ap (no_start (terminals bytes)) (sym written.1) ∙ written.0.taken
+
+      pub table_index : {next : List ℕ} → next ≡ built bytes start work index → next ≡ index_of (blocks bytes) (start - 1)
+      table_index is = is ∙ written.0.is ∙ ap (λ (k : ℕ). index_of (blocks bytes) (k - 1)) written.1
+
       pub table_ready : {next : List ℕ} → next ≡ built bytes start work index → Ready bytes next n m
       table_ready is = record {
-        written = subst (Written bytes) (sym is) (build_writes bytes start work index (sym e)).0;
+        written = subst (Written bytes) (sym is) written.0;
         is_n = s.is_n;
         is_m = s.is_m;
       }

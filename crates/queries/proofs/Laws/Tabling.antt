@@ -1,17 +1,17 @@
 -- The answers for all terminals at once: a pass over the vertices, and one in order of visits.
---   cells_begin, cells_put, cells_end          a list that is filled cell by cell
---   reached_begin, reached_put, reached_end    a list that is filled in order of visits
+--   indexed_beside, built_ready                what the structs of the code say
+--   cells_put, apart_self                      a list that is filled cell by cell
 --   block_span, count_cell, count_small        the children of a vertex
 --   stored_inside, stored_apart, order_cell    the stored numbers are those of 0 to n - 1, each once
---   never_stuck, root_parent, risen_parent     the parent of a vertex
+--   never_refused, root_parent, risen_parent   the parent of a vertex
 --   root_head, bridge_head, risen_head         its head, by that of its parent
 --   filled                                     the whole table
-use mathlib.Core.Path.{◌≡◌, sym, ap, subst, ◌∙◌}
+use mathlib.Core.Path.{◌≡◌, refl, sym, ap, subst, ◌∙◌}
 use mathlib.Core.Logic.{inl, inr}
 use mathlib.Core.List.{List}
 use mathlib.Core.Option.{some}
 use Prim.Native.Nat.{ℕ, zero, suc, ◌+◌, ◌-◌, ◌*◌, ◌≤◌, ◌<◌}
-use native.Mathlib.Decide.{dec_lt, ℕ_discrete}
+use native.Mathlib.Decide.{dec_lt}
 use native.Mathlib.Numerals.{add-one}
 use native.Mathlib.Omega.{arith}
 use lib.ListN.{length, get_or, set, take, drop, length-set, length-take}
@@ -33,25 +33,40 @@ use Rattle.queries.specs.Queries.{child_count}
 use Rattle.queries.specs.Answers.{or_zero, unless_zero}
 use Rattle.queries.specs.Operations.{visit, parent as the_parent_answer, head as the_head_answer}
 use Rattle.queries.specs.Operations.{children as the_children_answer}
-use Rattle.queries.specs.Steps.{Beside}
+use Rattle.std.specs.Prelude.{Result, Ok, Err, IsOk}
+use Rattle.std.specs.Prelude as code
+use Rattle.record.specs.declared.Refusal.{Refusal}
+use Rattle.queries.specs.declared.climbs.Rise.{Rise}
+use Rattle.queries.specs.Steps.{Beside, risen, step_of}
 use Rattle.queries.specs.Written.{forest_from, Terminal}
 use Rattle.queries.specs.Table.{columns, answers_of, table_on}
-use Rattle.queries.specs.Filling.{Ready, Cells, Reached, parent_at, head_at, ParentsTo, HeadsTo}
+use Rattle.queries.specs.declared.indexed.Indexed.{Indexed}
+use Rattle.queries.specs.declared.built.Built.{Built}
+use Rattle.queries.specs.Filling.{Ready, Cells, parent_at, head_at, ParentsTo, HeadsTo}
 use Rattle.queries.specs.Laws.Shown.{Shows, parent_shown, head_shown, head_stopped, head_risen, count_shown}
 use Rattle.queries.specs.Laws.Built.{as_many}
 use Rattle.queries.specs.Laws.Ready.{ready_beside}
 use Rattle.queries.specs.Laws.Answered as Answered
 use Rattle.queries.specs.Laws.Answered.{same_answer, visit_answer, parent_answer, children_answer, head_answer}
 use Rattle.queries.specs.Laws.Columns.{column_told}
-use Rattle.queries.proofs.Laws.Climbing.{block_from, block_to, rise_to}
+use Rattle.queries.proofs.Laws.Climbing.{block_from, block_to, rise_to, refused_told}
 use Rattle.queries.specs.Laws.Framed.{length_p}
 use Rattle.queries.proofs.Laws.Stepping.{block_bounds}
 use Rattle.queries.proofs.Laws.Singles.{children_counted}
 
--- ---- cells, one after another
+-- a record and its index, as the laws take them
+pub indexed_beside : (i : Indexed) → Beside i.layout.bytes.now i.index.now i.layout.n i.layout.m
+indexed_beside i = record { sound = i.layout.sound; framed = i.framed }
 
-pub cells_begin : {at value : ℕ → ℕ} {n : ℕ} {l : List ℕ} → length l ≡ n → Cells at value n 0 l
-cells_begin e = record { size = e; cells = λ i h. absurd (omega arith) }
+pub built_ready : (b : Built)
+    → Ready b.indexed.layout.bytes.now b.indexed.index.now b.indexed.layout.n b.indexed.layout.m
+built_ready b = record {
+  written = record { accepted = b.accepted; start = b.start.0; taken = b.taken; is = b.is };
+  is_n = b.indexed.layout.sound.is_n;
+  is_m = b.indexed.layout.sound.is_m;
+}
+
+-- ---- cells, one after another
 
 -- the cell of k is stored, which is none of those before
 pub cells_put : {at value : ℕ → ℕ} {n k : ℕ} {l : List ℕ} → Cells at value n k l → ((i : ℕ) → i < k → at i ≡ at k → ⊥)
@@ -69,40 +84,9 @@ cells_put {at} {value} {n} {k} {l} c apart {a} {x} {next} ea h ex e = record {
         let s = c.size in
         cell_same l x (ap at z ∙ sym ea) (rw ea (omega arith)) ∙ ex ∙ ap value (sym z)
 
-pub cells_end : {at value : ℕ → ℕ} {n k : ℕ} {l : List ℕ} → n ≤ k → Cells at value n k l → Cells at value n n l
-cells_end h c = record { size = c.size; cells = λ i l. c.cells i (omega arith) }
-
 -- by the vertex itself
 pub apart_self : {k : ℕ} (i : ℕ) → i < k → i ≡ k → ⊥
 apart_self i h e = omega arith
-
--- ---- cells, in order of stored numbers
-
-pub reached_begin : {stored value : ℕ → ℕ} {n : ℕ} {l : List ℕ} → length l ≡ n → Reached stored value n 0 l
-reached_begin e = record { size = e; cells = λ v h k. absurd (omega arith) }
-
--- the cell of v is stored, whose number is k
-pub reached_put : {stored value : ℕ → ℕ} {n k : ℕ} {l : List ℕ} → Reached stored value n k l → {v : ℕ} → v < n
-    → stored v ≡ k → ((u : ℕ) → u < n → stored u ≡ stored v → u ≡ v)
-    → {x : ℕ} {next : List ℕ} → x ≡ value v → next ≡ set l v x → Reached stored value n (k + 1) next
-reached_put {stored} {value} {n} {k} {l} r {v} h is once {x} {next} ex e = record {
-  size = ap length e ∙ length-set l v x ∙ r.size;
-  cells = λ u i j. ap (λ (t : List ℕ). get_or t u 0) e ∙ go u i j (ℕ_discrete u v);
-}
-  where
-    go : (u : ℕ) → u < n → stored u < k + 1 → Dec (u ≡ v) → get_or (set l v x) u 0 ≡ value u
-    go u i j (yes q) =
-        let s = r.size in
-        cell_same l x q (omega arith) ∙ ex ∙ ap value (sym q)
-    go u i j (no d) = cell_other l x d ∙ r.cells u i (below (dec_lt (stored u) k))
-      where
-        below : Dec (stored u < k) → stored u < k
-        below (yes b) = b
-        below (no b) = absurd (d (once u i (omega arith)))
-
-pub reached_end : {stored value : ℕ → ℕ} {n k : ℕ} {l : List ℕ} → n ≤ k → Reached stored value n k l
-    → Reached stored value n n l
-reached_end h r = record { size = r.size; cells = λ v i j. r.cells v i (omega arith) }
 
 -- ---- the children of a vertex
 
@@ -197,12 +181,17 @@ module _ {bytes index : List ℕ} {n m : ℕ} (r : Ready bytes index n m) where
     abbrev step : Step
     step = step_up (blocks bytes) (block_marks bytes (section_of n m index 1)) v
 
-    pub never_stuck : stuck ≡ step → {A : Type 0} → A
+    never_stuck : stuck ≡ step → {A : Type 0} → A
     unfolding parent_of
     never_stuck e =
         let q = ap parent_by e ∙ parent_shown formed covered shows v (inside h) in
         let z : ◌≡◌ {A = ℕ} 0 1 = cc in
         absurd (omega arith)
+
+    -- so the code has no refusal of a step
+    pub never_refused : (r : Result (code.Option Rise) Refusal) → step_of r ≡ risen step → IsOk r
+    never_refused (Ok x) e = refl
+    never_refused (Err q) e = never_stuck (refused_told step e).1
 
     pub root_parent : top ≡ step → 0 ≡ parent_at bytes index n m v
     unfolding parent_of said

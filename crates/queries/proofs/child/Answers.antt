@@ -1,33 +1,35 @@
--- `child` meets its contract.
-use Rattle.queries.proofs.Laws.Asking.{asked_for, query_refused_first, query_answered_then}
+-- `child` meets its contract: order Q first, then 13, and then the view.
+use mathlib.Core.List.{[], ◌∷◌}
+use mathlib.Core.Path.{sym, ◌∙◌}
+use Prim.Native.Nat.{◌-◌}
+use Rattle.record.specs.Answers.{tried_then}
+use Rattle.record.specs.Laws.Told.{exit_told}
 use Rattle.queries.specs.Operations.{no_child, child_rules, child}
 use Rattle.queries.specs.Queries.{child_of, past_count}
-use mathlib.Core.List.{[], ◌∷◌}
 use Rattle.queries.specs.View.{View}
-use Prim.Native.Nat.{◌-◌}
+use Rattle.queries.specs.Laws.Asked.{order_numbered_q}
+use Rattle.queries.proofs.Laws.Asking.{query_refused, query_ranged, query_answered, then_append}
 use Rattle.queries.proofs.child.Goals as goal
 
+pub returns-in_err-i : goal.returns-in_err-i
+unfolding child child_rules
+returns-in_err-i c =
+    let bytes = c.args.bytes.now in
+    let index = c.args.index.now in
+    exit_told _ _ _ c.from_residual.ensures.1
+    ∙ query_refused bytes index c.args.v.0 _ c.in_err-i.ensures
+    ∙ sym (then_append (order_numbered_q bytes index c.args.v.0) _ _)
+
 pub child_in-requires : goal.child_in-requires
-child_in-requires c =
-    let args = c.args in
-    asked_for args.bytes.now args.index.now args.v.0 c.order_q.ensures
-    c.in-Passed.is
+child_in-requires c = query_ranged c.args.bytes.now c.args.index.now c.args.v.0 c.in_ok-i.i c.in_ok-i.ensures
 
-pub returns-in-Refused : goal.returns-in-Refused
+pub returns : goal.returns
 unfolding child child_rules no_child
-returns-in-Refused c =
-    let args = c.args in
-    query_refused_first args.bytes.now args.index.now args.v.0 c.order_q.ensures
-    (λ (w : View). child_of w (args.v.0 - 1) args.j)
-    (λ (w : View). (13, past_count w (args.v.0 - 1) args.j) ∷ [])
-    c.in-Refused.is
-
-pub returns-in-Passed : goal.returns-in-Passed
-unfolding child child_rules no_child
-returns-in-Passed c =
-    let args = c.args in
-    query_answered_then args.bytes.now args.index.now args.v.0
-    c.order_q.ensures
-    (λ (w : View). child_of w (args.v.0 - 1) args.j)
-    (λ (w : View). (13, past_count w (args.v.0 - 1) args.j) ∷ [])
-    c.in-Passed.is c.child_in.ensures
+returns c =
+    let bytes = c.args.bytes.now in
+    let index = c.args.index.now in
+    let u = c.args.v.0 - 1 in
+    let j = c.args.j in
+    query_answered bytes index c.args.v.0 c.in_ok-i.i c.in_ok-i.ensures
+    (λ (w : View). tried_then ((13, past_count w u j) ∷ []) (child_of w u j)) c.child_in.ensures
+    ∙ sym (then_append (order_numbered_q bytes index c.args.v.0) _ _)

@@ -1,31 +1,27 @@
--- `children` meets its contract.
-use Rattle.queries.proofs.Laws.Asking.{asked_for, query_refused, query_answered}
+-- `children` meets its contract: order Q first, and then the view.
+use mathlib.Core.Path.{ap, ◌∙◌}
+use Prim.Native.Nat.{◌-◌}
 use Rattle.record.specs.Answers.{answered}
-use mathlib.Core.Path.{ap}
+use Rattle.record.specs.Laws.Told.{exit_told}
 use Rattle.queries.specs.Operations.{children}
 use Rattle.queries.specs.Queries.{child_count}
 use Rattle.queries.specs.View.{View}
-use Prim.Native.Nat.{◌-◌}
+use Rattle.queries.proofs.Laws.Asking.{query_refused, query_ranged, query_answered}
 use Rattle.queries.proofs.children.Goals as goal
 
+pub returns-in_err-i : goal.returns-in_err-i
+unfolding children
+returns-in_err-i c =
+    let args = c.args in
+    exit_told _ _ _ c.from_residual.ensures.1
+    ∙ query_refused args.bytes.now args.index.now args.v.0 _ c.in_err-i.ensures
+
 pub children_in-requires : goal.children_in-requires
-children_in-requires c =
-    let args = c.args in
-    asked_for args.bytes.now args.index.now args.v.0 c.order_q.ensures
-    c.in-Passed.is
+children_in-requires c = query_ranged c.args.bytes.now c.args.index.now c.args.v.0 c.in_ok-i.i c.in_ok-i.ensures
 
-pub returns-in-Refused : goal.returns-in-Refused
+pub returns : goal.returns
 unfolding children
-returns-in-Refused c =
+returns c =
     let args = c.args in
-    query_refused args.bytes.now args.index.now args.v.0 c.order_q.ensures
-    (λ (w : View). answered (child_count w (args.v.0 - 1))) c.in-Refused.is
-
-pub returns-in-Passed : goal.returns-in-Passed
-unfolding children
-returns-in-Passed c =
-    let args = c.args in
-    query_answered args.bytes.now args.index.now args.v.0
-    c.order_q.ensures
-    (λ (w : View). answered (child_count w (args.v.0 - 1))) c.in-Passed.is
-    (ap answered c.children_in.ensures)
+    query_answered args.bytes.now args.index.now args.v.0 c.in_ok-i.i c.in_ok-i.ensures
+    (λ (w : View). answered (child_count w (args.v.0 - 1))) (ap answered c.children_in.ensures)

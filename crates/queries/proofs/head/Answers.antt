@@ -1,28 +1,26 @@
--- `head` meets its contract.
-use Rattle.queries.proofs.Laws.Asking.{asked_for, query_refused, query_answered}
+-- `head` meets its contract: order Q first, and then the view.
+use mathlib.Core.Path.{◌∙◌}
+use Prim.Native.Nat.{◌-◌}
+use Rattle.record.specs.Laws.Told.{exit_told}
 use Rattle.queries.specs.Operations.{head}
 use Rattle.queries.specs.Queries.{head_of}
 use Rattle.queries.specs.View.{View}
-use Prim.Native.Nat.{◌-◌}
+use Rattle.queries.proofs.Laws.Asking.{query_refused, query_ranged, query_answered}
 use Rattle.queries.proofs.head.Goals as goal
 
+pub returns-in_err-i : goal.returns-in_err-i
+unfolding head
+returns-in_err-i c =
+    let args = c.args in
+    exit_told _ _ _ c.from_residual.ensures.1
+    ∙ query_refused args.bytes.now args.index.now args.v.0 _ c.in_err-i.ensures
+
 pub head_in-requires : goal.head_in-requires
-head_in-requires c =
-    let args = c.args in
-    asked_for args.bytes.now args.index.now args.v.0 c.order_q.ensures
-    c.in-Passed.is
+head_in-requires c = query_ranged c.args.bytes.now c.args.index.now c.args.v.0 c.in_ok-i.i c.in_ok-i.ensures
 
-pub returns-in-Refused : goal.returns-in-Refused
+pub returns : goal.returns
 unfolding head
-returns-in-Refused c =
+returns c =
     let args = c.args in
-    query_refused args.bytes.now args.index.now args.v.0 c.order_q.ensures
-    (λ (w : View). head_of w (args.v.0 - 1)) c.in-Refused.is
-
-pub returns-in-Passed : goal.returns-in-Passed
-unfolding head
-returns-in-Passed c =
-    let args = c.args in
-    query_answered args.bytes.now args.index.now args.v.0
-    c.order_q.ensures
-    (λ (w : View). head_of w (args.v.0 - 1)) c.in-Passed.is c.head_in.ensures
+    query_answered args.bytes.now args.index.now args.v.0 c.in_ok-i.i c.in_ok-i.ensures
+    (λ (w : View). head_of w (args.v.0 - 1)) c.head_in.ensures

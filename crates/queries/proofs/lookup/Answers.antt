@@ -1,18 +1,19 @@
 -- `lookup` meets its contract: order R and rule 10 first, and then the rest.
-use mathlib.Core.Path.{sym, ap, ◌∙◌}
-use Rattle.record.specs.Answers.{shape}
+use Rattle.std.proofs.lemmas.Result.{err_from_is_err_and}
 use Rattle.queries.specs.Lookup.{lists}
-use Rattle.queries.specs.Laws.Asked.{beside_told}
-use Rattle.queries.proofs.Laws.Looking.{lookup_unread}
+use Rattle.queries.proofs.Laws.Looking.{lookup_unread, lookup_read}
 use Rattle.queries.proofs.lookup.Goals as goal
 
-pub lookup_in-requires : goal.lookup_in-requires
-lookup_in-requires c =
+pub returns-in_err-i : goal.returns-in_err-i
+returns-in_err-i c =
     let a = c.args in
-    beside_told a.bytes.now a.index.now (sym (ap shape c.in-Passed.is) ∙ c.beside.ensures)
+    let p = err_from_is_err_and c.from_residual.result c.from_residual.ensures.1 in
+    rw (p.1, p.2) (
+      lookup_unread a.bytes.now a.index.now a.list.now (lists a.heads.now a.visits.now) (a.bytes.now, a.index.now)
+          c.in_err-i.ensures
+    )
 
-pub returns-in-Refused : goal.returns-in-Refused
-returns-in-Refused c =
+pub returns : goal.returns
+returns c =
     let a = c.args in
-    lookup_unread a.bytes.now a.index.now a.list.now (lists a.heads.now a.visits.now)
-    (sym (ap shape c.in-Refused.is) ∙ c.beside.ensures)
+    lookup_read a.bytes.now a.index.now a.list.now (lists a.heads.now a.visits.now) c.in_ok-i.ensures c.lookup_in.ensures

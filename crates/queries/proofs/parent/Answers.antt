@@ -1,28 +1,26 @@
--- `parent` meets its contract.
-use Rattle.queries.proofs.Laws.Asking.{asked_for, query_refused, query_answered}
+-- `parent` meets its contract: order Q first, and then the view.
+use mathlib.Core.Path.{◌∙◌}
+use Prim.Native.Nat.{◌-◌}
+use Rattle.record.specs.Laws.Told.{exit_told}
 use Rattle.queries.specs.Operations.{parent}
 use Rattle.queries.specs.Queries.{parent_of}
 use Rattle.queries.specs.View.{View}
-use Prim.Native.Nat.{◌-◌}
+use Rattle.queries.proofs.Laws.Asking.{query_refused, query_ranged, query_answered}
 use Rattle.queries.proofs.parent.Goals as goal
 
+pub returns-in_err-i : goal.returns-in_err-i
+unfolding parent
+returns-in_err-i c =
+    let args = c.args in
+    exit_told _ _ _ c.from_residual.ensures.1
+    ∙ query_refused args.bytes.now args.index.now args.v.0 _ c.in_err-i.ensures
+
 pub parent_in-requires : goal.parent_in-requires
-parent_in-requires c =
-    let args = c.args in
-    asked_for args.bytes.now args.index.now args.v.0 c.order_q.ensures
-    c.in-Passed.is
+parent_in-requires c = query_ranged c.args.bytes.now c.args.index.now c.args.v.0 c.in_ok-i.i c.in_ok-i.ensures
 
-pub returns-in-Refused : goal.returns-in-Refused
+pub returns : goal.returns
 unfolding parent
-returns-in-Refused c =
+returns c =
     let args = c.args in
-    query_refused args.bytes.now args.index.now args.v.0 c.order_q.ensures
-    (λ (w : View). parent_of w (args.v.0 - 1)) c.in-Refused.is
-
-pub returns-in-Passed : goal.returns-in-Passed
-unfolding parent
-returns-in-Passed c =
-    let args = c.args in
-    query_answered args.bytes.now args.index.now args.v.0
-    c.order_q.ensures
-    (λ (w : View). parent_of w (args.v.0 - 1)) c.in-Passed.is c.parent_in.ensures
+    query_answered args.bytes.now args.index.now args.v.0 c.in_ok-i.i c.in_ok-i.ensures
+    (λ (w : View). parent_of w (args.v.0 - 1)) c.parent_in.ensures

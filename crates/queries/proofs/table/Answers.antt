@@ -1,18 +1,20 @@
 -- `table` meets its contract: order R first, and then the rest.
-use mathlib.Core.Path.{sym, ap, ◌∙◌}
-use Rattle.record.specs.Answers.{shape}
-use Rattle.record.specs.Laws.Sounded.{told_sound}
+use Rattle.std.proofs.lemmas.Result.{err_from_is_err_and}
 use Rattle.queries.specs.Table.{columns}
-use Rattle.queries.proofs.Laws.TableRules.{table_unread}
+use Rattle.queries.proofs.Laws.TableRules.{table_unread, table_read}
 use Rattle.queries.proofs.table.Goals as goal
 
-pub table_in-requires : goal.table_in-requires
-table_in-requires c =
-    told_sound c.args.bytes.now (sym (ap shape c.in-Passed.is) ∙ c.order_r.ensures)
+pub returns-in_err-layout : goal.returns-in_err-layout
+returns-in_err-layout c =
+    let a = c.args in
+    let p = err_from_is_err_and c.from_residual.result c.from_residual.ensures.1 in
+    rw (p.1, p.2) (
+      table_unread a.bytes.now a.start.0 a.work.now
+          (columns a.visits.now a.parents.now a.counts.now a.heads.now) c.in_err-layout.ensures.sizes
+    )
 
-pub returns-in-Refused : goal.returns-in-Refused
-returns-in-Refused c =
-    let args = c.args in
-    let lent = columns args.visits.now args.parents.now args.counts.now args.heads.now in
-    table_unread args.bytes.now args.start.0 args.work.now lent
-    (sym (ap shape c.in-Refused.is) ∙ c.order_r.ensures)
+pub returns : goal.returns
+returns c =
+    let a = c.args in
+    table_read a.bytes.now a.start.0 a.work.now (columns a.visits.now a.parents.now a.counts.now a.heads.now)
+    c.in_ok-layout.ensures.same c.table_in.ensures

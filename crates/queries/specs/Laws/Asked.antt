@@ -6,9 +6,9 @@ use mathlib.Core.List.{List, [], ◌∷◌}
 use Rattle.std.proofs.lemmas.Bool.{not-false}
 use Rattle.record.specs.Record.{terminals, wires}
 use Rattle.record.specs.Rules.{first_broken, order_r}
-use Rattle.record.specs.Answers.{answered, tried, sizes_of}
+use Rattle.record.specs.Answers.{answered, tried}
+use Rattle.record.specs.Sized.{Sizes, sizes_of}
 use Rattle.record.specs.Operations.{other_length, out_of_range}
-use Rattle.record.specs.declared.Sizes.{Sizes}
 use Rattle.record.specs.Laws.First.{Numbered, none, rule, first_broken_lem, first_kept, rule_kept, append_kept}
 use Rattle.record.specs.Laws.First.{both_kept, order_numbered}
 use Rattle.record.specs.Laws.Range.{inside_range, range_inside}

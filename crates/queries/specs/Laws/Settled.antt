@@ -1,136 +1,135 @@
--- An answer settles the code's value, for the enums of this crate.
+-- An answer settles the code's value, for the answers of this crate.
 --
+--   answer_settles    what has a way back for its value
 --   above_settles, terminal_settles, related_settles, numbered_settles    what the queries answer
 --   step_settles, move_settles, turn_settles                              one step of a climb
 --   looked_settles                                                        one terminal of a list
-use Rattle.std.specs.Prelude.{◌≡◌, refl, Bool, true, false, ◌⊎◌, ℕ}
+use Rattle.std.specs.Prelude.{◌≡◌, refl, Bool, ◌⊎◌, ℕ, Result, Ok, Err}
 use Rattle.std.proofs.Common.{ap, inl, inr}
 use Rattle.std.proofs.Math.Option.{Option, none, some}
-use Rattle.record.specs.Answers.{Answer, refused, answered}
+use Rattle.std.specs.Prelude as code
+use Rattle.std.specs.declared.ops.ControlFlow.{ControlFlow}
+use Rattle.record.specs.Answers.{Answer, refused, answered, answer}
+use Rattle.record.specs.declared.Refusal.{Refusal}
+use Rattle.record.specs.declared.Vertex.{Vertex}
 use Rattle.record.specs.Laws.Settled.{named, named_number, settled}
-use Rattle.queries.specs.Queries as Queries
-use Rattle.queries.specs.Answers.{above, terminal, related, numbered}
-use Rattle.queries.specs.Steps.{step_of, move_of, turn_of}
+use Rattle.forest.specs.declared.Dfi.{Dfi}
+use Rattle.queries.specs.Answers.{terminal_or_none, above, terminal, related, numbered}
+use Rattle.queries.specs.Steps.{rise_or_none, step_of, move_of, turn_of}
 use Rattle.queries.specs.Looking.{looked_of}
-use Rattle.queries.specs.declared.Above.{Above}
-use Rattle.queries.specs.declared.Found.{Found}
-use Rattle.queries.specs.declared.Related.{Related}
-use Rattle.queries.specs.declared.Numbered.{Numbered}
-use Rattle.queries.specs.declared.climbs.Step.{Step}
-use Rattle.queries.specs.declared.climbs.Move.{Move}
-use Rattle.queries.specs.declared.climbs.Turn.{Turn}
-use Rattle.queries.specs.declared.lookups.Looked.{Looked}
+use Rattle.queries.specs.declared.climbs.Rise.{Rise}
+use Rattle.queries.specs.declared.lookups.Seen.{Seen}
+
+pub answer_back : {A B : Type 0} → (B → A) → Answer B → Result A Refusal
+answer_back back (answered b) = Ok (back b)
+answer_back back (refused k) = Err (named k)
+
+pub answer_settles : {A B : Type 0} (value : A → B) (back : B → A) → ((x : A) → back (value x) ≡ x)
+    → (r : Result A Refusal) {a : Answer B} → answer value r ≡ a → r ≡ answer_back back a
+unfolding answer_back
+answer_settles {A = A} value back again = settled (answer value) (answer_back back) twice
+  where
+    twice : (r : Result A Refusal) → answer_back back (answer value r) ≡ r
+    twice (Ok x) = ap Ok (again x)
+    twice (Err r) = ap Err (named_number r)
 
 -- ---- what the queries answer
 
-pub above_of : Answer (Option ℕ) → Above
-above_of (answered none) = Above.Root
-above_of (answered (some v)) = Above.Parent (record { 0 = v })
-above_of (refused k) = Above.Refused (named k)
+vertex_back : ℕ → Vertex
+vertex_back v = record { 0 = v }
 
-pub above_settles : (r : Above) {a : Answer (Option ℕ)} → above r ≡ a → r ≡ above_of a
-unfolding above_of
-above_settles = settled above above_of back
+parent_back : Option ℕ → code.Option Vertex
+parent_back none = code.None
+parent_back (some v) = code.Some (vertex_back v)
+
+dfi_back : ℕ → Dfi
+dfi_back i = record { 0 = i }
+
+pub above_of : Answer (Option ℕ) → Result (code.Option Vertex) Refusal
+above_of = answer_back parent_back
+
+pub above_settles : (r : Result (code.Option Vertex) Refusal) {a : Answer (Option ℕ)} → above r ≡ a → r ≡ above_of a
+unfolding above_of parent_back vertex_back
+above_settles = answer_settles terminal_or_none parent_back again
   where
-    back : (r : Above) → above_of (above r) ≡ r
-    back Above.Root = refl
-    back (Above.Parent v) = refl
-    back (Above.Refused r) = ap Above.Refused (named_number r)
+    again : (o : code.Option Vertex) → parent_back (terminal_or_none o) ≡ o
+    again code.None = refl
+    again (code.Some v) = refl
 
-pub terminal_of : Answer ℕ → Found
-terminal_of (answered v) = Found.Terminal (record { 0 = v })
-terminal_of (refused k) = Found.Refused (named k)
+pub terminal_of : Answer ℕ → Result Vertex Refusal
+terminal_of = answer_back vertex_back
 
-pub terminal_settles : (r : Found) {a : Answer ℕ} → terminal r ≡ a → r ≡ terminal_of a
-unfolding terminal_of
-terminal_settles = settled terminal terminal_of back
-  where
-    back : (r : Found) → terminal_of (terminal r) ≡ r
-    back (Found.Terminal v) = refl
-    back (Found.Refused r) = ap Found.Refused (named_number r)
+pub terminal_settles : (r : Result Vertex Refusal) {a : Answer ℕ} → terminal r ≡ a → r ≡ terminal_of a
+unfolding terminal_of vertex_back
+terminal_settles = answer_settles (λ (v : Vertex). v.0) vertex_back (λ v. refl)
 
-pub related_of : Answer Bool → Related
-related_of (answered true) = Related.Yes
-related_of (answered false) = Related.No
-related_of (refused k) = Related.Refused (named k)
+pub related_of : Answer Bool → Result Bool Refusal
+related_of = answer_back (λ (b : Bool). b)
 
-pub related_settles : (r : Related) {a : Answer Bool} → related r ≡ a → r ≡ related_of a
+pub related_settles : (r : Result Bool Refusal) {a : Answer Bool} → related r ≡ a → r ≡ related_of a
 unfolding related_of
-related_settles = settled related related_of back
-  where
-    back : (r : Related) → related_of (related r) ≡ r
-    back Related.Yes = refl
-    back Related.No = refl
-    back (Related.Refused r) = ap Related.Refused (named_number r)
+related_settles = answer_settles (λ (b : Bool). b) (λ (b : Bool). b) (λ b. refl)
 
-pub numbered_of : Answer ℕ → Numbered
-numbered_of (answered i) = Numbered.Number (record { 0 = i })
-numbered_of (refused k) = Numbered.Refused (named k)
+pub numbered_of : Answer ℕ → Result Dfi Refusal
+numbered_of = answer_back dfi_back
 
-pub numbered_settles : (r : Numbered) {a : Answer ℕ} → numbered r ≡ a → r ≡ numbered_of a
-unfolding numbered_of
-numbered_settles = settled numbered numbered_of back
-  where
-    back : (r : Numbered) → numbered_of (numbered r) ≡ r
-    back (Numbered.Number i) = refl
-    back (Numbered.Refused r) = ap Numbered.Refused (named_number r)
+pub numbered_settles : (r : Result Dfi Refusal) {a : Answer ℕ} → numbered r ≡ a → r ≡ numbered_of a
+unfolding numbered_of dfi_back
+numbered_settles = answer_settles (λ (d : Dfi). d.0) dfi_back (λ d. refl)
 
 -- ---- one step of a climb
 
-pub step_back : Queries.Step → Step
-step_back Queries.stuck = Step.Stuck
-step_back Queries.top = Step.Top
-step_back (Queries.rise j p) = Step.Rise (record { at = j; to = p })
+rise_back : Option (ℕ × ℕ) → code.Option Rise
+rise_back none = code.None
+rise_back (some p) = code.Some (record { at = p.0; to = p.1 })
 
-pub step_settles : (r : Step) {s : Queries.Step} → step_of r ≡ s → r ≡ step_back s
-unfolding step_back
-step_settles = settled step_of step_back back
+pub step_back : Answer (Option (ℕ × ℕ)) → Result (code.Option Rise) Refusal
+step_back = answer_back rise_back
+
+pub step_settles : (r : Result (code.Option Rise) Refusal) {a : Answer (Option (ℕ × ℕ))} → step_of r ≡ a → r ≡ step_back a
+unfolding step_back rise_back
+step_settles = answer_settles rise_or_none rise_back again
   where
-    back : (r : Step) → step_back (step_of r) ≡ r
-    back Step.Stuck = refl
-    back Step.Top = refl
-    back (Step.Rise r) = refl
+    again : (o : code.Option Rise) → rise_back (rise_or_none o) ≡ o
+    again code.None = refl
+    again (code.Some r) = refl
 
-pub move_back : Answer ℕ ⊎ ℕ → Move
-move_back (inl (refused k)) = Move.Refuse
-move_back (inl (answered v)) = Move.Here
-move_back (inr p) = Move.Up p
+pub move_back : Answer ℕ ⊎ ℕ → Result (code.Option ℕ) Refusal
+move_back (inl (refused k)) = Err (named k)
+move_back (inl (answered v)) = Ok code.None
+move_back (inr p) = Ok (code.Some p)
 
-pub move_settles : (u : ℕ) (r : Move) {s : Answer ℕ ⊎ ℕ} → move_of u r ≡ s → r ≡ move_back s
+pub move_settles : (u : ℕ) (r : Result (code.Option ℕ) Refusal) {s : Answer ℕ ⊎ ℕ} → move_of u r ≡ s → r ≡ move_back s
 unfolding move_back
 move_settles u = settled (move_of u) move_back back
   where
-    back : (r : Move) → move_back (move_of u r) ≡ r
-    back Move.Refuse = refl
-    back Move.Here = refl
-    back (Move.Up p) = refl
+    back : (r : Result (code.Option ℕ) Refusal) → move_back (move_of u r) ≡ r
+    back (Err r) = ap Err (named_number r)
+    back (Ok code.None) = refl
+    back (Ok (code.Some p)) = refl
 
-pub turn_back : Answer Bool ⊎ ℕ → Turn
-turn_back (inl (refused k)) = Turn.Refuse
-turn_back (inl (answered true)) = Turn.Yes
-turn_back (inl (answered false)) = Turn.No
-turn_back (inr p) = Turn.Up p
+pub turn_back : Answer Bool ⊎ ℕ → Result (ControlFlow Bool ℕ) Refusal
+turn_back (inl (refused k)) = Err (named k)
+turn_back (inl (answered b)) = Ok (ControlFlow.Break b)
+turn_back (inr p) = Ok (ControlFlow.Continue p)
 
-pub turn_settles : (r : Turn) {s : Answer Bool ⊎ ℕ} → turn_of r ≡ s → r ≡ turn_back s
+pub turn_settles : (r : Result (ControlFlow Bool ℕ) Refusal) {s : Answer Bool ⊎ ℕ} → turn_of r ≡ s → r ≡ turn_back s
 unfolding turn_back
 turn_settles = settled turn_of turn_back back
   where
-    back : (r : Turn) → turn_back (turn_of r) ≡ r
-    back Turn.Refuse = refl
-    back Turn.Yes = refl
-    back Turn.No = refl
-    back (Turn.Up p) = refl
+    back : (r : Result (ControlFlow Bool ℕ) Refusal) → turn_back (turn_of r) ≡ r
+    back (Err r) = ap Err (named_number r)
+    back (Ok (ControlFlow.Break b)) = refl
+    back (Ok (ControlFlow.Continue p)) = refl
 
 -- ---- one terminal of a list
 
-pub looked_back : Answer (ℕ × ℕ) → Looked
-looked_back (answered p) = Looked.Both (record { head = record { 0 = p.0 }; visit = record { 0 = p.1 } })
-looked_back (refused k) = Looked.Refused (named k)
+seen_back : ℕ × ℕ → Seen
+seen_back p = record { head = vertex_back p.0; visit = dfi_back p.1 }
 
-pub looked_settles : (r : Looked) {a : Answer (ℕ × ℕ)} → looked_of r ≡ a → r ≡ looked_back a
-unfolding looked_back
-looked_settles = settled looked_of looked_back back
-  where
-    back : (r : Looked) → looked_back (looked_of r) ≡ r
-    back (Looked.Both s) = refl
-    back (Looked.Refused r) = ap Looked.Refused (named_number r)
+pub looked_back : Answer (ℕ × ℕ) → Result Seen Refusal
+looked_back = answer_back seen_back
+
+pub looked_settles : (r : Result Seen Refusal) {a : Answer (ℕ × ℕ)} → looked_of r ≡ a → r ≡ looked_back a
+unfolding looked_back seen_back vertex_back dfi_back
+looked_settles = answer_settles (λ (s : Seen). (s.head.0, s.visit.0)) seen_back (λ s. refl)

@@ -16,7 +16,8 @@ use Rattle.graph.specs.Laws.Places.Basics.{Told, pass, fail, told}
 use Rattle.graph.specs.Laws.Places.CountUp.{length_each}
 use Rattle.record.specs.Record.{terminals, wires, unary, blocks}
 use Rattle.record.specs.Rules.{first_broken}
-use Rattle.record.specs.Answers.{Answer, refused, answered, sizes_of}
+use Rattle.record.specs.Answers.{Answer, refused, answered}
+use Rattle.record.specs.Sized.{sizes_of}
 use Rattle.record.specs.Laws.First.{both_kept}
 use Rattle.record.specs.Laws.Sounded.{sound_vertices}
 use Rattle.record.specs.Laws.Spans.{block_small}

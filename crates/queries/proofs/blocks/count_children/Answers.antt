@@ -3,7 +3,4 @@ use Rattle.queries.proofs.Laws.Marked.{ones_told}
 use Rattle.queries.proofs.blocks.count_children.Goals as goal
 
 pub returns : goal.returns
-returns c =
-    let args = c.args in
-    let pre = c.requires in
-    ones_told pre.0 args.from args.k pre.1 c.rank.ensures
+returns c = ones_told c.args.i.now.framed c.args.from c.args.k c.requires c.rank.ensures

@@ -4,14 +4,10 @@ use Rattle.queries.proofs.blocks.lone_parent.Goals as goal
 
 pub lone_from-requires : goal.lone_from-requires
 lone_from-requires c =
-    let args = c.args in
-    let pre = c.requires in
     let (e, l) = c.mark_bytes.ensures in
-    marks_after pre.0 args.from args.k pre.1 e l
+    marks_after c.args.i.now.framed c.args.from c.args.k c.requires e l
 
 pub returns : goal.returns
 returns c =
-    let args = c.args in
-    let pre = c.requires in
     let e = c.mark_bytes.ensures.0 in
-    lone_told pre.0 args.from args.k pre.1 e c.lone_from.result c.lone_from.ensures
+    lone_told c.args.i.now.framed c.args.from c.args.k c.requires e c.lone_from.result c.lone_from.ensures

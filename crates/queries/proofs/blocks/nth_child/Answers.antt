@@ -4,13 +4,8 @@ use Rattle.queries.proofs.blocks.nth_child.Goals as goal
 
 pub nth_from-requires : goal.nth_from-requires
 nth_from-requires c =
-    let args = c.args in
-    let pre = c.requires in
-    let (f, l) = marks_room pre.0 args.from args.k pre.1 in
-    (pre.2, f, l)
+    let (f, l) = marks_room c.args.i.now.framed c.args.from c.args.k c.requires.0 in
+    (c.requires.1, f, l)
 
 pub returns : goal.returns
-returns c =
-    let args = c.args in
-    let pre = c.requires in
-    one_told pre.0 args.from args.k pre.1 args.j c.nth_from.ensures
+returns c = one_told c.args.i.now.framed c.args.from c.args.k c.requires.0 c.args.j c.nth_from.ensures

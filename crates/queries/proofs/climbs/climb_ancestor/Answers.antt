@@ -3,54 +3,47 @@ use mathlib.Core.Bool.{Bool}
 use mathlib.Core.Logic.{inl}
 use mathlib.Core.Path.{◌≡◌, sym, ap, ◌∙◌}
 use native.Mathlib.Omega.{arith}
+use Rattle.std.specs.Prelude.{Ok}
+use Rattle.std.proofs.lemmas.Result.{err_from_is_err_and}
 use Rattle.record.specs.Answers.{Answer, refused}
 use Rattle.record.specs.Laws.Sounded.{sound_vertices}
 use Rattle.queries.specs.Queries.{ancestor_next, ancestor_of}
+use Rattle.queries.specs.Seen.{seen}
 use Rattle.queries.specs.Steps.{turn_of}
-use Rattle.queries.specs.View.{view_by}
-use Rattle.queries.specs.declared.climbs.Turn.{Turn}
-use Rattle.queries.proofs.Laws.Climbing.{climb_stop, climb_on, climb_late}
-use Rattle.queries.proofs.Laws.Climbing.{ancestor_inside, ancestor_begin}
+use Rattle.queries.proofs.Laws.Climbing.{climb_stop, climb_on, climb_late, ancestor_inside, ancestor_begin}
 use Rattle.queries.proofs.climbs.climb_ancestor.Goals as goal
 use Rattle.queries.proofs.climbs.climb_ancestor.Goals.{After-ancestor_turn}
 
-told : (c : After-ancestor_turn) {r : Turn} → c.ancestor_turn.result ≡ r → turn_of r ≡ (ancestor_next (view_by c.args.n c.args.m c.args.bytes.now c.args.index.now) c.args.x) c.loop-left.u
-told c e = sym (ap turn_of e) ∙ c.ancestor_turn.ensures
+pub loop-init : goal.loop-init
+loop-init c =
+    let i = c.args.a.now.indexed in
+    (c.requires, ancestor_begin i.layout.sound i.index.now c.args.v c.requires c.args.x)
 
-stop : (c : After-ancestor_turn) {a : Answer Bool} → inl a ≡ (ancestor_next (view_by c.args.n c.args.m c.args.bytes.now c.args.index.now) c.args.x) c.loop-left.u → a ≡ (ancestor_of (view_by c.args.n c.args.m c.args.bytes.now c.args.index.now) c.args.x c.args.v)
-stop c e =
-    let l = c.loop-left in
-    climb_stop ((ancestor_next (view_by c.args.n c.args.m c.args.bytes.now c.args.index.now) c.args.x)) (refused 12) l.left l.u c.loop-left-test.true e l.invariant.1
+-- the climb ends with this step
+stop : (c : After-ancestor_turn) {a : Answer Bool} → let w = seen c.args.a.now.indexed in
+    inl a ≡ ancestor_next w c.args.x c.loop.u → a ≡ ancestor_of w c.args.x c.args.v
+stop c =
+    let i = c.args.a.now.indexed in
+    climb_stop (ancestor_next (seen i) c.args.x) (refused 12) i.layout.n c.loop.counter c.loop.u c.loop.invariant.1 c.loop-test.true
 
-pub loop-left-init : goal.loop-left-init
-loop-left-init c =
-    let args = c.args in
-    let pre = c.requires in
-    (pre.2, ancestor_begin pre.0.sound args.index.now args.v pre.2 args.x)
+pub returns-in_err-answer : goal.returns-in_err-answer
+returns-in_err-answer c =
+    let p = err_from_is_err_and c.from_residual.result c.from_residual.ensures.1 in
+    rw (p.1, p.2) (stop (goal.at.returns-in_err-answer c).After-ancestor_turn c.in_err-answer.ensures)
 
-pub ancestor_turn-requires : goal.ancestor_turn-requires
-ancestor_turn-requires c =
-    let pre = c.requires in
-    (pre.0, pre.1, c.loop-left.invariant.0)
+pub returns-in-Break : goal.returns-in-Break
+returns-in-Break c =
+    let e = sym (ap (turn_of) (c.in_ok-answer.was ∙ ap Ok c.in-Break.is)) ∙ c.ancestor_turn.ensures in
+    stop (goal.at.returns-in-Break c).After-ancestor_turn e
 
-pub returns-in-Refuse : goal.returns-in-Refuse
-returns-in-Refuse c = stop (goal.at.returns-in-Refuse c).After-ancestor_turn (told (goal.at.returns-in-Refuse c).After-ancestor_turn c.in-Refuse.is)
-
-pub returns-in-Yes : goal.returns-in-Yes
-returns-in-Yes c = stop (goal.at.returns-in-Yes c).After-ancestor_turn (told (goal.at.returns-in-Yes c).After-ancestor_turn c.in-Yes.is)
-
-pub returns-in-No : goal.returns-in-No
-returns-in-No c = stop (goal.at.returns-in-No c).After-ancestor_turn (told (goal.at.returns-in-No c).After-ancestor_turn c.in-No.is)
-
-pub loop-left-preserved : goal.loop-left-preserved
-loop-left-preserved c =
-    let l = c.loop-left in
-    let e = told (goal.at.loop-left-preserved c).After-ancestor_turn c.in-Up.is in
-    let i = ancestor_inside (view_by c.args.n c.args.m c.args.bytes.now c.args.index.now) c.args.x l.u e in
-    let k = sound_vertices c.requires.0.sound in
-    let rest = climb_on ((ancestor_next (view_by c.args.n c.args.m c.args.bytes.now c.args.index.now) c.args.x)) (refused 12) l.left l.u c.loop-left-test.true e l.invariant.1 in
-    (omega arith, rest)
+pub loop-preserved : goal.loop-preserved
+loop-preserved c =
+    let i = c.args.a.now.indexed in
+    let e = sym (ap (turn_of) (c.in_ok-answer.was ∙ ap Ok c.in-Continue.is)) ∙ c.ancestor_turn.ensures in
+    (omega (arith, ancestor_inside (seen i) c.args.x c.loop.u e, sound_vertices i.layout.sound),
+    climb_on (ancestor_next (seen i) c.args.x) (refused 12) i.layout.n c.loop.counter c.loop.u c.loop.invariant.1 c.loop-test.true e)
 
 pub returns : goal.returns
 returns c =
-    climb_late ((ancestor_next (view_by c.args.n c.args.m c.args.bytes.now c.args.index.now) c.args.x)) (refused 12) c.loop-left.left c.loop-left.u c.loop-left-test.false c.loop-left.invariant.1
+    let i = c.args.a.now.indexed in
+    climb_late (ancestor_next (seen i) c.args.x) (refused 12) i.layout.n c.loop.counter c.loop.u c.loop.invariant.1 c.loop-test.false

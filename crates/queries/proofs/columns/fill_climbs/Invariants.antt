@@ -1,11 +1,8 @@
 -- `columns::fill_climbs` meets its contract.
 use Rattle.queries.specs.Filling.{ParentsTo, HeadsTo}
-use Prim.Native.Nat.{◌-◌}
 use Rattle.queries.proofs.columns.fill_climbs.Given as goal
 
-abbrev pub invariant-loop-k : goal.invariant-loop-k
-invariant-loop-k l =
-    ParentsTo l.bytes l.index l.n l.m l.k l.parents × HeadsTo l.bytes l.index l.n l.m l.k l.heads
-
-abbrev pub decreases-loop-k : goal.decreases-loop-k
-decreases-loop-k l = l.n - l.k
+abbrev pub invariant-loop-x : goal.invariant-loop-x
+invariant-loop-x l =
+    ParentsTo l.b.indexed.layout.bytes.now l.b.indexed.index.now l.b.indexed.layout.n l.b.indexed.layout.m l.x-index l.parents
+    × HeadsTo l.b.indexed.layout.bytes.now l.b.indexed.index.now l.b.indexed.layout.n l.b.indexed.layout.m l.x-index l.heads

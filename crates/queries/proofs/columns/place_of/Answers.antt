@@ -1,147 +1,89 @@
 -- `columns::place_of` meets its contract.
-use Rattle.queries.specs.Laws.Ready.{ready_beside}
-use Rattle.queries.proofs.Laws.Tabling.{never_stuck, root_parent, root_head, risen_to, risen_parent}
-use Rattle.queries.proofs.Laws.Tabling.{bridge_head, risen_head}
-use Rattle.queries.proofs.Laws.Climbing.{starts_long, block_from, block_to, rise_room, head_stops, head_rises}
-use Rattle.queries.specs.Steps.{step_of}
+use mathlib.Core.Path.{◌≡◌, sym, ap, ◌∙◌}
+use Prim.Native.Nat.{◌+◌, ◌*◌, ◌<◌}
 use native.Mathlib.Omega.{arith}
-use mathlib.Core.Path.{sym, ap, ◌∙◌}
+use Rattle.std.specs.Prelude.{Ok}
+use Rattle.queries.specs.Seen.{seen}
+use Rattle.queries.specs.Steps.{step_of}
+use Rattle.queries.specs.Queries.{step_up, rise}
+use Rattle.queries.proofs.Laws.Climbing.{starts_long, rise_room, head_stops, head_rises}
+use Rattle.queries.proofs.Laws.Climbing.{rise_told, top_told}
+use Rattle.queries.proofs.Laws.Tabling.{indexed_beside, built_ready, never_refused, root_parent, root_head, risen_to}
+use Rattle.queries.proofs.Laws.Tabling.{risen_parent, bridge_head, risen_head}
 use Rattle.queries.proofs.columns.place_of.Goals as goal
+use Rattle.queries.proofs.columns.place_of.Goals.{In-Some}
 
-pub get-a-requires : goal.get-a-requires
-get-a-requires c =
-    let l = starts_long (ready_beside c.requires.0).sound c.requires.1 in
-    let h = c.requires.2 in
-    omega arith
+pub get-from-requires : goal.get-from-requires
+get-from-requires c = omega (arith, starts_long c.args.b.now.indexed.layout.sound c.requires.0, c.requires.1)
 
-pub overflow_add-v : goal.overflow_add-v
-overflow_add-v c =
-    let f = (ready_beside c.requires.0).framed.n_fits in
-    let h = c.requires.2 in
-    omega arith
+pub get-to-requires : goal.get-to-requires
+get-to-requires c = omega (arith, starts_long c.args.b.now.indexed.layout.sound c.requires.0, c.requires.1)
 
-pub get-b-requires : goal.get-b-requires
-get-b-requires c =
-    let l = starts_long (ready_beside c.requires.0).sound c.requires.1 in
-    let h = c.requires.2 in
-    omega arith
+pub unwrap-requires : goal.unwrap-requires
+unwrap-requires c = never_refused (built_ready c.args.b.now) c.requires.1 c.step_up.result c.step_up.ensures
 
-pub step_up-requires : goal.step_up-requires
-step_up-requires c =
-    let b = ready_beside c.requires.0 in
-    let h = c.requires.2 in (
-      b,
-      h,
-      block_from b c.requires.1 h c.get-a.ensures.0 c.get-b.ensures.0,
-      block_to b
-          c.requires.1 h c.get-a.ensures.0 c.get-b.ensures.0,
-    )
+pub returns-in_default : goal.returns-in_default
+returns-in_default c =
+    let r = built_ready c.args.b.now in
+    let h = c.requires.1 in
+    let e = top_told _ (sym (ap step_of (c.unwrap.ensures ∙ ap Ok c.in_default.is)) ∙ c.step_up.ensures) in
+    let f = c.args.b.now.indexed.framed.n_fits in
+    (root_parent r h e, root_head r h e, omega arith, omega arith)
 
-pub overflow_add-result : goal.overflow_add-result
-overflow_add-result c =
-    let f = (ready_beside c.requires.0).framed.n_fits in
-    let h = c.requires.2 in
-    omega arith
+-- ---- a step to the parent
 
-pub overflow_add-a : goal.overflow_add-a
-overflow_add-a c =
-    let f = (ready_beside c.requires.0).framed.n_fits in
-    let h = c.requires.2 in
-    let g = c.get-a.ensures.1 in
-    omega arith
+risen : (c : In-Some) → let w = seen c.args.b.now.indexed in
+    rise c.in-Some.rise.at c.in-Some.rise.to ≡ step_up w.graph w.marks_p c.args.v
+risen c = rise_told _ (sym (ap step_of (c.unwrap.ensures ∙ ap Ok c.in-Some.is)) ∙ c.step_up.ensures)
 
-pub overflow_add-a-in-Rise : goal.overflow_add-a-in-Rise
-overflow_add-a-in-Rise c =
-    let f = (ready_beside c.requires.0).framed.n_fits in
-    let h = c.requires.2 in
-    let g = c.get-a.ensures.1 in
-    omega arith
+to_inside : (c : In-Some) → c.in-Some.rise.to < c.args.b.now.indexed.layout.n
+to_inside c =
+    risen_to (built_ready c.args.b.now) c.requires.1 c.requires.0 c.get-from.ensures.0 c.get-to.ensures.0 (risen c)
 
-pub overflow_add-a-in-Rise-2 : goal.overflow_add-a-in-Rise-2
-overflow_add-a-in-Rise-2 c =
-    let b = ready_beside c.requires.0 in
-    let h = c.requires.2 in
-    let e = sym (ap step_of c.in-Rise.is) ∙ c.step_up.ensures in
-    let q = rise_room b c.requires.1 h c.get-a.ensures.0 c.get-b.ensures.0 e in
-    let x = b.framed.n_fits in
-    let y = b.framed.m_fits in
-    omega arith
+room : (c : In-Some)
+    → c.get-from.result + c.args.v + 1 + c.in-Some.rise.at < c.args.b.now.indexed.layout.n + 2 * c.args.b.now.indexed.layout.m
+room c =
+    rise_room (indexed_beside c.args.b.now.indexed) c.requires.0 c.requires.1 c.get-from.ensures.0 c.get-to.ensures.0
+    (risen c)
+
+pub overflow_add-parent : goal.overflow_add-parent
+overflow_add-parent c =
+    omega (arith, to_inside (goal.at.overflow_add-parent c).In-Some, c.args.b.now.indexed.framed.n_fits)
+
+pub overflow_add-from-3 : goal.overflow_add-from-3
+overflow_add-from-3 c =
+    let f = c.args.b.now.indexed.framed in
+    omega (arith, room (goal.at.overflow_add-from-3 c).In-Some, f.n_fits, f.m_fits)
 
 pub bridge_mark-requires : goal.bridge_mark-requires
-bridge_mark-requires c =
-    let b = ready_beside c.requires.0 in
-    let h = c.requires.2 in
-    let e = sym (ap step_of c.in-Rise.is) ∙ c.step_up.ensures in
-    (b.framed, rise_room b c.requires.1 h c.get-a.ensures.0 c.get-b.ensures.0 e)
-
-pub overflow_add-result-then-bridge_mark : goal.overflow_add-result-then-bridge_mark
-overflow_add-result-then-bridge_mark c =
-    let h = c.requires.2 in
-    let e = sym (ap step_of c.in-Rise.is) ∙ c.step_up.ensures in
-    let l = risen_to c.requires.0 h c.requires.1 c.get-a.ensures.0 c.get-b.ensures.0 e in
-    let f = (ready_beside c.requires.0).framed.n_fits in
-    omega arith
-
-pub overflow_add-result-then-bridge_mark-2 : goal.overflow_add-result-then-bridge_mark-2
-overflow_add-result-then-bridge_mark-2 c =
-    let f = (ready_beside c.requires.0).framed.n_fits in
-    let h = c.requires.2 in
-    omega arith
+bridge_mark-requires c = room (goal.at.bridge_mark-requires c).In-Some
 
 pub returns-then-bridge_mark : goal.returns-then-bridge_mark
 returns-then-bridge_mark c =
-    let b = ready_beside c.requires.0 in
-    let h = c.requires.2 in
-    let e = sym (ap step_of c.in-Rise.is) ∙ c.step_up.ensures in
-    let l = risen_to c.requires.0 h c.requires.1 c.get-a.ensures.0 c.get-b.ensures.0 e in
-    let f = b.framed.n_fits in (
-      risen_parent c.requires.0 h e,
-      bridge_head c.requires.0 h
-          (head_stops b c.requires.1 h c.get-a.ensures.0 c.get-b.ensures.0 e
+    let r = built_ready c.args.b.now in
+    let h = c.requires.1 in
+    let e = risen (goal.at.returns-then-bridge_mark c).In-Some in
+    let l = to_inside (goal.at.returns-then-bridge_mark c).In-Some in
+    let f = c.args.b.now.indexed.framed.n_fits in (
+      risen_parent r h e,
+      bridge_head r h
+          (head_stops (indexed_beside c.args.b.now.indexed) c.requires.0 h c.get-from.ensures.0 c.get-to.ensures.0 e
           c.bridge_mark.ensures c.if-bridge_mark.true),
       omega arith,
       omega arith,
     )
 
-pub overflow_add-result-in-Rise : goal.overflow_add-result-in-Rise
-overflow_add-result-in-Rise c =
-    let h = c.requires.2 in
-    let e = sym (ap step_of c.in-Rise.is) ∙ c.step_up.ensures in
-    let l = risen_to c.requires.0 h c.requires.1 c.get-a.ensures.0 c.get-b.ensures.0 e in
-    let f = (ready_beside c.requires.0).framed.n_fits in
-    omega arith
-
 pub get-requires : goal.get-requires
-get-requires c =
-    let h = c.requires.2 in
-    let e = sym (ap step_of c.in-Rise.is) ∙ c.step_up.ensures in
-    let l = risen_to c.requires.0 h c.requires.1 c.get-a.ensures.0 c.get-b.ensures.0 e in
-    let s = c.requires.3.size in
-    omega arith
+get-requires c = omega (arith, to_inside (goal.at.get-requires c).In-Some, c.requires.2.size)
 
-pub returns-in-Stuck : goal.returns-in-Stuck
-returns-in-Stuck c =
-    let h = c.requires.2 in
-    never_stuck c.requires.0 h (sym (ap step_of c.in-Stuck.is) ∙ c.step_up.ensures)
-
-pub returns-in-Top : goal.returns-in-Top
-returns-in-Top c =
-    let f = (ready_beside c.requires.0).framed.n_fits in
-    let h = c.requires.2 in
-    let e = sym (ap step_of c.in-Top.is) ∙ c.step_up.ensures in
-    (root_parent c.requires.0 h e, root_head c.requires.0 h e, omega arith, omega arith)
-
-pub returns-else-bridge_mark : goal.returns-else-bridge_mark
-returns-else-bridge_mark c =
-    let b = ready_beside c.requires.0 in
-    let h = c.requires.2 in
-    let e = sym (ap step_of c.in-Rise.is) ∙ c.step_up.ensures in
-    let l = risen_to c.requires.0 h c.requires.1 c.get-a.ensures.0 c.get-b.ensures.0 e in
-    let up = head_rises b c.requires.1 h c.get-a.ensures.0 c.get-b.ensures.0 e
+pub returns : goal.returns
+returns c =
+    let r = built_ready c.args.b.now in
+    let h = c.requires.1 in
+    let e = risen (goal.at.returns c).In-Some in
+    let l = to_inside (goal.at.returns c).In-Some in
+    let up =
+    head_rises (indexed_beside c.args.b.now.indexed) c.requires.0 h c.get-from.ensures.0 c.get-to.ensures.0 e
     c.bridge_mark.ensures c.if-bridge_mark.false in
-    let f = b.framed.n_fits in (
-      risen_parent c.requires.0 h e,
-      risen_head c.requires.0 h l e up c.requires.3 c.get.ensures.0,
-      omega arith,
-      c.get.ensures.1,
-    )
+    let f = c.args.b.now.indexed.framed.n_fits in
+    (risen_parent r h e, risen_head r h l e up c.requires.2 c.get.ensures.0, omega arith, c.get.ensures.1)

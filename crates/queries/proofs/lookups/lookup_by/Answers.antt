@@ -1,47 +1,44 @@
 -- `lookups::lookup_by` meets its contract: the lists are written once the last answer is known.
-use mathlib.Core.Path.{◌≡◌, sym, ap, ap₂, ◌∙◌}
+use mathlib.Core.Path.{◌≡◌, refl, sym, ap₂, ◌∙◌}
 use Prim.Native.Nat.{◌≤◌}
 use lib.ListN.{length}
-use Rattle.record.specs.Answers.{verdict}
-use Rattle.queries.specs.Lookup.{lists}
+use Rattle.std.proofs.lemmas.Result.{err_from_is_err_and}
+use Rattle.queries.specs.Lookup.{Lists, lists}
 use Rattle.queries.proofs.Laws.Looking.{lookup_refused, lookup_filled, lists_fit}
+use Rattle.queries.proofs.Laws.Tabling.{indexed_beside}
 use Rattle.queries.proofs.lookups.lookup_by.Goals as goal
-use Rattle.queries.proofs.lookups.lookup_by.Goals.{After-look_all, Start}
+use Rattle.queries.proofs.lookups.lookup_by.Goals.{Start}
 
--- ---- a refused call leaves the lists
-pub returns-in-Refused : goal.returns-in-Refused
-returns-in-Refused c =
-    lookup_refused c.args.bytes.now c.args.index.now c.args.list.now (lists c.args.heads.now c.args.visits.now) c.requires.0 c.requires.1
-    (sym (ap verdict c.in-Refused.is) ∙ c.look_all.ensures.answers)
+abbrev lent : Start → Lists
+lent s = lists s.args.heads.now s.args.visits.now
 
--- ---- the others are written
 -- the lists fit the answers
 fit : (s : Start)
     → (length s.args.list.now ≤ 512)
     × (length s.args.heads.now ≡ length s.args.list.now)
     × (length s.args.visits.now ≡ length s.args.list.now)
-fit s = lists_fit s.args.list.now s.args.heads.now s.args.visits.now s.requires.1
+fit s = lists_fit s.args.list.now s.args.heads.now s.args.visits.now s.requires.0
 
-first_long : (c : After-look_all)
-    → length c.look_all.new.heads ≡ length c.args.list.now
-first_long c = c.look_all.auto.heads ∙ c.requires.5
+pub returns-in_err-look_all : goal.returns-in_err-look_all
+returns-in_err-look_all c =
+    let i = c.args.i.now in
+    let p = err_from_is_err_and c.from_residual.result c.from_residual.ensures.1 in
+    rw (p.1, p.2) (
+      lookup_refused i.layout.bytes.now i.index.now c.args.list.now (lent (goal.at.returns-in_err-look_all c).Start)
+          (indexed_beside i) c.requires.0 c.in_err-look_all.ensures.answers
+    )
 
-second_long : (c : After-look_all)
-    → length c.look_all.new.visits ≡ length c.args.list.now
-second_long c = c.look_all.auto.visits ∙ c.requires.6
+pub copy_from_slice-requires : goal.copy_from_slice-requires
+copy_from_slice-requires c =
+    (fit (goal.at.copy_from_slice-requires c).Start).1 ∙ sym (c.look_all.auto.heads ∙ c.requires.4)
 
-pub copy-requires : goal.copy-requires
-copy-requires c =
-    (fit (goal.at.copy-requires c).Start).1 ∙ sym (first_long (goal.at.copy-requires c).After-look_all)
+pub copy_from_slice-requires-2 : goal.copy_from_slice-requires-2
+copy_from_slice-requires-2 c =
+    (fit (goal.at.copy_from_slice-requires-2 c).Start).2 ∙ sym (c.look_all.auto.visits ∙ c.requires.5)
 
-pub copy-requires-in-Accepted : goal.copy-requires-in-Accepted
-copy-requires-in-Accepted c =
-    (fit (goal.at.copy-requires-in-Accepted c).Start).2
-    ∙ sym (second_long (goal.at.copy-requires-in-Accepted c).After-look_all)
-
-pub returns-in-Accepted : goal.returns-in-Accepted
-returns-in-Accepted c =
-    let told = ap verdict c.in-Accepted.is in
-    lookup_filled c.args.bytes.now c.args.index.now c.args.list.now (lists c.args.heads.now c.args.visits.now) c.requires.0 c.requires.1
-    (sym told ∙ c.look_all.ensures.answers)
-    (ap₂ lists c.copy.ensures c.copy-in-Accepted.ensures ∙ c.look_all.ensures.finds told)
+pub returns : goal.returns
+returns c =
+    let i = c.args.i.now in
+    lookup_filled i.layout.bytes.now i.index.now c.args.list.now (lent (goal.at.returns c).Start) (indexed_beside i)
+    c.requires.0 c.in_ok-look_all.ensures.answers
+    (ap₂ lists c.copy_from_slice.ensures.after c.copy_from_slice-2.ensures.after ∙ c.in_ok-look_all.ensures.finds refl)

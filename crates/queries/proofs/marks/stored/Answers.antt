@@ -4,12 +4,9 @@ use Rattle.queries.specs.Laws.Framed.{numbers_fit, number_at}
 use Rattle.queries.proofs.marks.stored.Goals as goal
 
 pub read-requires : goal.read-requires
-read-requires c =
-    let pre = c.requires in
-    (omega arith, omega arith, omega (arith, c.mark_bytes.ensures.0, numbers_fit pre.0))
+read-requires c = (omega arith, omega arith, omega (arith, c.mark_bytes.ensures.0, numbers_fit c.args.i.now.framed))
 
 pub returns : goal.returns
 returns c =
-    let pre = c.requires in
-    let read = c.read.ensures in
-    (number_at pre.0 pre.1 (omega (arith, c.mark_bytes.ensures.0)) read.0, read.1)
+    let (e, l) = c.read.ensures in
+    (number_at c.args.i.now.framed c.requires (omega (arith, c.mark_bytes.ensures.0)) e, l)

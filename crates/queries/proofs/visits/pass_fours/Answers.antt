@@ -10,40 +10,40 @@ use Rattle.queries.proofs.visits.pass_fours.Goals.{After-stored_four-x, Else-x-k
 pub loop-u-init : goal.loop-u-init
 loop-u-init c =
     let args = c.args in
-    passed_none args.index.now args.n args.m args.k
+    passed_none args.i.now.index.now args.i.now.layout.n args.i.now.layout.m args.k
 
 pub overflow_add-u : goal.overflow_add-u
-overflow_add-u c = omega (arith, c.loop-u.invariant.upto, c.requires.n_fits)
+overflow_add-u c = omega (arith, c.loop-u.invariant.upto, c.args.i.now.framed.n_fits)
 
 pub stored_four-x-requires : goal.stored_four-x-requires
-stored_four-x-requires c = (c.requires, c.loop-u-test.true)
+stored_four-x-requires c = c.loop-u-test.true
 
-more : (f : After-stored_four-x) → f.loop-u.u + 5 ≤ f.args.n
+more : (f : After-stored_four-x) → f.loop-u.u + 5 ≤ f.args.i.now.layout.n
 more f = f.loop-u-test.true
 
 small : (f : After-stored_four-x) → f.loop-u.u + 5 ≤ 4096
-small f = omega (arith, more f, f.requires.n_fits)
+small f = omega (arith, more f, f.args.i.now.framed.n_fits)
 
 -- behind each test one number more of the four is another
-others_1 : (c : Else-x-k) → Passed c.args.index.now c.args.n c.args.m c.args.k (c.loop-u.u + 1)
+others_1 : (c : Else-x-k) → Passed c.args.i.now.index.now c.args.i.now.layout.n c.args.i.now.layout.m c.args.k (c.loop-u.u + 1)
 others_1 c =
     passed_one c.loop-u.invariant (c.loop-u.u + 1) refl (omega (arith, c.loop-u-test.true))
     c.stored_four-x.ensures.first c.if-x-k.false
 
-others_2 : (c : Else-x-k-2) → Passed c.args.index.now c.args.n c.args.m c.args.k (c.loop-u.u + 2)
+others_2 : (c : Else-x-k-2) → Passed c.args.i.now.index.now c.args.i.now.layout.n c.args.i.now.layout.m c.args.k (c.loop-u.u + 2)
 others_2 c =
-    let one : Passed c.args.index.now c.args.n c.args.m c.args.k (c.loop-u.u + 1) =
+    let one : Passed c.args.i.now.index.now c.args.i.now.layout.n c.args.i.now.layout.m c.args.k (c.loop-u.u + 1) =
     passed_one c.loop-u.invariant (c.loop-u.u + 1) refl (omega (arith, c.loop-u-test.true))
     c.stored_four-x.ensures.first c.if-x-k.false in
     passed_one one (c.loop-u.u + 2) (omega arith) (omega (arith, c.loop-u-test.true))
     c.stored_four-x.ensures.second c.if-x-k-2.false
 
-others_3 : (c : Else-x-k-3) → Passed c.args.index.now c.args.n c.args.m c.args.k (c.loop-u.u + 3)
+others_3 : (c : Else-x-k-3) → Passed c.args.i.now.index.now c.args.i.now.layout.n c.args.i.now.layout.m c.args.k (c.loop-u.u + 3)
 others_3 c =
-    let one : Passed c.args.index.now c.args.n c.args.m c.args.k (c.loop-u.u + 1) =
+    let one : Passed c.args.i.now.index.now c.args.i.now.layout.n c.args.i.now.layout.m c.args.k (c.loop-u.u + 1) =
     passed_one c.loop-u.invariant (c.loop-u.u + 1) refl (omega (arith, c.loop-u-test.true))
     c.stored_four-x.ensures.first c.if-x-k.false in
-    let two : Passed c.args.index.now c.args.n c.args.m c.args.k (c.loop-u.u + 2) =
+    let two : Passed c.args.i.now.index.now c.args.i.now.layout.n c.args.i.now.layout.m c.args.k (c.loop-u.u + 2) =
     passed_one one (c.loop-u.u + 2) (omega arith) (omega (arith, c.loop-u-test.true))
     c.stored_four-x.ensures.second c.if-x-k-2.false in
     passed_one two (c.loop-u.u + 3) (omega arith) (omega (arith, c.loop-u-test.true))

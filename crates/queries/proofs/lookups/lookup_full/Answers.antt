@@ -1,9 +1,0 @@
--- `lookups::lookup_full` meets its contract: its arrays are long enough.
-use native.Mathlib.Omega.{arith}
-use Rattle.queries.proofs.Laws.Knowing.{room}
-use Rattle.queries.proofs.lookups.lookup_full.Goals as goal
-
-pub lookup_cut-requires : goal.lookup_cut-requires
-lookup_cut-requires c =
-    let few = c.requires.0.framed.n_fits in
-    (c.requires.0, c.requires.1, room c.args.n 4097 4096 (omega arith) (omega arith))
