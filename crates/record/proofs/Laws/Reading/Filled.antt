@@ -67,8 +67,6 @@ module _ {d : List Bool} {starts : List ℕ} {i k : ℕ} (f : Filling d starts i
   unfolding starts_from
   filling_end l e =
       let b = filling_bounds in
-      let s = f.size in
-      let u = f.upto in
       let o : k ≡ count d = f.ones ∙ ap count (take_all i d l) in
       let n : drop (suc k) starts ≡ [] = drop_of_length-le starts {i = suc k} (omega arith) in
       let m : drop i d ≡ [] = drop_of_length-le d {i = i} l in
@@ -116,7 +114,6 @@ module _ {d : List Bool} {starts : List ℕ} {w end k : ℕ} (e : Entering d sta
   pub entering_bounds : (h : ℕ) → 2 ^ h ≤ w → (k + h + 1 ≤ end) × (k < length starts)
   entering_bounds h l =
       let b = filling_bounds e.filling in
-      let s = e.filling.size in
       let g = highest h l in
       omega arith
 
@@ -124,7 +121,6 @@ module _ {d : List Bool} {starts : List ℕ} {w end k : ℕ} (e : Entering d sta
       → next ≡ set starts k (end - (h + 1) - k) → r ≡ w - 2 ^ h
       → Entering d next r end (k + 1)
   entering_more h l u n r =
-      let b = e.before in
       let i = e.inside in
       let g = highest h l in
       rw (n, r) (go (end - (h + 1) - e.place) (omega arith) (omega arith))
@@ -132,7 +128,6 @@ module _ {d : List Bool} {starts : List ℕ} {w end k : ℕ} (e : Entering d sta
       go : (a : ℕ) → e.place + (a + 1 + h) ≡ end → end - e.place ≡ a + 1 + h
           → Entering d (set starts k (end - (h + 1) - k)) (w - 2 ^ h) end (k + 1)
       go a to size =
-          let i = e.inside in
           let q : w ≡ field (a + 1 + h) d e.place = e.left ∙ ap (λ (x : ℕ). field x d e.place) size in
           let at : e.place + a ≡ end - (h + 1) = omega arith in
           rw (at, to, ← q) at (entering_one e.filling a h (omega arith) (rw q at l) (rw q at u))
@@ -140,8 +135,6 @@ module _ {d : List Bool} {starts : List ℕ} {w end k : ℕ} (e : Entering d sta
   pub entering_end : w ≡ 0 → Filling d starts end k
   entering_end z =
       let p = e.place in
-      let b = e.before in
-      let i = e.inside in
       let n : p + (end - p) ≡ end = omega arith in
       rw n at (filling_zeros (end - p) e.filling (omega arith) (sym e.left ∙ z))
 

@@ -16,16 +16,12 @@ module _ (s : List Bool) (start k : ℕ) where
   in_reading : {list : List ℕ} {i : ℕ} → InOrder (fields_from s start k) list i → Reading s start k list i
   in_reading o =
       let l = length_fields_from s start k in
-      let u = o.upto in
-      let e = o.size in
       record { upto = omega arith; size = omega arith; same = o.same }
 
 module _ {s : List Bool} {start k : ℕ} {list : List ℕ} {i : ℕ} (r : Reading s start k list i) where
   in_order : InOrder (fields_from s start k) list i
   in_order =
       let l = length_fields_from s start k in
-      let u = r.upto in
-      let e = r.size in
       record { upto = omega arith; size = omega arith; same = r.same }
 
   pub reads_more : {next : List ℕ} (x : ℕ) → i < k → x ≡ field 12 s (start + 12 * i) → next ≡ set list i x

@@ -55,8 +55,6 @@ module _ {degrees neighbours : List ℕ} (l : Listed degrees neighbours) where
       × (28 + (length degrees + length neighbours) + 12 * length neighbours ≤ 8 * k)
   unfolding record_length used_bits
   record_room e =
-      let fits = l.fits in
-      let size = l.whole in
       let pairs = listed_pairs l in
       (omega arith, omega arith, omega arith, omega arith)
 
@@ -64,7 +62,6 @@ module _ {degrees neighbours : List ℕ} (l : Listed degrees neighbours) where
   pub length_front : 28 + (length degrees + length neighbours)
       ≡ length (header_bits (length degrees) (length neighbours / 2) ++ unary_bits degrees)
   length_front =
-      let size = l.whole in
       let a = length_header_bits (length degrees) (length neighbours / 2) in
       let u = length_unary_bits degrees in
       simp length-append (omega arith)
@@ -89,8 +86,6 @@ module _ {degrees neighbours : List ℕ} (l : Listed degrees neighbours) where
       → bytes ≡ record_from degrees neighbours
   unfolding record_from record_of record_length used_bits g numbers
   written {bytes} h e b =
-      let even = l.even in
-      let size = l.whole in
       let front : List Bool = header_bits (length degrees) (length neighbours / 2) ++ unary_bits degrees in
       let f = length_field_bits (map (λ v. v - 1) neighbours) in
       let n = length-map neighbours (λ v. v - 1) in
