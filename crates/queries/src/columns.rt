@@ -90,13 +90,7 @@ fn place_of(b: &Built, starts: &[u16], v: usize, heads: &[u16]) -> Placed
 }
 
 // The parents and heads of all vertices, in order of visits.
-fn fill_climbs(
-    b: &Built,
-    starts: &[u16],
-    order: &[u16],
-    parents: &mut [u16],
-    heads: &mut [u16],
-)
+fn fill_climbs(b: &Built, starts: &[u16], order: &[u16], parents: &mut [u16], heads: &mut [u16])
     requires { let i = b.now.indexed in
         (starts.now ≡ starts_of (unary i.layout.bytes.now))
         × (Cells (seen i).stored (λ v. v) i.layout.n i.layout.n order.now)

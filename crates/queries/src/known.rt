@@ -22,7 +22,12 @@ fn keep(known: &mut [u16], passed: &[u16], h: usize)
 }
 
 // The head of vertex v: up to a vertex whose head is known, or where the climb stops. Those on the way get it too.
-pub fn find_head(a: &Ascent, known: &mut [u16], way: &mut [u16], v: usize) -> Result<Vertex, Refusal>
+pub fn find_head(
+    a: &Ascent,
+    known: &mut [u16],
+    way: &mut [u16],
+    v: usize,
+) -> Result<Vertex, Refusal>
     requires { (Known (seen a.now.indexed) a.now.indexed.layout.n known.old)
         × (length way.old ≡ a.now.indexed.layout.n)
         × (v < a.now.indexed.layout.n) }

@@ -20,7 +20,10 @@ pub fn stored(i: &Indexed, u: usize) -> usize
     requires { u < i.now.layout.n }
     ensures { (result ≡ number_of i.now.layout.n i.now.layout.m i.now.index.now u) × (result < 4096) }
 {
-    bits::fields::read::<12>(i.index, 8 * (3 * mark_bytes(i.layout.n, i.layout.m)) + 12 * u)
+    bits::fields::read::<12>(
+        i.index,
+        8 * (3 * mark_bytes(i.layout.n, i.layout.m)) + 12 * u,
+    )
 }
 
 // The numbers stored for vertex u and the three after it, where another one stands behind them: so a whole word does.
@@ -28,5 +31,8 @@ pub fn stored_four(i: &Indexed, u: usize) -> Four
     requires { u + 5 ≤ i.now.layout.n }
     ensures { StoredFour i.now.index.now i.now.layout.n i.now.layout.m u result.a result.b result.c result.d }
 {
-    bits::fields::read_four(i.index, 8 * (3 * mark_bytes(i.layout.n, i.layout.m)) + 12 * u)
+    bits::fields::read_four(
+        i.index,
+        8 * (3 * mark_bytes(i.layout.n, i.layout.m)) + 12 * u,
+    )
 }

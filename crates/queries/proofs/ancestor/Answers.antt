@@ -24,9 +24,10 @@ returns-then-out_of_range c =
 
 pub ancestor_in-requires : goal.ancestor_in-requires
 ancestor_in-requires c =
-    let args = c.args in
-    (query_ranged args.bytes.now args.index.now args.u.0 c.in_ok-i.i c.in_ok-i.ensures,
-    ranged_by c.out_of_range.ensures c.if-out_of_range.false)
+    let args = c.args in (
+      query_ranged args.bytes.now args.index.now args.u.0 c.in_ok-i.i c.in_ok-i.ensures,
+      ranged_by c.out_of_range.ensures c.if-out_of_range.false,
+    )
 
 pub returns : goal.returns
 returns c =

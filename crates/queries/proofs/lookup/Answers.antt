@@ -8,10 +8,10 @@ pub returns-in_err-i : goal.returns-in_err-i
 returns-in_err-i c =
     let a = c.args in
     let p = err_from_is_err_and c.from_residual.result c.from_residual.ensures.1 in
-    rw (p.1, p.2) (
-      lookup_unread a.bytes.now a.index.now a.list.now (lists a.heads.now a.visits.now) (a.bytes.now, a.index.now)
-          c.in_err-i.ensures
-    )
+    let d =
+    lookup_unread a.bytes.now a.index.now a.list.now (lists a.heads.now a.visits.now) (a.bytes.now, a.index.now)
+    c.in_err-i.ensures in
+    rw (p.1, p.2) d
 
 pub returns : goal.returns
 returns c =

@@ -8,10 +8,10 @@ pub returns-in_err-layout : goal.returns-in_err-layout
 returns-in_err-layout c =
     let a = c.args in
     let p = err_from_is_err_and c.from_residual.result c.from_residual.ensures.1 in
-    rw (p.1, p.2) (
-      table_unread a.bytes.now a.start.0 a.work.now
-          (columns a.visits.now a.parents.now a.counts.now a.heads.now) c.in_err-layout.ensures.sizes
-    )
+    let d =
+    table_unread a.bytes.now a.start.0 a.work.now
+    (columns a.visits.now a.parents.now a.counts.now a.heads.now) c.in_err-layout.ensures.sizes in
+    rw (p.1, p.2) d
 
 pub returns : goal.returns
 returns c =

@@ -39,9 +39,10 @@ returns-in-Break c =
 pub loop-preserved : goal.loop-preserved
 loop-preserved c =
     let i = c.args.a.now.indexed in
-    let e = sym (ap (turn_of) (c.in_ok-answer.was ∙ ap Ok c.in-Continue.is)) ∙ c.ancestor_turn.ensures in
-    (omega (arith, ancestor_inside (seen i) c.args.x c.loop.u e, sound_vertices i.layout.sound),
-    climb_on (ancestor_next (seen i) c.args.x) (refused 12) i.layout.n c.loop.counter c.loop.u c.loop.invariant.1 c.loop-test.true e)
+    let e = sym (ap (turn_of) (c.in_ok-answer.was ∙ ap Ok c.in-Continue.is)) ∙ c.ancestor_turn.ensures in (
+      omega (arith, ancestor_inside (seen i) c.args.x c.loop.u e, sound_vertices i.layout.sound),
+      climb_on (ancestor_next (seen i) c.args.x) (refused 12) i.layout.n c.loop.counter c.loop.u c.loop.invariant.1 c.loop-test.true e,
+    )
 
 pub returns : goal.returns
 returns c =

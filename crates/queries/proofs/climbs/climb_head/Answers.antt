@@ -46,9 +46,10 @@ returns-in-None c =
 pub loop-preserved : goal.loop-preserved
 loop-preserved c =
     let i = c.args.a.now.indexed in
-    let e = sym (ap (move_of c.loop.u) (c.in_ok-head_move.was ∙ ap Ok c.in-Some.is)) ∙ c.head_move.ensures in
-    (omega (arith, head_inside (seen i) c.loop.u e, sound_vertices i.layout.sound),
-    climb_on (head_next (seen i)) (refused 12) i.layout.n c.loop.counter c.loop.u c.loop.invariant.1 c.loop-test.true e)
+    let e = sym (ap (move_of c.loop.u) (c.in_ok-head_move.was ∙ ap Ok c.in-Some.is)) ∙ c.head_move.ensures in (
+      omega (arith, head_inside (seen i) c.loop.u e, sound_vertices i.layout.sound),
+      climb_on (head_next (seen i)) (refused 12) i.layout.n c.loop.counter c.loop.u c.loop.invariant.1 c.loop-test.true e,
+    )
 
 pub returns : goal.returns
 returns c =

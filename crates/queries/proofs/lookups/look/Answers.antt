@@ -15,9 +15,9 @@ ranged c = ranged_by c.out_of_range.ensures c.if-out_of_range.false
 
 pub returns-then-out_of_range : goal.returns-then-out_of_range
 returns-then-out_of_range c = (
-      outside_told (indexed_beside c.args.a.now.indexed) c.args.v.0 (sym c.out_of_range.ensures ∙ c.if-out_of_range.true),
-      c.requires.0,
-    )
+  outside_told (indexed_beside c.args.a.now.indexed) c.args.v.0 (sym c.out_of_range.ensures ∙ c.if-out_of_range.true),
+  c.requires.0,
+)
 
 pub overflow_sub-v : goal.overflow_sub-v
 overflow_sub-v c = omega (arith, (ranged (goal.at.overflow_sub-v c).Else-out_of_range).some)

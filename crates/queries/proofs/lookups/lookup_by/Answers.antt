@@ -23,10 +23,10 @@ pub returns-in_err-look_all : goal.returns-in_err-look_all
 returns-in_err-look_all c =
     let i = c.args.i.now in
     let p = err_from_is_err_and c.from_residual.result c.from_residual.ensures.1 in
-    rw (p.1, p.2) (
-      lookup_refused i.layout.bytes.now i.index.now c.args.list.now (lent (goal.at.returns-in_err-look_all c).Start)
-          (indexed_beside i) c.requires.0 c.in_err-look_all.ensures.answers
-    )
+    let d =
+    lookup_refused i.layout.bytes.now i.index.now c.args.list.now (lent (goal.at.returns-in_err-look_all c).Start)
+    (indexed_beside i) c.requires.0 c.in_err-look_all.ensures.answers in
+    rw (p.1, p.2) d
 
 pub copy_from_slice-requires : goal.copy_from_slice-requires
 copy_from_slice-requires c =

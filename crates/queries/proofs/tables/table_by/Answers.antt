@@ -21,10 +21,10 @@ pub returns-in_err-build : goal.returns-in_err-build
 returns-in_err-build c =
     let a = c.args in
     let p = err_from_is_err_and c.from_residual.result c.from_residual.ensures.1 in
-    rw (p.1, p.2) (
-      table_refused a.layout.now.bytes.now a.start.0 a.work.now (lent (goal.at.returns-in_err-build c).Start)
-          a.layout.now.sound a.index.now c.requires c.in_err-build.ensures.0
-    )
+    let d =
+    table_refused a.layout.now.bytes.now a.start.0 a.work.now (lent (goal.at.returns-in_err-build c).Start)
+    a.layout.now.sound a.index.now c.requires c.in_err-build.ensures.0 in
+    rw (p.1, p.2) d
 
 pub invariant_of-indexed : goal.invariant_of-indexed
 invariant_of-indexed c =
