@@ -2,7 +2,7 @@
 ghost use Rattle.std.specs.Prelude.{◌≡◌, ◌+◌, ◌*◌, ◌/◌, ◌≤◌, length, take, drop};
 ghost use Rattle.bits.specs.Bits.{bits, count};
 
-use super::words::{byte_rest, short_ones, tail, word_ones};
+use super::words::{byte_rest, short_ones, word_ones};
 
 // How many of the first n bits are ones: whole words, and then what is left of the last one.
 fn ones_before(bytes: &[u8], n: usize) -> usize
@@ -26,7 +26,7 @@ fn ones_after(bytes: &[u8], start: usize, n: usize) -> usize
     requires { 8 * (start / 8 + 1) + n ≤ 8 * length bytes.now }
     ensures { result ≡ count (take n (bits (drop (start / 8 + 1) bytes.now))) }
 {
-    ones_before(tail(bytes, start / 8 + 1), n)
+    ones_before(&bytes[start / 8 + 1..], n)
 }
 
 // How many of the n bits from bit `start` on are ones: those up to the end of its byte, and then from whole bytes.

@@ -33,11 +33,7 @@ pub fn rank(bytes: &[u8], start: usize, places: usize, p: usize) -> usize
     ensures { result ≡ rank_of (string bytes.now start places) p }
 {
     if holds(bytes.len(), start, places) {
-        if p < places {
-            counts::ones_from(bytes, start, p)
-        } else {
-            counts::ones_from(bytes, start, places)
-        }
+        counts::ones_from(bytes, start, p.min(places))
     } else {
         0
     }
@@ -48,10 +44,7 @@ pub fn rank(bytes: &[u8], start: usize, places: usize, p: usize) -> usize
 pub fn select(bytes: &[u8], start: usize, places: usize, k: usize) -> usize
     ensures { result ≡ select_of (string bytes.now start places) k }
 {
-    if k == 0 {
-        return 0;
-    }
-    if places == 0 {
+    if k == 0 || places == 0 {
         return 0;
     }
     if holds(bytes.len(), start, places) {

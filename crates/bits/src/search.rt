@@ -5,7 +5,7 @@ ghost use Rattle.bits.specs.Spans.{Skipped};
 ghost use Rattle.bits.specs.Steps.{within as within_of};
 
 use super::table::in_byte;
-use super::words::{byte_rest, part, word_ones};
+use super::words::{byte_rest, word_ones};
 
 // A byte to go on from, and how many ones are left to go.
 #[derive(Clone, Copy)]
@@ -73,7 +73,9 @@ fn place_after(bytes: &[u8], start: usize, limit: usize, k: usize) -> usize
     requires { (1 ≤ k) × (1 ≤ limit) × (8 * (start / 8 + 1) + limit ≤ 8 * length bytes.now) }
     ensures { result ≡ select_of (take limit (bits (drop (start / 8 + 1) bytes.now))) k }
 {
-    place_of(part(bytes, start / 8 + 1, (limit - 1) / 8 + 1), limit, k)
+    let first = start / 8 + 1;
+    let last = first + (limit - 1) / 8;
+    place_of(&bytes[first..=last], limit, k)
 }
 
 // The place of the k-th one of the `places` bits from bit `start` on, or 0: in what is left of the first byte, or after

@@ -90,22 +90,6 @@ pub fn short_word(bytes: &[u8], at: usize, n: usize) -> u64
     word_or_padded(bytes, at) >> (64 - n)
 }
 
-// The bytes from byte `at` on.
-pub fn tail(bytes: &[u8], at: usize) -> &[u8]
-    requires { at ≤ length bytes.now }
-    ensures { result.now ≡ drop at bytes.now }
-{
-    &bytes[at..]
-}
-
-// The n bytes from byte `at` on.
-pub fn part(bytes: &[u8], at: usize, n: usize) -> &[u8]
-    requires { at + n ≤ length bytes.now }
-    ensures { result.now ≡ take n (drop at bytes.now) }
-{
-    &bytes[at..at + n]
-}
-
 // The bits from bit `start` on to the end of its byte.
 pub fn byte_rest(bytes: &[u8], start: usize) -> u8
     requires { start < 8 * length bytes.now }

@@ -1,12 +1,14 @@
 -- `rank` meets its contract: of a string that its bytes hold, the ones up to place p.
 use mathlib.Core.Path.{◌≡◌, ◌∙◌, sym}
 use mathlib.Core.Bool.{Bool, true}
-use Prim.Native.Nat.{◌+◌, ◌*◌, ◌≤◌}
-use native.Mathlib.Nat.{le_of_lt}
+use mathlib.Core.List.{List}
+use Prim.Native.Nat.{ℕ, ◌+◌, ◌*◌, ◌≤◌, min}
+use native.Mathlib.Decide.{dec_le}
 use native.Mathlib.Omega.{arith}
 use borrow.Author.Tests.{leb-true}
 use lib.Dec.{leb}
-use lib.ListN.{length}
+use lib.ListN.{length, take, drop}
+use Rattle.bits.specs.Bits.{bits, string, count, rank}
 use Rattle.bits.specs.Laws.Rank.{rank_inside, rank_beyond, rank_not_held}
 use Rattle.bits.proofs.rank.Goals as goal
 use Rattle.bits.proofs.rank.Goals.{After-holds}
@@ -19,25 +21,29 @@ held : (c : After-holds) → c.holds.result ≡ true
     → c.args.start + c.args.places ≤ 8 * length c.args.bytes.now
 held c e = leb-true _ _ (told c e)
 
+-- the ones up to place p, or all
+up_to : (bytes : List ℕ) (start places p m : ℕ) → leb (start + places) (8 * length bytes) ≡ true → m ≡ min p places
+    → count (take m (drop start (bits bytes))) ≡ rank (string bytes start places) p
+up_to bytes start places p m e em = go (dec_le p places)
+  where
+    go : Dec (p ≤ places) → count (take m (drop start (bits bytes))) ≡ rank (string bytes start places) p
+    go (yes h) =
+        let q : m ≡ p = omega arith in
+        rw q (sym (rank_inside bytes start places p e h))
+    go (no h) =
+        let q : m ≡ places = omega arith in
+        rw q (sym (rank_beyond bytes start places p e (omega arith)))
+
 pub ones_from-requires : goal.ones_from-requires
 ones_from-requires c =
     let h = held (goal.at.ones_from-requires c).After-holds c.if-holds.true in
     omega arith
 
-pub ones_from-requires-else-p-places : goal.ones_from-requires-else-p-places
-ones_from-requires-else-p-places c = held (goal.at.ones_from-requires-else-p-places c).After-holds c.if-holds.true
-
-pub returns-then-p-places : goal.returns-then-p-places
-returns-then-p-places c =
+pub returns-then-holds : goal.returns-then-holds
+returns-then-holds c =
     let a = c.args in
-    let inside = rank_inside a.bytes.now a.start a.places a.p (told (goal.at.returns-then-p-places c).After-holds c.if-holds.true) in
-    c.ones_from.ensures ∙ sym (inside (le_of_lt c.if-p-places.true))
-
-pub returns-else-p-places : goal.returns-else-p-places
-returns-else-p-places c =
-    let a = c.args in
-    let beyond = rank_beyond a.bytes.now a.start a.places a.p (told (goal.at.returns-else-p-places c).After-holds c.if-holds.true) in
-    c.ones_from-else-p-places.ensures ∙ sym (beyond c.if-p-places.false)
+    let e = told (goal.at.returns-then-holds c).After-holds c.if-holds.true in
+    c.ones_from.ensures ∙ up_to a.bytes.now a.start a.places a.p c.min.result e c.min.ensures
 
 pub returns-else-holds : goal.returns-else-holds
 returns-else-holds c =

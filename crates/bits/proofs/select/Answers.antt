@@ -9,20 +9,18 @@ use lib.ListN.{length}
 use Rattle.bits.specs.Bits.{string, select}
 use Rattle.bits.specs.Laws.Select.{select_zero, select_empty, select_held, select_not_held}
 use Rattle.bits.proofs.select.Goals as goal
-use Rattle.bits.proofs.select.Goals.{After-holds}
+use Rattle.bits.proofs.select.Goals.{After-holds, then-k-eq0-via-then-k-eq0, then-k-eq0-via-else-k-eq0+then-places-eq0}
 
 pub returns-then-k-eq0 : goal.returns-then-k-eq0
 returns-then-k-eq0 c =
     let a = c.args in
-    let s = string a.bytes.now a.start a.places in
-    sym (ap (select s) c.if-k-eq0.true ∙ select_zero s)
-
-pub returns-then-places-eq0 : goal.returns-then-places-eq0
-returns-then-places-eq0 c =
-    let a = c.args in
     let bytes = a.bytes.now in
-    let e = select_empty bytes a.start a.k in
-    sym (ap (λ (n : ℕ). select (string bytes a.start n) a.k) c.if-places-eq0.true ∙ e)
+    let s = string bytes a.start a.places in
+    elim c.then-k-eq0.branch [
+      | then-k-eq0-via-then-k-eq0 w ↦ sym (ap (select s) w.if-k-eq0.true ∙ select_zero s)
+      | then-k-eq0-via-else-k-eq0+then-places-eq0 w ↦
+          sym (ap (λ (n : ℕ). select (string bytes a.start n) a.k) w.if-places-eq0.true ∙ select_empty bytes a.start a.k)
+    ]
 
 told : (c : After-holds) {t : Bool} → c.holds.result ≡ t
     → leb (c.before.before.before.before.args.start + c.before.before.before.before.args.places) (8 * length c.before.before.before.before.args.bytes.now) ≡ t
