@@ -16,9 +16,11 @@ pub fn try_rules(lists: &Lists, reverse: &mut [u16], next: &mut [u16]) -> Result
     requires { (length reverse.old ≡ length lists.now.nbrs.now) × (length next.old + 1 ≡ length lists.now.starts.now) }
     ensures { let g : Blocks = cut lists.now.starts.now lists.now.nbrs.now in verdict result ≡ check_graph g }
 {
-    if all_mutual(lists, reverse, next) {
+    // a copy, which stays in registers while cells are written
+    let lists = *lists;
+    if all_mutual(&lists, reverse, next) {
         Ok(())
-    } else if some_stray(lists) {
+    } else if some_stray(&lists) {
         Err(Refusal::StrayNeighbour)
     } else {
         Err(Refusal::OneSidedWire)
