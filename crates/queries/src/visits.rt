@@ -26,8 +26,9 @@ pub fn visit_in(i: &Indexed, v: Vertex) -> Result<Dfi, Refusal>
 fn pass_fours(i: &Indexed, k: usize) -> usize
     ensures { Passed i.now.index.now i.now.layout.n i.now.layout.m k result }
 {
-    let mut u = 0;
-    while u + 5 <= i.layout.n {
+    let fours = i.layout.n.saturating_sub(1) / 4;
+    for j in 0..fours {
+        let u = 4 * j;
         let x = stored_four(i, u);
         if x.a == k {
             return u;
@@ -41,9 +42,8 @@ fn pass_fours(i: &Indexed, k: usize) -> usize
         if x.d == k {
             return u + 3;
         }
-        u += 4;
     }
-    u
+    4 * fours
 }
 
 // The lowest terminal whose visit number is d: in fours up to it, and then one by one.

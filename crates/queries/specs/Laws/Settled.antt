@@ -1,37 +1,23 @@
 -- An answer settles the code's value, for the answers of this crate.
 --
---   answer_settles    what has a way back for its value
 --   above_settles, terminal_settles, related_settles, numbered_settles    what the queries answer
 --   step_settles, move_settles, turn_settles                              one step of a climb
 --   looked_settles                                                        one terminal of a list
 use Rattle.std.specs.Prelude.{◌≡◌, refl, Bool, ◌⊎◌, ℕ, Result, Ok, Err}
-use Rattle.std.proofs.Common.{ap, inl, inr}
-use Rattle.std.proofs.Math.Option.{Option, none, some}
 use Rattle.std.specs.Prelude as code
 use Rattle.std.specs.declared.ops.ControlFlow.{ControlFlow}
+use Rattle.std.proofs.Common.{ap, inl, inr}
+use Rattle.std.proofs.Math.Option.{Option, none, some}
 use Rattle.record.specs.Answers.{Answer, refused, answered, answer}
 use Rattle.record.specs.declared.Refusal.{Refusal}
 use Rattle.record.specs.declared.Vertex.{Vertex}
-use Rattle.record.specs.Laws.Settled.{named, named_number, settled}
+use Rattle.record.specs.Laws.Settled.{named, named_number, settled, result_of, answer_settles}
 use Rattle.forest.specs.declared.Dfi.{Dfi}
 use Rattle.queries.specs.Answers.{terminal_or_none, above, terminal, related, numbered}
 use Rattle.queries.specs.Steps.{rise_or_none, step_of, move_of, turn_of}
 use Rattle.queries.specs.Looking.{looked_of}
 use Rattle.queries.specs.declared.climbs.Rise.{Rise}
 use Rattle.queries.specs.declared.lookups.Seen.{Seen}
-
-pub answer_back : {A B : Type 0} → (B → A) → Answer B → Result A Refusal
-answer_back back (answered b) = Ok (back b)
-answer_back back (refused k) = Err (named k)
-
-pub answer_settles : {A B : Type 0} (value : A → B) (back : B → A) → ((x : A) → back (value x) ≡ x)
-    → (r : Result A Refusal) {a : Answer B} → answer value r ≡ a → r ≡ answer_back back a
-unfolding answer_back
-answer_settles {A = A} value back again = settled (answer value) (answer_back back) twice
-  where
-    twice : (r : Result A Refusal) → answer_back back (answer value r) ≡ r
-    twice (Ok x) = ap Ok (again x)
-    twice (Err r) = ap Err (named_number r)
 
 -- ---- what the queries answer
 
@@ -46,7 +32,7 @@ dfi_back : ℕ → Dfi
 dfi_back i = record { 0 = i }
 
 pub above_of : Answer (Option ℕ) → Result (code.Option Vertex) Refusal
-above_of = answer_back parent_back
+above_of = result_of parent_back
 
 pub above_settles : (r : Result (code.Option Vertex) Refusal) {a : Answer (Option ℕ)} → above r ≡ a → r ≡ above_of a
 unfolding above_of parent_back vertex_back
@@ -57,21 +43,21 @@ above_settles = answer_settles terminal_or_none parent_back again
     again (code.Some v) = refl
 
 pub terminal_of : Answer ℕ → Result Vertex Refusal
-terminal_of = answer_back vertex_back
+terminal_of = result_of vertex_back
 
 pub terminal_settles : (r : Result Vertex Refusal) {a : Answer ℕ} → terminal r ≡ a → r ≡ terminal_of a
 unfolding terminal_of vertex_back
 terminal_settles = answer_settles (λ (v : Vertex). v.0) vertex_back (λ v. refl)
 
 pub related_of : Answer Bool → Result Bool Refusal
-related_of = answer_back (λ (b : Bool). b)
+related_of = result_of (λ (b : Bool). b)
 
 pub related_settles : (r : Result Bool Refusal) {a : Answer Bool} → related r ≡ a → r ≡ related_of a
 unfolding related_of
 related_settles = answer_settles (λ (b : Bool). b) (λ (b : Bool). b) (λ b. refl)
 
 pub numbered_of : Answer ℕ → Result Dfi Refusal
-numbered_of = answer_back dfi_back
+numbered_of = result_of dfi_back
 
 pub numbered_settles : (r : Result Dfi Refusal) {a : Answer ℕ} → numbered r ≡ a → r ≡ numbered_of a
 unfolding numbered_of dfi_back
@@ -84,7 +70,7 @@ rise_back none = code.None
 rise_back (some p) = code.Some (record { at = p.0; to = p.1 })
 
 pub step_back : Answer (Option (ℕ × ℕ)) → Result (code.Option Rise) Refusal
-step_back = answer_back rise_back
+step_back = result_of rise_back
 
 pub step_settles : (r : Result (code.Option Rise) Refusal) {a : Answer (Option (ℕ × ℕ))} → step_of r ≡ a → r ≡ step_back a
 unfolding step_back rise_back
@@ -128,7 +114,7 @@ seen_back : ℕ × ℕ → Seen
 seen_back p = record { head = vertex_back p.0; visit = dfi_back p.1 }
 
 pub looked_back : Answer (ℕ × ℕ) → Result Seen Refusal
-looked_back = answer_back seen_back
+looked_back = result_of seen_back
 
 pub looked_settles : (r : Result Seen Refusal) {a : Answer (ℕ × ℕ)} → looked_of r ≡ a → r ≡ looked_back a
 unfolding looked_back seen_back vertex_back dfi_back
