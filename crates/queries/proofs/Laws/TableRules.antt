@@ -20,7 +20,16 @@ use Rattle.forest.specs.Operations.{build_rules, build, built, no_start}
 use Rattle.queries.specs.Written.{Written}
 use Rattle.queries.specs.Demands.{build_writes}
 use Rattle.queries.specs.Filling.{Ready}
+use Rattle.queries.specs.Steps.{Framed}
+use Rattle.queries.specs.Laws.Ready.{ready_beside}
 use Rattle.queries.specs.Table.{Columns, columns, misfits, table_on, table_of, table_rules, table, tabled, TableDone}
+
+-- what Build leaves: an index of the right length, which it wrote from the start
+pub record Made (bytes : List ℕ) (start : ℕ) (index : List ℕ) (n m : ℕ) : Type 0 where
+  pub framed : Framed index n m
+  pub accepted : Accepted bytes
+  pub taken : no_start (terminals bytes) start ≡ false
+  pub is : index ≡ index_of (blocks bytes) (start - 1)
 
 module _ (bytes : List ℕ) (start : ℕ) (work : List ℕ) (lent : Columns) where
   refuses : {k : ℕ} → first_broken (table_rules bytes start work lent) ≡ suc k
@@ -72,24 +81,17 @@ module _ (bytes : List ℕ) (start : ℕ) (work : List ℕ) (lent : Columns) whe
       kept : first_broken (table_rules bytes start work lent) ≡ 0
       kept = ap first_broken (sym same_rules) ∙ build_kept
 
-      written : (w : Written bytes (built bytes start work index)) × (w.start ≡ start)
-      written = build_writes bytes start work index (sym e)
-
-      pub table_accepted : Accepted bytes
-      table_accepted = written.0.accepted
-
-      pub table_taken : no_start (terminals bytes) start ≡ false
-      table_taken = ap (no_start (terminals bytes)) (sym written.1) ∙ written.0.taken
-
-      pub table_index : {next : List ℕ} → next ≡ built bytes start work index → next ≡ index_of (blocks bytes) (start - 1)
-      table_index is = is ∙ written.0.is ∙ ap (λ (k : ℕ). index_of (blocks bytes) (k - 1)) written.1
-
-      pub table_ready : {next : List ℕ} → next ≡ built bytes start work index → Ready bytes next n m
-      table_ready is = record {
-        written = subst (Written bytes) (sym is) written.0;
-        is_n = s.is_n;
-        is_m = s.is_m;
-      }
+      pub table_made : {next : List ℕ} → next ≡ built bytes start work index → Made bytes start next n m
+      table_made {next} is =
+          let (w, same) = build_writes bytes start work index (sym e) in
+          let r : Ready bytes next n m =
+          record { written = subst (Written bytes) (sym is) w; is_n = s.is_n; is_m = s.is_m } in
+          record {
+            framed = (ready_beside r).framed;
+            accepted = w.accepted;
+            taken = ap (no_start (terminals bytes)) (sym same) ∙ w.taken;
+            is = is ∙ w.is ∙ ap (λ (k : ℕ). index_of (blocks bytes) (k - 1)) same;
+          }
 
       pub table_fits : misfits n lent ≡ false
       unfolding table_rules

@@ -1,5 +1,5 @@
 -- The answers for all terminals at once: a pass over the vertices, and one in order of visits.
---   indexed_beside, built_ready                what the structs of the code say
+--   built_ready                                what the type tells
 --   cells_put, apart_self                      a list that is filled cell by cell
 --   block_span, count_cell, count_small        the children of a vertex
 --   stored_inside, stored_apart, order_cell    the stored numbers are those of 0 to n - 1, each once
@@ -40,7 +40,6 @@ use Rattle.queries.specs.declared.climbs.Rise.{Rise}
 use Rattle.queries.specs.Steps.{Beside, risen, step_of}
 use Rattle.queries.specs.Written.{forest_from, Terminal}
 use Rattle.queries.specs.Table.{columns, answers_of, table_on}
-use Rattle.queries.specs.declared.indexed.Indexed.{Indexed}
 use Rattle.queries.specs.declared.built.Built.{Built}
 use Rattle.queries.specs.Filling.{Ready, Cells, parent_at, head_at, ParentsTo, HeadsTo}
 use Rattle.queries.specs.Laws.Shown.{Shows, parent_shown, head_shown, head_stopped, head_risen, count_shown}
@@ -54,10 +53,7 @@ use Rattle.queries.specs.Laws.Framed.{length_p}
 use Rattle.queries.proofs.Laws.Stepping.{block_bounds}
 use Rattle.queries.proofs.Laws.Singles.{children_counted}
 
--- a record and its index, as the laws take them
-pub indexed_beside : (i : Indexed) → Beside i.layout.bytes.now i.index.now i.layout.n i.layout.m
-indexed_beside i = record { sound = i.layout.sound; framed = i.framed }
-
+-- what the type tells
 pub built_ready : (b : Built)
     → Ready b.indexed.layout.bytes.now b.indexed.index.now b.indexed.layout.n b.indexed.layout.m
 built_ready b = record {

@@ -16,4 +16,5 @@ returns-in_err-i c =
 pub returns : goal.returns
 returns c =
     let a = c.args in
-    lookup_read a.bytes.now a.index.now a.list.now (lists a.heads.now a.visits.now) c.in_ok-i.ensures c.lookup_in.ensures
+    lookup_read a.bytes.now a.index.now a.list.now (lists a.heads.now a.visits.now) c.in_ok-i.ensures
+    c.lookup_in.ensures

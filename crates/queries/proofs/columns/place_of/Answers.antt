@@ -7,8 +7,8 @@ use Rattle.queries.specs.Seen.{seen}
 use Rattle.queries.specs.Steps.{step_of}
 use Rattle.queries.specs.Queries.{step_up, rise}
 use Rattle.queries.proofs.Laws.Climbing.{starts_long, rise_room, head_stops, head_rises}
-use Rattle.queries.proofs.Laws.Climbing.{rise_told, top_told}
-use Rattle.queries.proofs.Laws.Tabling.{indexed_beside, built_ready, never_refused, root_parent, root_head, risen_to}
+use Rattle.queries.proofs.Laws.Climbing.{beside, rise_told, top_told}
+use Rattle.queries.proofs.Laws.Tabling.{built_ready, never_refused, root_parent, root_head, risen_to}
 use Rattle.queries.proofs.Laws.Tabling.{risen_parent, bridge_head, risen_head}
 use Rattle.queries.proofs.columns.place_of.Goals as goal
 use Rattle.queries.proofs.columns.place_of.Goals.{In-Some}
@@ -40,10 +40,10 @@ to_inside : (c : In-Some) → c.in-Some.rise.to < c.args.b.now.indexed.layout.n
 to_inside c =
     risen_to (built_ready c.args.b.now) c.requires.1 c.requires.0 c.get-from.ensures.0 c.get-to.ensures.0 (risen c)
 
-room : (c : In-Some)
-    → c.get-from.result + c.args.v + 1 + c.in-Some.rise.at < c.args.b.now.indexed.layout.n + 2 * c.args.b.now.indexed.layout.m
+room : (c : In-Some) → let l = c.args.b.now.indexed.layout in
+    c.get-from.result + c.args.v + 1 + c.in-Some.rise.at < l.n + 2 * l.m
 room c =
-    rise_room (indexed_beside c.args.b.now.indexed) c.requires.0 c.requires.1 c.get-from.ensures.0 c.get-to.ensures.0
+    rise_room (beside c.args.b.now.indexed) c.requires.0 c.requires.1 c.get-from.ensures.0 c.get-to.ensures.0
     (risen c)
 
 pub overflow_add-parent : goal.overflow_add-parent
@@ -67,7 +67,7 @@ returns-then-bridge_mark c =
     let f = c.args.b.now.indexed.framed.n_fits in (
       risen_parent r h e,
       bridge_head r h
-          (head_stops (indexed_beside c.args.b.now.indexed) c.requires.0 h c.get-from.ensures.0 c.get-to.ensures.0 e
+          (head_stops (beside c.args.b.now.indexed) c.requires.0 h c.get-from.ensures.0 c.get-to.ensures.0 e
           c.bridge_mark.ensures c.if-bridge_mark.true),
       omega arith,
       omega arith,
@@ -83,7 +83,7 @@ returns c =
     let e = risen (goal.at.returns c).In-Some in
     let l = to_inside (goal.at.returns c).In-Some in
     let up =
-    head_rises (indexed_beside c.args.b.now.indexed) c.requires.0 h c.get-from.ensures.0 c.get-to.ensures.0 e
+    head_rises (beside c.args.b.now.indexed) c.requires.0 h c.get-from.ensures.0 c.get-to.ensures.0 e
     c.bridge_mark.ensures c.if-bridge_mark.false in
     let f = c.args.b.now.indexed.framed.n_fits in
     (risen_parent r h e, risen_head r h l e up c.requires.2 c.get.ensures.0, omega arith, c.get.ensures.1)

@@ -11,10 +11,9 @@ use Rattle.record.specs.Answers.{answered}
 use Rattle.record.specs.Laws.Sounded.{sound_vertices}
 use Rattle.queries.specs.Seen.{seen}
 use Rattle.queries.specs.Steps.{move_of}
-use Rattle.queries.proofs.Laws.Climbing.{head_inside}
+use Rattle.queries.proofs.Laws.Climbing.{beside, head_inside}
 use Rattle.queries.proofs.Laws.Knowing.{head_here, WayTo, way_put, way_head, way_kept}
 use Rattle.queries.proofs.Laws.Knowing.{climbed_begins, climbed_known, climbed_stops, climbed_on}
-use Rattle.queries.proofs.Laws.Tabling.{indexed_beside}
 use Rattle.queries.proofs.known.find_head.Goals as goal
 use Rattle.queries.proofs.known.find_head.Goals.{After-put}
 
@@ -24,7 +23,7 @@ along : (c : After-put) → let i = c.args.a.now.indexed in
 along c = way_put c.loop-k.invariant.along c.loop-k-test.true c.put.ensures
 
 pub loop-k-init : goal.loop-k-init
-loop-k-init c = climbed_begins (indexed_beside c.args.a.now.indexed) c.requires.0 c.requires.1 c.requires.2
+loop-k-init c = climbed_begins (beside c.args.a.now.indexed) c.requires.0 c.requires.1 c.requires.2
 
 pub returns-then-h-gt0 : goal.returns-then-h-gt0
 returns-then-h-gt0 c =
@@ -36,7 +35,8 @@ returns-then-h-gt0 c =
 pub returns-in_err-head_move : goal.returns-in_err-head_move
 returns-in_err-head_move c =
     let p = err_from_is_err_and c.from_residual.result c.from_residual.ensures.1 in
-    rw (p.1, p.2) (climbed_stops c.loop-k.invariant c.loop-k-test.true c.in_err-head_move.ensures, c.loop-k.invariant.heads)
+    let d = climbed_stops c.loop-k.invariant c.loop-k-test.true c.in_err-head_move.ensures in
+    rw (p.1, p.2) (d, c.loop-k.invariant.heads)
 
 pub returns-in-None : goal.returns-in-None
 returns-in-None c =

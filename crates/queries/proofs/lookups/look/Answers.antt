@@ -6,7 +6,7 @@ use Rattle.queries.specs.Steps.{Ranged}
 use Rattle.queries.specs.Laws.Asked.{vertex_in}
 use Rattle.queries.proofs.Laws.Asking.{ranged_by}
 use Rattle.queries.proofs.Laws.Looking.{outside_told, head_refused, visit_refused, both_told}
-use Rattle.queries.proofs.Laws.Tabling.{indexed_beside}
+use Rattle.queries.proofs.Laws.Climbing.{beside}
 use Rattle.queries.proofs.lookups.look.Goals as goal
 use Rattle.queries.proofs.lookups.look.Goals.{Else-out_of_range}
 
@@ -15,7 +15,7 @@ ranged c = ranged_by c.out_of_range.ensures c.if-out_of_range.false
 
 pub returns-then-out_of_range : goal.returns-then-out_of_range
 returns-then-out_of_range c = (
-  outside_told (indexed_beside c.args.a.now.indexed) c.args.v.0 (sym c.out_of_range.ensures ∙ c.if-out_of_range.true),
+  outside_told (beside c.args.a.now.indexed) c.args.v.0 (sym c.out_of_range.ensures ∙ c.if-out_of_range.true),
   c.requires.0,
 )
 
@@ -31,7 +31,7 @@ returns-in_err-head c =
     let r = ranged (goal.at.returns-in_err-head c).Else-out_of_range in
     let p = err_from_is_err_and c.from_residual.result c.from_residual.ensures.1 in
     rw (p.1, p.2) (
-      head_refused (indexed_beside c.args.a.now.indexed) c.args.v.0 r c.in_err-head.ensures.0,
+      head_refused (beside c.args.a.now.indexed) c.args.v.0 r c.in_err-head.ensures.0,
       c.find_head.ensures.1,
     )
 
@@ -43,13 +43,13 @@ returns-in_err-visit c =
     let r = ranged (goal.at.returns-in_err-visit c).Else-out_of_range in
     let p = err_from_is_err_and c.from_residual-in_err-visit.result c.from_residual-in_err-visit.ensures.1 in
     rw (p.1, p.2) (
-      visit_refused (indexed_beside c.args.a.now.indexed) c.args.v.0 r c.in_ok-head.ensures.0 c.in_err-visit.ensures,
+      visit_refused (beside c.args.a.now.indexed) c.args.v.0 r c.in_ok-head.ensures.0 c.in_err-visit.ensures,
       c.find_head.ensures.1,
     )
 
 pub returns : goal.returns
 returns c =
     let r = ranged (goal.at.returns c).Else-out_of_range in (
-      both_told (indexed_beside c.args.a.now.indexed) c.args.v.0 r c.in_ok-head.ensures.0 c.in_ok-visit.ensures,
+      both_told (beside c.args.a.now.indexed) c.args.v.0 r c.in_ok-head.ensures.0 c.in_ok-visit.ensures,
       c.find_head.ensures.1,
     )

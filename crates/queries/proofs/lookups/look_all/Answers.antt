@@ -31,8 +31,8 @@ returns-in_err-s c =
     let i = c.args.a.now.indexed in
     let p = err_from_is_err_and c.from_residual.result c.from_residual.ensures.1 in
     let d =
-    looking_stops i.layout.bytes.now i.index.now c.args.list.now c.loop-i.invariant.2 c.loop-i-test.true c.in_err-s.field-0.0
-    (c.in_err-s.ensures.0 ∙ ap (head_and_visit i.layout.bytes.now i.index.now) c.from.ensures) in
+    looking_stops i.layout.bytes.now i.index.now c.args.list.now c.loop-i.invariant.2 c.loop-i-test.true
+    c.in_err-s.field-0.0 (c.in_err-s.ensures.0 ∙ ap (head_and_visit i.layout.bytes.now i.index.now) c.from.ensures) in
     rw (p.1, p.2) d
 
 pub put-requires : goal.put-requires

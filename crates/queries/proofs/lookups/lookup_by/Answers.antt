@@ -5,7 +5,7 @@ use lib.ListN.{length}
 use Rattle.std.proofs.lemmas.Result.{err_from_is_err_and}
 use Rattle.queries.specs.Lookup.{Lists, lists}
 use Rattle.queries.proofs.Laws.Looking.{lookup_refused, lookup_filled, lists_fit}
-use Rattle.queries.proofs.Laws.Tabling.{indexed_beside}
+use Rattle.queries.proofs.Laws.Climbing.{beside}
 use Rattle.queries.proofs.lookups.lookup_by.Goals as goal
 use Rattle.queries.proofs.lookups.lookup_by.Goals.{Start}
 
@@ -25,7 +25,7 @@ returns-in_err-look_all c =
     let p = err_from_is_err_and c.from_residual.result c.from_residual.ensures.1 in
     let d =
     lookup_refused i.layout.bytes.now i.index.now c.args.list.now (lent (goal.at.returns-in_err-look_all c).Start)
-    (indexed_beside i) c.requires.0 c.in_err-look_all.ensures.answers in
+    (beside i) c.requires.0 c.in_err-look_all.ensures.answers in
     rw (p.1, p.2) d
 
 pub copy_from_slice-requires : goal.copy_from_slice-requires
@@ -39,6 +39,6 @@ copy_from_slice-requires-2 c =
 pub returns : goal.returns
 returns c =
     let i = c.args.i.now in
-    lookup_filled i.layout.bytes.now i.index.now c.args.list.now (lent (goal.at.returns c).Start) (indexed_beside i)
+    lookup_filled i.layout.bytes.now i.index.now c.args.list.now (lent (goal.at.returns c).Start) (beside i)
     c.requires.0 c.in_ok-look_all.ensures.answers
     (ap₂ lists c.copy_from_slice.ensures.after c.copy_from_slice-2.ensures.after ∙ c.in_ok-look_all.ensures.finds refl)

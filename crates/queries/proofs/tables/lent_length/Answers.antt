@@ -6,4 +6,5 @@ use Rattle.queries.proofs.tables.lent_length.Goals as goal
 pub overflow_add-result : goal.overflow_add-result
 overflow_add-result c =
     let s = c.args.layout.now.sound in
-    omega (arith, index_short s.n_fits s.m_fits, c.index_length.ensures, c.from.ensures, flag_small c.some_misfit.result)
+    let flag = flag_small c.some_misfit.result in
+    omega (arith, index_short s.n_fits s.m_fits, c.index_length.ensures, c.from.ensures)

@@ -36,4 +36,5 @@ table_by-requires c =
     let size =
     part_zeros 19969 c.lent_length-size.result (short (goal.at.table_by-requires c).After-lent_length-size)
     ∙ c.lent_length-size.ensures in
-    ap (λ (k : ℕ). not (eqb k longest)) size ∙ other_where longest (misfit (goal.at.table_by-requires c).After-lent_length-size)
+    let b = misfit (goal.at.table_by-requires c).After-lent_length-size in
+    ap (λ (k : ℕ). not (eqb k longest)) size ∙ other_where longest b
