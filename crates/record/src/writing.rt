@@ -19,6 +19,16 @@ struct Row<'a> {
     ghost few: { (length neighbours.now ≤ 32768) × (start ≤ 65536) },
 }
 
+impl<'a> Row<'a> {
+    // Neighbour i, from 0.
+    fn number(&self, i: usize) -> usize
+        requires { i < length self.now.neighbours.now }
+        ensures { (result ≡ get_or self.now.neighbours.now i 0 - 1) × (result < 4096) }
+    {
+        usize::from(self.neighbours[i]) - 1
+    }
+}
+
 // n and m.
 fn write_header(bytes: &mut [u8], n: usize, m: usize)
     requires { (4 ≤ length bytes.old) × (n ≤ 4096) × (m ≤ 16384) × (Begun bytes.old []) }
@@ -41,14 +51,6 @@ fn write_unary(lists: &Listing, bytes: &mut [u8])
     }
 }
 
-// Neighbour i, from 0.
-fn number(row: &Row, i: usize) -> usize
-    requires { i < length row.now.neighbours.now }
-    ensures { (result ≡ get_or row.now.neighbours.now i 0 - 1) × (result < 4096) }
-{
-    usize::from(row.neighbours[i]) - 1
-}
-
 // Four more fields, from field i on, where another one stands behind them: so a whole word does. What stands before
 // them in their first byte is handed over, and what stands so before the next is handed back.
 fn write_four(row: &Row, bytes: &mut [u8], i: usize, front: u64) -> u64
@@ -59,10 +61,10 @@ fn write_four(row: &Row, bytes: &mut [u8], i: usize, front: u64) -> u64
     ensures { (Laying row.now.start (bits_of bytes.old) (map (λ v. v - 1) row.now.neighbours.now) bytes.new (i + 4))
         × (result ≡ front_of (bits_of bytes.new) (row.now.start + 12 * (i + 4))) }
 {
-    let a = number(row, i);
-    let b = number(row, i + 1);
-    let c = number(row, i + 2);
-    let d = number(row, i + 3);
+    let a = row.number(i);
+    let b = row.number(i + 1);
+    let c = row.number(i + 2);
+    let d = row.number(i + 3);
     bits::fields::write_four(bytes, row.start + 12 * i, front, Four { a, b, c, d })
 }
 
@@ -79,7 +81,7 @@ fn write_fields(row: &Row, bytes: &mut [u8])
         front = write_four(row, bytes, 4 * k, front);
     }
     for i in 4 * fours..row.neighbours.len() {
-        write::<12>(bytes, row.start + 12 * i, number(row, i));
+        write::<12>(bytes, row.start + 12 * i, row.number(i));
     }
 }
 
