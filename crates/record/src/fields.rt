@@ -17,7 +17,8 @@ pub fn field(layout: &Layout, p: usize) -> usize
 
 // Four more fields, from field i on, where another one stands behind them: so a whole word does.
 fn read_four(bytes: &[u8], start: usize, list: &mut [u16], i: usize)
-    requires i_bound { (start + 12 * (i + 5) ≤ 8 * length bytes.now) × (i + 4 ≤ length list.old) × (i ≤ 32768) × (start ≤ 65536) }
+    requires i_bound { (start + 12 * (i + 5) ≤ 8 * length bytes.now) × (i + 4 ≤ length list.old)
+        × (i ≤ 32768) × (start ≤ 65536) }
     requires reading { Reading (bits_of bytes.now) start (length list.old) list.old i }
     ensures { Reading (bits_of bytes.now) start (length list.old) list.new (i + 4) }
 {

@@ -27,6 +27,42 @@ impl<'a> Row<'a> {
     {
         usize::from(self.neighbours[i]) - 1
     }
+
+    // Four more fields, from field i on, where another one stands behind them: so a whole word does. What stands before
+    // them in their first byte is handed over, and what stands so before the next is handed back.
+    fn write_four(&self, bytes: &mut [u8], i: usize, front: u64) -> u64
+        requires fits { (i + 5 ≤ length self.now.neighbours.now)
+            × (self.now.start + 12 * length self.now.neighbours.now ≤ 8 * length bytes.old) }
+        requires laying { (Laying self.now.start (bits_of bytes.old) (map (λ v. v - 1) self.now.neighbours.now) bytes.old
+            i)
+            × (front ≡ front_of (bits_of bytes.old) (self.now.start + 12 * i)) }
+        ensures { (Laying self.now.start (bits_of bytes.old) (map (λ v. v - 1) self.now.neighbours.now) bytes.new
+            (i + 4))
+            × (result ≡ front_of (bits_of bytes.new) (self.now.start + 12 * (i + 4))) }
+    {
+        let a = self.number(i);
+        let b = self.number(i + 1);
+        let c = self.number(i + 2);
+        let d = self.number(i + 3);
+        bits::fields::write_four(bytes, self.start + 12 * i, front, Four { a, b, c, d })
+    }
+
+    // The fields of the row: in fours while another one stands behind them, and the last ones by themselves.
+    fn write(&self, bytes: &mut [u8])
+        requires { (self.now.start + 12 * length self.now.neighbours.now ≤ 8 * length bytes.old)
+            × (Blank (bits_of bytes.old) self.now.start) }
+        ensures { Begun bytes.new
+            (take self.now.start (bits_of bytes.old) ++ field_bits (map (λ v. v - 1) self.now.neighbours.now)) }
+    {
+        let fours = self.neighbours.len().saturating_sub(1) / 4;
+        let mut front = bits::fields::front_of(bytes, self.start);
+        for k in 0..fours {
+            front = self.write_four(bytes, 4 * k, front);
+        }
+        for i in 4 * fours..self.neighbours.len() {
+            write::<12>(bytes, self.start + 12 * i, self.number(i));
+        }
+    }
 }
 
 // n and m.
@@ -51,40 +87,6 @@ fn write_unary(lists: &Listing, bytes: &mut [u8])
     }
 }
 
-// Four more fields, from field i on, where another one stands behind them: so a whole word does. What stands before
-// them in their first byte is handed over, and what stands so before the next is handed back.
-fn write_four(row: &Row, bytes: &mut [u8], i: usize, front: u64) -> u64
-    requires fits { (i + 5 ≤ length row.now.neighbours.now)
-        × (row.now.start + 12 * length row.now.neighbours.now ≤ 8 * length bytes.old) }
-    requires laying { (Laying row.now.start (bits_of bytes.old) (map (λ v. v - 1) row.now.neighbours.now) bytes.old i)
-        × (front ≡ front_of (bits_of bytes.old) (row.now.start + 12 * i)) }
-    ensures { (Laying row.now.start (bits_of bytes.old) (map (λ v. v - 1) row.now.neighbours.now) bytes.new (i + 4))
-        × (result ≡ front_of (bits_of bytes.new) (row.now.start + 12 * (i + 4))) }
-{
-    let a = row.number(i);
-    let b = row.number(i + 1);
-    let c = row.number(i + 2);
-    let d = row.number(i + 3);
-    bits::fields::write_four(bytes, row.start + 12 * i, front, Four { a, b, c, d })
-}
-
-// The fields of the row: in fours while another one stands behind them, and the last ones by themselves.
-fn write_fields(row: &Row, bytes: &mut [u8])
-    requires { (row.now.start + 12 * length row.now.neighbours.now ≤ 8 * length bytes.old)
-        × (Blank (bits_of bytes.old) row.now.start) }
-    ensures { Begun bytes.new
-        (take row.now.start (bits_of bytes.old) ++ field_bits (map (λ v. v - 1) row.now.neighbours.now)) }
-{
-    let fours = row.neighbours.len().saturating_sub(1) / 4;
-    let mut front = bits::fields::front_of(bytes, row.start);
-    for k in 0..fours {
-        front = write_four(row, bytes, 4 * k, front);
-    }
-    for i in 4 * fours..row.neighbours.len() {
-        write::<12>(bytes, row.start + 12 * i, row.number(i));
-    }
-}
-
 // The whole record.
 pub fn write_record(lists: &Listing, bytes: &mut [u8])
     requires { (Numbers lists.now.neighbours.now)
@@ -98,5 +100,5 @@ pub fn write_record(lists: &Listing, bytes: &mut [u8])
     bytes.fill(0);
     write_header(bytes, n, places / 2);
     write_unary(lists, bytes);
-    write_fields(&Row { neighbours, start }, bytes);
+    Row { neighbours, start }.write(bytes);
 }

@@ -21,8 +21,8 @@ write_unary-requires c =
     let room = record_room l (c.write_header.auto.bytes ∙ c.fill.ensures.len ∙ c.requires.1) in
     (room.2, begun_blank h 28 (sym (length_header_bits _ _)))
 
-pub write_fields-requires : goal.write_fields-requires
-write_fields-requires c =
+pub write-requires : goal.write-requires
+write-requires c =
     let l = c.args.lists.now.listed in
     let h = c.write_header.ensures in
     let u = c.write_unary.ensures in
@@ -35,8 +35,8 @@ returns c =
     let l = c.args.lists.now.listed in
     let h = c.write_header.ensures in
     let u = c.write_unary.ensures in
-    let w = c.write_fields.ensures in
+    let w = c.write.ensures in
     let size =
-    c.write_fields.auto.bytes ∙ c.write_unary.auto.bytes ∙ c.write_header.auto.bytes ∙ c.fill.ensures.len ∙ c.requires.1 in
+    c.write.auto.bytes ∙ c.write_unary.auto.bytes ∙ c.write_header.auto.bytes ∙ c.fill.ensures.len ∙ c.requires.1 in
     let front = header_on c.args.lists.now.degrees.now c.args.lists.now.neighbours.now h u in
     written l (search rules) size (begun_on front _ (length_front l) _ w)

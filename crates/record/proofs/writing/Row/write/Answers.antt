@@ -1,4 +1,4 @@
--- `writing::write_fields` meets its contract: the fields are written from the front, by fours, and then on to the last.
+-- `writing::Row::write` meets its contract: the fields are written from the front, by fours, and then on to the last.
 use mathlib.Core.Path.{◌≡◌, sym, ◌∙◌}
 use mathlib.Core.List.{map}
 use Prim.Native.Nat.{◌+◌, ◌-◌, ◌*◌}
@@ -7,11 +7,11 @@ use lib.ListN.{length-map}
 use Rattle.bits.specs.Laws.Bytes.{length_bits}
 use Rattle.std.proofs.lemmas.List.{get_or-map}
 use Rattle.record.proofs.Laws.Writing.Fields.{laying_start, laying_same, laying_on, laying_more}
-use Rattle.record.proofs.writing.write_fields.Goals as goal
+use Rattle.record.proofs.writing.Row.write.Goals as goal
 
 pub loop-k-init : goal.loop-k-init
 loop-k-init c =
-    let row = c.args.row.now in
+    let row = c.args.self.now in
     let bytes = c.args.bytes.now in
     let bits = length_bits bytes in
     let (fits, blank) = c.requires in
@@ -35,7 +35,7 @@ loop-k-preserved c =
 
 pub loop-i-preserved : goal.loop-i-preserved
 loop-i-preserved c =
-    let neighbours = c.args.row.now.neighbours.now in
+    let neighbours = c.args.self.now.neighbours.now in
     let loop = c.loop-i in
     let bits = length_bits c.args.bytes.now in
     let numbers = length-map neighbours (λ v. v - 1) in
