@@ -28,12 +28,6 @@ loop-i-preserved c =
           ∙ sym (ap (λ (n : ℕ). count (take n s)) e ∙ count_take_add s (64 * i) 64),
     )
 
-pub returns-then-rest-eq0 : goal.returns-then-rest-eq0
-returns-then-rest-eq0 c =
-    let a = c.args in
-    let e : 64 * c.loop-i.i ≡ a.n = omega arith in
-    c.loop-i.invariant.1 ∙ ap (λ (n : ℕ). count (take n (bits a.bytes.now))) e
-
 pub overflow_add-result : goal.overflow_add-result
 overflow_add-result c =
     let s = bits c.args.bytes.now in

@@ -9,9 +9,8 @@ use Rattle.bits.proofs.fields.read.Goals as goal
 pub returns : goal.returns
 returns g c =
     let a = c.args in
-    let known = c.shared_slice_known-1 in
     let same =
     c.formula.ensures
-    ∙ formula_field a.bytes.now a.start g.row.WIDTH (λ i. (known.given i).fits) (omega arith) (omega arith)
+    ∙ formula_field a.bytes.now a.start g.row.WIDTH (λ i. (c.type_inv.bytes i).fits) (omega arith) (omega arith)
     (omega arith) in
     (same, rw same (field_lt g.row.WIDTH (bits a.bytes.now) a.start))

@@ -8,15 +8,6 @@ use Rattle.bits.specs.Laws.Bytes.{AreBytes}
 use Rattle.bits.proofs.Stored.{low_byte, write_two, write_three}
 use Rattle.bits.proofs.fields.write.Goals as goal
 
-pub bounds-bytes-next : goal.bounds-bytes-next
-bounds-bytes-next g c = simp length-set (omega arith)
-
-pub bounds-bytes-next-else-end-le16 : goal.bounds-bytes-next-else-end-le16
-bounds-bytes-next-else-end-le16 g c = simp length-set (omega arith)
-
-pub bounds-bytes-last : goal.bounds-bytes-last
-bounds-bytes-last g c = simp length-set (omega arith)
-
 pub returns-then-end-le16 : goal.returns-then-end-le16
 unfolding byte_of
 returns-then-end-le16 g c =

@@ -1,5 +1,5 @@
 -- `search::place_of` meets its contract: the bytes passed have fewer ones than are looked for.
-use Prim.Native.Nat.{◌-◌, ◌*◌}
+use Prim.Native.Nat.{◌*◌}
 use lib.ListN.{length}
 use Rattle.bits.specs.Bits.{bits}
 use Rattle.bits.specs.Spans.{Sought}
@@ -7,6 +7,3 @@ use Rattle.bits.proofs.search.place_of.Given as goal
 
 abbrev pub invariant-loop-at : goal.invariant-loop-at
 invariant-loop-at l = Sought (bits l.bytes) 0 (8 * length l.bytes) l.k (8 * l.at) l.left
-
-abbrev pub decreases-loop-at : goal.decreases-loop-at
-decreases-loop-at l = length l.bytes - l.at

@@ -8,7 +8,6 @@ use Rattle.bits.proofs.words.short_word.Goals as goal
 pub returns : goal.returns
 returns c =
     let a = c.args in
-    let known = c.shared_slice_known-1 in
     let k = 64 - a.n in
     ap (λ (x : ℕ). x / 2 ^ k) c.word_or_padded.ensures
-    ∙ short_field a.bytes.now a.at a.n k (λ i. (known.given i).fits) (omega arith) (omega arith)
+    ∙ short_field a.bytes.now a.at a.n k (λ i. (c.type_inv.bytes i).fits) (omega arith) (omega arith)

@@ -8,6 +8,5 @@ use Rattle.bits.proofs.words.word_ones.Goals as goal
 pub returns : goal.returns
 returns c =
     let args = c.args in
-    let known = c.shared_slice_known-1 in
-    let same = turned_ones args.bytes.now args.at (λ i. (known.given i).fits) (omega arith) in
+    let same = turned_ones args.bytes.now args.at (λ i. (c.type_inv.bytes i).fits) (omega arith) in
     (ap ones c.low_word.ensures ∙ same, ones-le 64 c.low_word.result (omega arith))
