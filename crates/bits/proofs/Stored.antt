@@ -20,7 +20,7 @@ use Rattle.bits.specs.Laws.Bytes.{AreBytes, length_bits, bits_append, take_bits,
 use Rattle.bits.specs.Laws.Fields.{field_lt, field_front, field_back}
 use Rattle.bits.specs.Laws.Packing.{take_replicate}
 use Rattle.bits.specs.Laws.Puts.{length_put, field_put, put_replaced, put_one, put_beside}
-use Rattle.bits.specs.Steps.{joined, two, three, byte_of, IsByte, four_of, front_of, Blank, replace}
+use Rattle.bits.specs.Steps.{joined, two, three, byte_of, IsByte, front_of, Blank, replace}
 use Rattle.bits.specs.Laws.Joined.{field_joined, two_bytes, three_bytes}
 use Rattle.bits.proofs.Joined.{byte_field}
 
@@ -213,16 +213,6 @@ write_word bytes at x n h e ev =
     rw (e, ev ∙ eight_bytes_of x, drop-drop 8 at bytes)
     (pasted bytes (eight_of x) at h
     ∙ ap (λ (t : List Bool). take (8 * at) (bits bytes) ++ (t ++ drop (8 * at + 64) (bits bytes))) (bits_eight x))
-
--- four numbers of 12 bits, joined by shifts
-pub four_shifted : (a b c d : ℕ) → a < 4096 → b < 4096 → c < 4096 → d < 4096
-    → (bit_or (bit_or (a * 2 ^ 12 % 2 ^ 64) b * 2 ^ 24 % 2 ^ 64) (bit_or (c * 2 ^ 12 % 2 ^ 64) d) ≡ four_of a b c d)
-    × (four_of a b c d < 2 ^ 48)
-four_shifted a b c d ha hb hc hd =
-    let p = beside_shifted a b ha hb in
-    let q = beside_shifted c d hc hd in
-    let e : (a * 2 ^ 12 + b) * 2 ^ 24 < 2 ^ 64 = omega arith in
-    (rw (p, q, mod-eq_of_lt e) (or_shifted (a * 2 ^ 12 + b) 24 (c * 2 ^ 12 + d) (omega arith)), omega arith)
 
 -- ---- a field put among zeros
 

@@ -1,16 +1,9 @@
 -- `fields::write_two` meets its contract: two fields side by side are the bits of the three bytes stored.
 use mathlib.Core.Path.{refl}
-use native.Mathlib.Omega.{arith}
 use lib.ListN.{length-set}
 use Rattle.bits.specs.Steps.{byte_of}
 use Rattle.bits.proofs.Stored.{low_byte, write_beside, beside_shifted}
 use Rattle.bits.proofs.fields.write_two.Goals as goal
-
-pub bounds-bytes-at-2 : goal.bounds-bytes-at-2
-bounds-bytes-at-2 c = simp length-set (omega arith)
-
-pub bounds-bytes-at-3 : goal.bounds-bytes-at-3
-bounds-bytes-at-3 c = simp length-set (omega arith)
 
 pub returns : goal.returns
 unfolding byte_of
