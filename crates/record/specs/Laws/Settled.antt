@@ -100,10 +100,18 @@ answer_settles {A} {B} value back h = settled (answer value) (result_of back) ag
     again (Ok a) = ap Ok (h a)
     again (Err r) = ap Err (named_number r)
 
-pub verdict_settles : (r : Result (Unit {0}) Refusal) {a : Answer (Unit {0})} → verdict r ≡ a → r ≡ result_of (λ u. u) a
+pub verdict_of : Answer (Unit {0}) → Result (Unit {0}) Refusal
+verdict_of a = result_of (λ u. u) a
+
+pub verdict_settles : (r : Result (Unit {0}) Refusal) {a : Answer (Unit {0})} → verdict r ≡ a → r ≡ verdict_of a
+unfolding verdict_of
 verdict_settles = answer_settles (λ u. u) (λ u. u) (λ u. refl)
 
-pub counted_settles : (r : Result ℕ Refusal) {a : Answer ℕ} → counted r ≡ a → r ≡ result_of (λ k. k) a
+pub counted_of : Answer ℕ → Result ℕ Refusal
+counted_of a = result_of (λ k. k) a
+
+pub counted_settles : (r : Result ℕ Refusal) {a : Answer ℕ} → counted r ≡ a → r ≡ counted_of a
+unfolding counted_of
 counted_settles = answer_settles (λ k. k) (λ k. k) (λ k. refl)
 
 -- the sizes of a layout, or why there is none
@@ -111,7 +119,10 @@ pub sized : Result Layout Refusal → Result Sizes Refusal
 sized (Ok l) = Ok (sizes l)
 sized (Err r) = Err r
 
-pub shape_settles : (r : Result Layout Refusal) {a : Answer Sizes} → shape r ≡ a → sized r ≡ result_of (λ s. s) a
-unfolding sized
+pub shape_of : Answer Sizes → Result Sizes Refusal
+shape_of a = result_of (λ s. s) a
+
+pub shape_settles : (r : Result Layout Refusal) {a : Answer Sizes} → shape r ≡ a → sized r ≡ shape_of a
+unfolding sized shape_of
 shape_settles (Ok l) e = answer_settles (λ s. s) (λ s. s) (λ s. refl) (Ok (sizes l)) e
 shape_settles (Err r) e = answer_settles (λ s. s) (λ s. s) (λ s. refl) (Err r) e
