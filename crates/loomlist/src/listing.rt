@@ -1,5 +1,6 @@
 // What the program prints.
-ghost use Rattle.std.specs.Prelude.{◌≡◌, ◌≤◌, length};
+ghost use Rattle.std.specs.Prelude.{◌≡◌, length, Some};
+ghost use Rattle.loomlist.specs.Text.{line, listing};
 
 use arrayvec::ArrayString;
 use record::Refusal;
@@ -24,7 +25,29 @@ pub fn failed(rt: &HostRuntime, what: &str, error: io::Error) {
     eprintln!(rt; "loomlist: {what}: {words}").ok();
 }
 
-// What Table writes of a record, from 1 on for each terminal, and the loop figure.
+// What Table writes of a terminal.
+#[derive(Clone, Copy)]
+struct Line {
+    terminal: usize,
+    visit: u16,
+    parent: u16,
+    count: u16,
+    head: u16,
+}
+
+impl fmt::Display for Line {
+    ghost output = { λ l. Some (line l.terminal l.visit l.parent l.count l.head) };
+
+    fn fmt<W: fmt::Write>(&self, f: &mut fmt::Formatter<W>) -> fmt::Result {
+        write!(
+            f,
+            "{} {} {} {} {}",
+            self.terminal, self.visit, self.parent, self.count, self.head
+        )
+    }
+}
+
+// What Table writes of a record, and the loop figure.
 #[derive(Clone, Copy)]
 pub struct Listing<'a> {
     pub visits: &'a [u16],
@@ -39,18 +62,20 @@ pub struct Listing<'a> {
 
 // A heading, a line for each terminal, and the loop figure's.
 impl fmt::Display for Listing<'_> {
+    ghost output = { λ l. Some (listing
+        l.visits.now l.parents.now l.counts.now l.heads.now (length l.visits.now) l.loops) };
+
     fn fmt<W: fmt::Write>(&self, f: &mut fmt::Formatter<W>) -> fmt::Result {
         writeln!(f, "terminal visit parent children head")?;
         for v in 0..self.visits.len() {
-            writeln!(
-                f,
-                "{} {} {} {} {}",
-                v + 1,
-                self.visits[v],
-                self.parents[v],
-                self.counts[v],
-                self.heads[v]
-            )?;
+            let line = Line {
+                terminal: v + 1,
+                visit: self.visits[v],
+                parent: self.parents[v],
+                count: self.counts[v],
+                head: self.heads[v],
+            };
+            writeln!(f, "{line}")?;
         }
         writeln!(f, "loops {}", self.loops)
     }
