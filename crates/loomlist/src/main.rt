@@ -5,34 +5,34 @@
 ghost use Rattle.std.specs.Prelude.{◌≡◌};
 ghost use Rattle.record.specs.Answers.{answered};
 ghost use Rattle.record.specs.Operations.{Accepted};
-ghost use Rattle.record.specs.Steps.{Sound};
 ghost use Rattle.forest.specs.Operations.{first_start as first_start_of, loop_figure};
 ghost use Rattle.queries.specs.Table.{table_of};
 
 use forest::roots::loops_by;
 use forest::start::first_start;
 use listing::Listing;
-use record::{Shape, Verdict};
+use record::Refusal;
+use record::header::order_r;
+use record::layout::Layout;
 use std::env::{Env, FillError};
 use std::io;
 
 mod input; // input.rt: standard input
 mod listing; // listing.rt: what is printed
 
-// The loop figure, from the parents that Table wrote: no second search. The record stands here for the contract only.
-fn figure(bytes: &[u8], n: usize, m: usize, parents: &[u16]) -> usize
-    requires { (Sound bytes.now n m)
-        × (Accepted bytes.now)
-        × (parents.now ≡ (table_of bytes.now (first_start_of n)).parents) }
-    ensures { answered result ≡ loop_figure bytes.now }
+// The loop figure, from the parents that Table wrote: no second search.
+fn figure(layout: &Layout, parents: &[u16]) -> usize
+    requires accepted { Accepted layout.now.bytes.now }
+    requires written { parents.now ≡ (table_of layout.now.bytes.now (first_start_of layout.now.n)).parents }
+    ensures { answered result ≡ loop_figure layout.now.bytes.now }
 {
-    loops_by(m, parents)
+    loops_by(layout.m, parents)
 }
 
-// The table of a record, from its first terminal on, and the listing.
-fn list(rt: &HostRuntime, bytes: &[u8], n: usize, m: usize) -> io::Result<()>
-    requires { Sound bytes.now n m }
-{
+// The table of a record, from its first terminal on, and the listing, which may fail to be printed.
+fn list(rt: &HostRuntime, bytes: &[u8]) -> Result<io::Result<()>, Refusal> {
+    let layout = order_r(bytes)?;
+    let n = layout.n;
     let mut work = [0u16; 32768];
     let mut visits = [0u16; 4096];
     let mut parents = [0u16; 4096];
@@ -43,27 +43,20 @@ fn list(rt: &HostRuntime, bytes: &[u8], n: usize, m: usize) -> io::Result<()>
     let parents = &mut parents[..n];
     let counts = &mut counts[..n];
     let heads = &mut heads[..n];
-    match queries::table(bytes, first_start(n), work, visits, parents, counts, heads) {
-        Verdict::Refused(r) => listing::refused(rt, r),
-        Verdict::Accepted => {
-            let loops = figure(bytes, n, m, parents);
-            let listing = Listing {
-                visits,
-                parents,
-                counts,
-                heads,
-                loops,
-            };
-            listing::accepted(rt, &listing)
-        }
-    }
+    queries::table(layout.bytes, first_start(n), work, visits, parents, counts, heads)?;
+    let loops = figure(&layout, parents);
+    let listing = Listing {
+        visits,
+        parents,
+        counts,
+        heads,
+        loops,
+    };
+    Ok(listing::accepted(rt, &listing))
 }
 
 fn run(rt: &HostRuntime, bytes: &[u8]) -> io::Result<()> {
-    match record::header::order_r(bytes) {
-        Shape::Refused(r) => listing::refused(rt, r),
-        Shape::Passed(s) => list(rt, bytes, s.n, s.m),
-    }
+    list(rt, bytes).unwrap_or_else(|r| listing::refused(rt, r))
 }
 
 // Whether the program was called with an argument.

@@ -4,10 +4,10 @@ use Rattle.loomlist.proofs.figure.Goals as goal
 
 pub returns : goal.returns
 returns c =
-    let (sound, accepted, is) = c.requires in
-    figure_given sound accepted is c.loops_by.ensures
+    let l = c.args.layout.now in
+    figure_given l.sound c.requires.accepted c.requires.written c.loops_by.ensures
 
 pub loops_by-requires : goal.loops_by-requires
 loops_by-requires c =
-    let (sound, accepted, is) = c.requires in
-    figure_asked sound accepted is
+    let l = c.args.layout.now in
+    figure_asked l.sound c.requires.accepted c.requires.written

@@ -8,10 +8,10 @@ use Rattle.loomlist.proofs.list.Goals as goal
 
 pub figure-loops-requires : goal.figure-loops-requires
 figure-loops-requires c =
-    let bytes = c.args.bytes.now in
-    let (accepted, left) = table_left c.table.ensures (ap verdict c.in-Accepted.is) in (
-      c.requires,
-      accepted,
-      ap (λ (t : Columns). t.parents) left
-          ∙ ap (λ (x : ℕ). (table_of bytes x).parents) c.first_start.ensures,
-    )
+    let bytes = c.in_ok-layout.layout.bytes.now in
+    let (accepted, left) = table_left c.table.ensures (ap verdict c.in_ok-table.was) in
+    record {
+      accepted = accepted;
+      written = ap (λ (t : Columns). t.parents) left
+          ∙ ap (λ (x : ℕ). (table_of bytes x).parents) c.first_start.ensures;
+    }
