@@ -2,8 +2,8 @@
 // after the call.
 ghost use Rattle.std.specs.Prelude.{◌≤◌};
 
+use crate::answers::Ruled;
 use crate::records::*;
-use crate::tables::verdict;
 use std::{fmt, io};
 
 // The numbers of a list, of a longer one the first six.
@@ -40,7 +40,7 @@ impl Case<'_> {
         let heads = &mut first[..heads];
         let visits = &mut second[..visits];
         print!(rt; "{name} lookup{list} to {} {}: ", heads.len(), visits.len())?;
-        let answer = verdict(queries::lookup(self.bytes, self.index, list.0, heads, visits));
+        let answer = Ruled(queries::lookup(self.bytes, self.index, list.0, heads, visits));
         println!(rt; "{answer},{},{}", Front(heads), Front(visits))
     }
 

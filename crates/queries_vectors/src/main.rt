@@ -4,7 +4,7 @@
 
 ghost use Rattle.std.specs.Prelude.{◌≤◌};
 
-use answers::{Told, above, counted, found, numbered, related};
+use answers::Told;
 use forest::Dfi;
 use record::Vertex;
 use records::*;
@@ -27,32 +27,35 @@ struct Case<'a> {
 }
 
 impl Case<'_> {
+    // The parent, or 0 for a root.
     fn parent(&self, v: usize) -> Told<usize> {
-        above(queries::parent(self.bytes, self.index, Vertex(v)))
+        let parent = queries::parent(self.bytes, self.index, Vertex(v));
+        Told(parent.map(|p| p.map_or(0, |v| v.0)))
     }
 
     fn head(&self, v: usize) -> Told<usize> {
-        found(queries::head(self.bytes, self.index, Vertex(v)))
+        Told(queries::head(self.bytes, self.index, Vertex(v)).map(|v| v.0))
     }
 
     fn children(&self, v: usize) -> Told<usize> {
-        counted(queries::children(self.bytes, self.index, Vertex(v)))
+        Told(queries::children(self.bytes, self.index, Vertex(v)))
     }
 
     fn visit(&self, v: usize) -> Told<usize> {
-        numbered(queries::visit(self.bytes, self.index, Vertex(v)))
+        Told(queries::visit(self.bytes, self.index, Vertex(v)).map(|i| i.0))
     }
 
     fn visited(&self, i: usize) -> Told<usize> {
-        found(queries::visited(self.bytes, self.index, Dfi(i)))
+        Told(queries::visited(self.bytes, self.index, Dfi(i)).map(|v| v.0))
     }
 
     fn child(&self, v: usize, k: usize) -> Told<usize> {
-        found(queries::child(self.bytes, self.index, Vertex(v), k))
+        Told(queries::child(self.bytes, self.index, Vertex(v), k).map(|v| v.0))
     }
 
     fn ancestor(&self, u: usize, v: usize) -> Told<char> {
-        related(queries::ancestor(self.bytes, self.index, Vertex(u), Vertex(v)))
+        let above = queries::ancestor(self.bytes, self.index, Vertex(u), Vertex(v));
+        Told(above.map(|yes| if yes { 'y' } else { 'n' }))
     }
 
     // A line: what a query answers for the numbers 0 to `last`.

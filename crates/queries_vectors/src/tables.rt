@@ -2,30 +2,11 @@
 // list after the call.
 ghost use Rattle.std.specs.Prelude.{◌≤◌};
 
+use crate::answers::Ruled;
 use crate::records::*;
 use print::show_numbers;
-use record::{Refusal, Verdict, Vertex};
+use record::Vertex;
 use std::{fmt, io};
-
-// What Table and Lookup answer.
-#[derive(Drop)]
-pub struct Ruled(Result<(), Refusal>);
-
-impl fmt::Display for Ruled {
-    fn fmt<W: fmt::Write>(&self, f: &mut fmt::Formatter<W>) -> fmt::Result {
-        match self.0 {
-            Ok(()) => write!(f, "accepted"),
-            Err(r) => write!(f, "refused {}", record::number_of(r)),
-        }
-    }
-}
-
-pub fn verdict(answer: Verdict) -> Ruled {
-    match answer {
-        Verdict::Accepted => Ruled(Ok(())),
-        Verdict::Refused(r) => Ruled(Err(r)),
-    }
-}
 
 // The lengths of the work slice and of the four lists.
 #[derive(Clone, Copy)]
@@ -82,7 +63,7 @@ fn table(rt: &impl Print, name: &str, bytes: &[u8], start: usize, lent: Lent) ->
     let counts = &mut third[..lent.counts];
     let heads = &mut fourth[..lent.heads];
     let answer = queries::table(bytes, Vertex(start), work, visits, parents, counts, heads);
-    println!(rt; "{name} table {start} {lent}: {}", verdict(answer))?;
+    println!(rt; "{name} table {start} {lent}: {}", Ruled(answer))?;
     print!(rt; "{name} visits:")?;
     show_numbers(rt, visits)?;
     print!(rt; "{name} parents:")?;
