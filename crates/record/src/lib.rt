@@ -32,8 +32,8 @@ use lists::Listing;
 #[derive(Clone, Copy)]
 pub struct Vertex(pub usize);
 
-// Why a call refuses, by the documents' numbers. No operation gives 7, `DoubledNeighbour`: a neighbour may stand several
-// times in a block.
+// Why a call refuses, by the documents' numbers. No operation gives 7, `DoubledNeighbour`: a neighbour may stand
+// several times in a block.
 #[derive(Clone, Copy, Debug, PartialEq, Eq)]
 pub enum Refusal {
     TooShort = 1,

@@ -7,8 +7,8 @@ ghost use Rattle.record.specs.Steps.{graph_from, Room};
 use super::Refusal;
 use super::lists::{Listing, try_lists};
 
-// In a room of so many cells, in the front parts of its arrays. The room is in this function's frame alone: so short lists
-// take a small one.
+// In a room of so many cells, in the front parts of its arrays. The room is in this function's frame alone: so short
+// lists take a small one.
 #[inline(never)]
 fn try_in<const STARTS: usize, const NBRS: usize, const REVERSE: usize, const NEXT: usize>(
     lists: &Listing,

@@ -37,8 +37,8 @@ fn unpack_by(
     Ok(())
 }
 
-// The same in a room of so many cells, in the front parts of its arrays. The room is in this function's frame alone: so a
-// small record takes a small one.
+// The same in a room of so many cells, in the front parts of its arrays. The room is in this function's frame alone: so
+// a small record takes a small one.
 #[inline(never)]
 fn unpack_in<const STARTS: usize, const NBRS: usize, const REVERSE: usize, const NEXT: usize>(
     laid: &LaidOut,

@@ -117,7 +117,8 @@ module _ {bytes : List ℕ} {n m : ℕ} (headed : Headed bytes n m) where
           go (suc k) h e = ap begins_with_zero (e ∙ ap (take (suc k)) (drop-cons (bits bytes) 28 false inside))
 
   -- and rule 4 is left
-  module _ {b : Bool} (tested : b ≡ (not (eqb (count (unary bytes)) (terminals bytes)) || begins_with_zero (unary bytes))) where
+  module _ {b : Bool}
+      (tested : b ≡ (not (eqb (count (unary bytes)) (terminals bytes)) || begins_with_zero (unary bytes))) where
     rule_last : first_broken (order_r bytes) ≡ first_broken (last bytes)
     unfolding record_length used_bits
     rule_last =

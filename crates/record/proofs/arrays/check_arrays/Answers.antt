@@ -9,5 +9,6 @@ invariant_of-try_rules c = record { divided = divided_of c.fill_arrays.ensures }
 pub returns : goal.returns
 returns c =
     let laid = c.args.laid.now in
-    let is_laid : Laid laid.layout.bytes.now laid.layout.n laid.layout.m = record { sound = laid.layout.sound; clear = laid.clear } in
+    let is_laid : Laid laid.layout.bytes.now laid.layout.n laid.layout.m =
+    record { sound = laid.layout.sound; clear = laid.clear } in
     (check_told is_laid c.fill_arrays.ensures c.try_rules.ensures, c.fill_arrays.ensures)
