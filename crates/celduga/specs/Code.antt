@@ -1,13 +1,19 @@
 -- The numbers that functions of the C interface return. One of 32 bits has the refusal's number, or 0, in its high
 -- half, and the value, or 0 where there is none, in its low half.
-use Rattle.std.specs.Prelude.{◌≡◌, List, ℕ, ◌+◌, ◌*◌, length}
-use Rattle.record.specs.Answers.{Answer, refused, answered}
+use Rattle.std.specs.Prelude.{◌≡◌, List, ℕ, ◌+◌, ◌*◌, length, Result, Ok, Err}
+use Rattle.record.specs.Answers.{Answer, refused, answered, number}
+use Rattle.record.specs.declared.Refusal.{Refusal}
 use Rattle.record.specs.Operations.{neighbours, neighbours_before}
 
 -- `low` is the low half for each value
 unfoldable pub code : {A : Type 0} → (A → ℕ) → Answer A → ℕ
 code low (refused k) = 65536 * k
 code low (answered a) = low a
+
+-- the same of what the code answers
+abbrev pub coded : {T : Type 0} → (T → ℕ) → Result T Refusal → ℕ
+coded low (Ok a) = low a
+coded low (Err r) = 65536 * number r
 
 -- ---- the low half of each kind of value
 

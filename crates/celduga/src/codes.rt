@@ -1,14 +1,73 @@
 // Answers as numbers of 32 bits, a refusal in the high half and a value in the low half; and a part as one of 64 bits.
-ghost use Rattle.std.specs.Prelude.{◌≡◌, ◌+◌, ◌*◌, ◌≤◌, ◌<◌};
+ghost use Rattle.std.specs.Prelude.{◌≡◌, IfOk, ℕ, ◌+◌, ◌*◌, ◌≤◌, ◌<◌};
 ghost use Rattle.bits.specs.Bits.{bit};
-ghost use Rattle.record.specs.Answers.{number, verdict, counted};
-ghost use Rattle.record.specs.Laws.Valued.{Small};
-ghost use Rattle.queries.specs.Answers.{above, or_zero, terminal, related, numbered};
-ghost use Rattle.queries.specs.Laws.Small.{SmallParent};
-ghost use Rattle.celduga.specs.Code.{code, nothing, itself, in_halves};
+ghost use Rattle.record.specs.Answers.{number};
+ghost use Rattle.queries.specs.Answers.{or_zero, terminal_or_none};
+ghost use Rattle.celduga.specs.Code.{coded, in_halves};
 
-use queries::{Above, Found, Numbered, Related};
-use record::{Counted, Part, Refusal, Verdict};
+use forest::Dfi;
+use record::{Part, Refusal, Vertex};
+
+// What an operation answers where it refuses nothing: `low` is its number in the low half.
+pub trait Value {
+    ghost low: { Self → ℕ };
+
+    fn low(self) -> u32
+        requires { low self < 65536 }
+        ensures { result ≡ low self };
+}
+
+impl Value for () {
+    ghost low = { λ _. 0 };
+
+    fn low(self) -> u32 {
+        0
+    }
+}
+
+impl Value for bool {
+    ghost low = { bit };
+
+    fn low(self) -> u32 {
+        u32::from(self)
+    }
+}
+
+impl Value for usize {
+    ghost low = { λ k. k };
+
+    fn low(self) -> u32 {
+        self as u32
+    }
+}
+
+impl Value for Vertex {
+    ghost low = { λ v. v.0 };
+
+    fn low(self) -> u32 {
+        self.0.low()
+    }
+}
+
+impl Value for Dfi {
+    ghost low = { λ d. d.0 };
+
+    fn low(self) -> u32 {
+        self.0.low()
+    }
+}
+
+// A parent, 0 for a root.
+impl Value for Option<Vertex> {
+    ghost low = { λ v. or_zero (terminal_or_none v) };
+
+    fn low(self) -> u32 {
+        match self {
+            None => 0,
+            Some(v) => v.low(),
+        }
+    }
+}
 
 // A refusal's number, in the high half.
 fn high(r: Refusal) -> u32
@@ -17,71 +76,14 @@ fn high(r: Refusal) -> u32
     65536 * record::number_of(r) as u32
 }
 
-// A value, in the low half.
-fn low(k: usize) -> u32
-    requires { k < 65536 }
-    ensures { result ≡ k }
+// An answer as one number.
+pub fn code<T: Value>(answer: Result<T, Refusal>) -> u32
+    requires { IfOk answer (λ a. T.low a < 65536) }
+    ensures { result ≡ coded T.low answer }
 {
-    k as u32
-}
-
-pub fn of_verdict(a: Verdict) -> u32
-    ensures { result ≡ code nothing (verdict a) }
-{
-    match a {
-        Verdict::Accepted => 0,
-        Verdict::Refused(r) => high(r),
-    }
-}
-
-pub fn of_counted(a: Counted) -> u32
-    requires { Small (counted a) }
-    ensures { result ≡ code itself (counted a) }
-{
-    match a {
-        Counted::Count(k) => low(k),
-        Counted::Refused(r) => high(r),
-    }
-}
-
-pub fn of_above(a: Above) -> u32
-    requires { SmallParent (above a) }
-    ensures { result ≡ code or_zero (above a) }
-{
-    match a {
-        Above::Root => 0,
-        Above::Parent(v) => low(v.0),
-        Above::Refused(r) => high(r),
-    }
-}
-
-pub fn of_found(a: Found) -> u32
-    requires { Small (terminal a) }
-    ensures { result ≡ code itself (terminal a) }
-{
-    match a {
-        Found::Terminal(v) => low(v.0),
-        Found::Refused(r) => high(r),
-    }
-}
-
-pub fn of_numbered(a: Numbered) -> u32
-    requires { Small (numbered a) }
-    ensures { result ≡ code itself (numbered a) }
-{
-    match a {
-        Numbered::Number(d) => low(d.0),
-        Numbered::Refused(r) => high(r),
-    }
-}
-
-pub fn of_related(a: Related) -> u32
-    ensures { result ≡ code bit (related a) }
-{
-    match a {
-        Related::Yes => 1,
-        Related::No => 0,
-        Related::Refused(r) => high(r),
+    match answer {
+        Ok(a) => a.low(),
+        Err(r) => high(r),
     }
 }
 

@@ -24,14 +24,14 @@ mod codes; // codes.rt: answers as numbers
 pub extern "C" fn celduga_check(bytes: &[u8]) -> u32
     ensures { result ≡ code nothing (check bytes.now) }
 {
-    codes::of_verdict(record::check(bytes))
+    codes::code(record::check(bytes))
 }
 
 #[unsafe(no_mangle)]
 pub extern "C" fn celduga_degree(bytes: &[u8], v: usize) -> u32
     ensures { result ≡ code itself (degree bytes.now v) }
 {
-    codes::of_counted(record::degree(bytes, Vertex(v)))
+    codes::code(record::degree(bytes, Vertex(v)))
 }
 
 #[unsafe(no_mangle)]
@@ -39,7 +39,7 @@ pub extern "C" fn celduga_unpack(bytes: &[u8], list: &mut [u16]) -> u32
     ensures { (result ≡ code nothing (unpack bytes.now list.old))
         × (list.new ≡ unpacked bytes.now list.old) }
 {
-    codes::of_verdict(record::unpack(bytes, list))
+    codes::code(record::unpack(bytes, list))
 }
 
 #[unsafe(no_mangle)]
@@ -47,7 +47,7 @@ pub extern "C" fn celduga_file(degrees: &[u16], neighbours: &[u16], bytes: &mut 
     ensures { (result ≡ code nothing (file degrees.now neighbours.now bytes.old))
         × (bytes.new ≡ filed degrees.now neighbours.now bytes.old) }
 {
-    codes::of_verdict(record::file(degrees, neighbours, bytes))
+    codes::code(record::file(degrees, neighbours, bytes))
 }
 
 // Where terminal v's part of an unpacked list of len numbers stands: how many come before it, and how many it has.
@@ -62,7 +62,7 @@ pub extern "C" fn celduga_neighbours(bytes: &[u8], len: usize, v: usize) -> u64
 pub extern "C" fn celduga_loop_figure(bytes: &[u8]) -> u32
     ensures { result ≡ code itself (loop_figure bytes.now) }
 {
-    codes::of_counted(forest::loop_figure(bytes))
+    codes::code(forest::loop_figure(bytes))
 }
 
 // ---- a record and its index
@@ -77,56 +77,56 @@ pub extern "C" fn celduga_build(
     ensures { (result ≡ code nothing (build bytes.now start work.old index.old))
         × (index.new ≡ built bytes.now start work.old index.old) }
 {
-    codes::of_verdict(forest::build(bytes, Vertex(start), work, index))
+    codes::code(forest::build(bytes, Vertex(start), work, index))
 }
 
 #[unsafe(no_mangle)]
 pub extern "C" fn celduga_parent(bytes: &[u8], index: &[u8], v: usize) -> u32
     ensures { result ≡ code or_zero (parent bytes.now index.now v) }
 {
-    codes::of_above(queries::parent(bytes, index, Vertex(v)))
+    codes::code(queries::parent(bytes, index, Vertex(v)))
 }
 
 #[unsafe(no_mangle)]
 pub extern "C" fn celduga_head(bytes: &[u8], index: &[u8], v: usize) -> u32
     ensures { result ≡ code itself (head bytes.now index.now v) }
 {
-    codes::of_found(queries::head(bytes, index, Vertex(v)))
+    codes::code(queries::head(bytes, index, Vertex(v)))
 }
 
 #[unsafe(no_mangle)]
 pub extern "C" fn celduga_ancestor(bytes: &[u8], index: &[u8], u: usize, v: usize) -> u32
     ensures { result ≡ code bit (ancestor bytes.now index.now u v) }
 {
-    codes::of_related(queries::ancestor(bytes, index, Vertex(u), Vertex(v)))
+    codes::code(queries::ancestor(bytes, index, Vertex(u), Vertex(v)))
 }
 
 #[unsafe(no_mangle)]
 pub extern "C" fn celduga_children(bytes: &[u8], index: &[u8], v: usize) -> u32
     ensures { result ≡ code itself (children bytes.now index.now v) }
 {
-    codes::of_counted(queries::children(bytes, index, Vertex(v)))
+    codes::code(queries::children(bytes, index, Vertex(v)))
 }
 
 #[unsafe(no_mangle)]
 pub extern "C" fn celduga_child(bytes: &[u8], index: &[u8], v: usize, j: usize) -> u32
     ensures { result ≡ code itself (child bytes.now index.now v j) }
 {
-    codes::of_found(queries::child(bytes, index, Vertex(v), j))
+    codes::code(queries::child(bytes, index, Vertex(v), j))
 }
 
 #[unsafe(no_mangle)]
 pub extern "C" fn celduga_visit(bytes: &[u8], index: &[u8], v: usize) -> u32
     ensures { result ≡ code itself (visit bytes.now index.now v) }
 {
-    codes::of_numbered(queries::visit(bytes, index, Vertex(v)))
+    codes::code(queries::visit(bytes, index, Vertex(v)))
 }
 
 #[unsafe(no_mangle)]
 pub extern "C" fn celduga_visited(bytes: &[u8], index: &[u8], i: usize) -> u32
     ensures { result ≡ code itself (visited bytes.now index.now i) }
 {
-    codes::of_found(queries::visited(bytes, index, Dfi(i)))
+    codes::code(queries::visited(bytes, index, Dfi(i)))
 }
 
 // ---- a list of terminals
@@ -145,7 +145,7 @@ pub extern "C" fn celduga_lookup(
         ≡ looked_up bytes.now index.now list.now
         (lists heads.old visits.old)) }
 {
-    codes::of_verdict(queries::lookup(bytes, index, list, heads, visits))
+    codes::code(queries::lookup(bytes, index, list, heads, visits))
 }
 
 // ---- all terminals at once
@@ -166,7 +166,7 @@ pub extern "C" fn celduga_table(
         ≡ tabled bytes.now start work.old
         (columns visits.old parents.old children.old heads.old)) }
 {
-    codes::of_verdict(queries::table(bytes, Vertex(start), work, visits, parents, children, heads))
+    codes::code(queries::table(bytes, Vertex(start), work, visits, parents, children, heads))
 }
 
 // ---- bit strings

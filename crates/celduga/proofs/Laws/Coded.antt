@@ -1,30 +1,34 @@
 -- From an operation's answer to the number that is returned.
-use mathlib.Core.Path.{◌≡◌, sym, ap, subst, ◌∙◌}
-use Prim.Native.Nat.{ℕ, ◌*◌, ◌<◌}
+use mathlib.Core.Path.{◌≡◌, refl, sym, ap, subst, ◌∙◌}
+use Prim.Native.Nat.{ℕ, ◌<◌}
 use native.Mathlib.Omega.{arith}
-use Rattle.record.specs.Answers.{Answer, refused, answered, number}
+use Rattle.std.specs.Prelude.{Result, Ok, Err, IfOk}
+use Rattle.record.specs.Answers.{Answer, answer, number}
 use Rattle.record.specs.declared.Refusal.{Refusal}
 use Rattle.record.specs.Laws.Settled.{number_bounds}
-use Rattle.record.specs.Laws.Valued.{Valued}
-use Rattle.celduga.specs.Code.{code}
+use Rattle.record.specs.Laws.Valued.{Valued, value_at}
+use Rattle.celduga.specs.Code.{code, coded}
 
 -- a refusal's number fits the high half
 pub number_small : (r : Refusal) → number r < 65536
 number_small r = omega (arith, (number_bounds r).1)
 
-module _ {A : Type 0} (low : A → ℕ) where
-  pub code_refused : {k r : ℕ} {a : Answer A} → refused k ≡ a → r ≡ 65536 * k → r ≡ code low a
+-- the call answers what the definition says, b
+module _ {T A : Type 0} (value : T → A) (low : A → ℕ) where
+  coded_answer : (r : Result T Refusal) → coded (λ t. low (value t)) r ≡ code low (answer value r)
   unfolding code
-  code_refused e h = h ∙ ap (code low) e
+  coded_answer (Ok a) = refl
+  coded_answer (Err k) = refl
 
-  pub code_answered : {x : A} {r : ℕ} {a : Answer A} → answered x ≡ a → r ≡ low x → r ≡ code low a
-  unfolding code
-  code_answered e h = h ∙ ap (code low) e
+  pub code_call : (r : Result T Refusal) {b : Answer A} {k : ℕ} → answer value r ≡ b
+      → k ≡ coded (λ t. low (value t)) r → k ≡ code low b
+  code_call r e h = h ∙ coded_answer r ∙ ap (code low) e
 
-  -- the answer of the call is the definition's
-  pub code_call : {a b : Answer A} {r : ℕ} → a ≡ b → r ≡ code low a → r ≡ code low b
-  code_call e h = h ∙ ap (code low) e
+  fits_answer : (r : Result T Refusal) → Valued (λ a. low a < 65536) (answer value r)
+      → IfOk r (λ t. low (value t) < 65536)
+  fits_answer (Ok a) v = value_at v refl
+  fits_answer (Err k) v = tt
 
-module _ {A : Type 0} {P : A → Type 0} where
-  pub valued_call : {a b : Answer A} → a ≡ b → Valued P b → Valued P a
-  valued_call e s = subst (Valued P) (sym e) s
+  pub fits_call : (r : Result T Refusal) {b : Answer A} → answer value r ≡ b → Valued (λ a. low a < 65536) b
+      → IfOk r (λ t. low (value t) < 65536)
+  fits_call r e v = fits_answer r (subst (Valued (λ a. low a < 65536)) (sym e) v)

@@ -4,7 +4,5 @@ use Rattle.celduga.specs.Code.{nothing}
 use Rattle.celduga.proofs.celduga_build.Goals as goal
 
 pub returns : goal.returns
-returns c = (
-  code_call nothing c.build.ensures.0 c.of_verdict.ensures,
-  c.build.ensures.1,
-)
+unfolding nothing
+returns c = (code_call (λ u. u) nothing c.build.result c.build.ensures.0 c.code.ensures, c.build.ensures.1)

@@ -4,4 +4,5 @@ use Rattle.celduga.specs.Code.{nothing}
 use Rattle.celduga.proofs.celduga_check.Goals as goal
 
 pub returns : goal.returns
-returns c = code_call nothing c.check.ensures c.of_verdict.ensures
+unfolding nothing
+returns c = code_call (λ u. u) nothing c.check.result c.check.ensures c.code.ensures

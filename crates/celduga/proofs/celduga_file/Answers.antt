@@ -4,7 +4,5 @@ use Rattle.celduga.specs.Code.{nothing}
 use Rattle.celduga.proofs.celduga_file.Goals as goal
 
 pub returns : goal.returns
-returns c = (
-  code_call nothing c.file.ensures.0 c.of_verdict.ensures,
-  c.file.ensures.1,
-)
+unfolding nothing
+returns c = (code_call (λ u. u) nothing c.file.result c.file.ensures.0 c.code.ensures, c.file.ensures.1)

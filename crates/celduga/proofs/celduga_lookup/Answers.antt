@@ -4,6 +4,7 @@ use Rattle.celduga.specs.Code.{nothing}
 use Rattle.celduga.proofs.celduga_lookup.Goals as goal
 
 pub returns : goal.returns
+unfolding nothing
 returns c =
-    let lookup = c.lookup in
-    (code_call nothing lookup.ensures.answers c.of_verdict.ensures, lookup.ensures.leaves)
+    let done = c.lookup.ensures in
+    (code_call (λ u. u) nothing c.lookup.result done.answers c.code.ensures, done.leaves)

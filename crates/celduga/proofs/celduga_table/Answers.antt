@@ -4,6 +4,7 @@ use Rattle.celduga.specs.Code.{nothing}
 use Rattle.celduga.proofs.celduga_table.Goals as goal
 
 pub returns : goal.returns
+unfolding nothing
 returns c =
-    let table = c.table in
-    (code_call nothing table.ensures.answers c.of_verdict.ensures, table.ensures.leaves)
+    let done = c.table.ensures in
+    (code_call (λ u. u) nothing c.table.result done.answers c.code.ensures, done.leaves)

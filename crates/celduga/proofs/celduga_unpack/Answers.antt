@@ -4,7 +4,5 @@ use Rattle.celduga.specs.Code.{nothing}
 use Rattle.celduga.proofs.celduga_unpack.Goals as goal
 
 pub returns : goal.returns
-returns c = (
-  code_call nothing c.unpack.ensures.0 c.of_verdict.ensures,
-  c.unpack.ensures.1,
-)
+unfolding nothing
+returns c = (code_call (λ u. u) nothing c.unpack.result c.unpack.ensures.0 c.code.ensures, c.unpack.ensures.1)
