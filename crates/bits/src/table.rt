@@ -3,7 +3,7 @@ ghost use Rattle.std.specs.Prelude.{◌≡◌, ◌<◌, ◌≤◌};
 ghost use Rattle.bits.specs.Bits.{to_bits, select};
 
 // Entry 8·b + k − 1: the place, 1 to 8, of the k-th one of byte b, or 0 where b has fewer than k ones.
-const PLACES: [u8; 2048] = [
+static PLACES: [u8; 2048] = [
     0, 0, 0, 0, 0, 0, 0, 0, // byte 0x00
     8, 0, 0, 0, 0, 0, 0, 0, // byte 0x01
     7, 0, 0, 0, 0, 0, 0, 0, // byte 0x02
