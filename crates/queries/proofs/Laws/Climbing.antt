@@ -10,6 +10,8 @@ use native.Mathlib.Omega.{arith}
 use borrow.Author.Tests.{eq-eqb, ne_eqb}
 use lib.Dec.{ltb}
 use lib.ListN.{length, get_or}
+use Rattle.std.specs.Prelude.{Result, Ok}
+use Rattle.std.specs.Prelude as code
 use Rattle.bits.specs.Bits.{count, select}
 use Rattle.bits.specs.Laws.Select.{select_bounds}
 use Rattle.graph.specs.Graph.{Blocks, target}
@@ -20,12 +22,14 @@ use Rattle.record.specs.Record.{unary, blocks}
 use Rattle.record.specs.Starts.{starts_of}
 use Rattle.record.specs.Answers.{refused, answered}
 use Rattle.record.specs.Steps.{Sound}
+use Rattle.record.specs.declared.Refusal.{Refusal}
 use Rattle.record.specs.Laws.Layout.{starts_count}
 use Rattle.record.specs.Laws.Sounded.{sound_shaped, sound_vertices}
 use Rattle.queries.specs.View.{View, view_by, block_marks, section_of}
 use Rattle.queries.specs.Queries.{Step, stuck, top, rise, step_by, step_up}
 use Rattle.queries.specs.Queries.{head_by, head_next, head_of, ancestor_by, ancestor_next, ancestor_of}
-use Rattle.queries.specs.Steps.{Beside, risen}
+use Rattle.queries.specs.Steps.{Beside, risen, step_of}
+use Rattle.queries.specs.declared.climbs.Rise.{Rise}
 use Rattle.queries.specs.declared.indexed.Indexed.{Indexed}
 use Rattle.queries.specs.Laws.Inside.{Inside, step_inside}
 use Rattle.queries.proofs.Laws.Ones.{part_length, part_bit}
@@ -61,6 +65,15 @@ rise_told top e = absurd (let z : ◌≡◌ {A = ℕ} 0 1 = cc in omega arith)
 rise_told (rise i q) {j} {p} e =
     let z : ◌≡◌ {A = ℕ × ℕ} (j, p) (i, q) = cc in
     ap₂ rise (ap (λ (x : ℕ × ℕ). x.0) z) (ap (λ (x : ℕ × ℕ). x.1) z)
+
+-- the same, of the code's results
+module _ {r : Result (code.Option Rise) Refusal} {o : code.Option Rise} {s : Step} (e : r ≡ Ok o)
+    (t : step_of r ≡ risen s) where
+  pub top_read : o ≡ code.None → top ≡ s
+  top_read f = top_told s (sym (ap step_of (e ∙ ap Ok f)) ∙ t)
+
+  pub rise_read : {x : Rise} → o ≡ code.Some x → rise x.at x.to ≡ s
+  rise_read f = rise_told s (sym (ap step_of (e ∙ ap Ok f)) ∙ t)
 
 -- ---- a climb
 

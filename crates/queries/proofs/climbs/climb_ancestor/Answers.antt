@@ -4,9 +4,9 @@ use mathlib.Core.Logic.{inl}
 use mathlib.Core.Path.{◌≡◌, sym, ap, ◌∙◌}
 use native.Mathlib.Omega.{arith}
 use Rattle.std.specs.Prelude.{Ok}
-use Rattle.std.proofs.lemmas.Result.{err_from_is_err_and}
 use Rattle.record.specs.Answers.{Answer, refused}
 use Rattle.record.specs.Laws.Sounded.{sound_vertices}
+use Rattle.record.specs.Laws.Told.{exit_told}
 use Rattle.queries.specs.Queries.{ancestor_next, ancestor_of}
 use Rattle.queries.specs.Seen.{seen}
 use Rattle.queries.specs.Steps.{turn_of}
@@ -28,18 +28,18 @@ stop c =
 
 pub returns-in_err-answer : goal.returns-in_err-answer
 returns-in_err-answer c =
-    let p = err_from_is_err_and c.from_residual.result c.from_residual.ensures.1 in
-    rw (p.1, p.2) (stop (goal.at.returns-in_err-answer c).After-ancestor_turn c.in_err-answer.ensures)
+    exit_told _ _ _ c.from_residual.ensures.1
+    ∙ stop (goal.at.returns-in_err-answer c).After-ancestor_turn c.in_err-answer.ensures
 
 pub returns-in-Break : goal.returns-in-Break
 returns-in-Break c =
-    let e = sym (ap (turn_of) (c.in_ok-answer.was ∙ ap Ok c.in-Break.is)) ∙ c.ancestor_turn.ensures in
+    let e = sym (ap turn_of (c.in_ok-answer.was ∙ ap Ok c.in-Break.is)) ∙ c.ancestor_turn.ensures in
     stop (goal.at.returns-in-Break c).After-ancestor_turn e
 
 pub loop-preserved : goal.loop-preserved
 loop-preserved c =
     let i = c.args.a.now.indexed in
-    let e = sym (ap (turn_of) (c.in_ok-answer.was ∙ ap Ok c.in-Continue.is)) ∙ c.ancestor_turn.ensures in (
+    let e = sym (ap turn_of (c.in_ok-answer.was ∙ ap Ok c.in-Continue.is)) ∙ c.ancestor_turn.ensures in (
       omega (arith, ancestor_inside (seen i) c.args.x c.loop.u e, sound_vertices i.layout.sound),
       climb_on (ancestor_next (seen i) c.args.x) (refused 12) i.layout.n c.loop.counter c.loop.u c.loop.invariant.1 c.loop-test.true e,
     )

@@ -5,9 +5,9 @@ use Prim.Native.Nat.{ℕ}
 use native.Mathlib.Numerals.{add-one}
 use native.Mathlib.Omega.{arith}
 use Rattle.std.specs.Prelude.{Ok}
-use Rattle.std.proofs.lemmas.Result.{err_from_is_err_and}
 use Rattle.record.specs.Answers.{Answer, refused, answered}
 use Rattle.record.specs.Laws.Sounded.{sound_vertices}
+use Rattle.record.specs.Laws.Told.{exit_told}
 use Rattle.queries.specs.Queries.{head_next, head_of}
 use Rattle.queries.specs.Seen.{seen}
 use Rattle.queries.specs.Steps.{move_of}
@@ -20,9 +20,6 @@ loop-init c =
     let i = c.args.a.now.indexed in
     (c.requires, head_begin i.layout.sound i.index.now c.args.v c.requires)
 
-pub head_move-requires : goal.head_move-requires
-head_move-requires c = c.loop.invariant.0
-
 -- the climb ends with this step
 stop : (c : After-head_move) {a : Answer ℕ} → let w = seen c.args.a.now.indexed in
     inl a ≡ head_next w c.loop.u → a ≡ head_of w c.args.v
@@ -32,11 +29,8 @@ stop c =
 
 pub returns-in_err-head_move : goal.returns-in_err-head_move
 returns-in_err-head_move c =
-    let p = err_from_is_err_and c.from_residual.result c.from_residual.ensures.1 in
-    rw (p.1, p.2) (stop (goal.at.returns-in_err-head_move c).After-head_move c.in_err-head_move.ensures)
-
-pub overflow_add-result : goal.overflow_add-result
-overflow_add-result c = omega (arith, c.loop.invariant.0, c.args.a.now.indexed.framed.n_fits)
+    exit_told _ _ _ c.from_residual.ensures.1
+    ∙ stop (goal.at.returns-in_err-head_move c).After-head_move c.in_err-head_move.ensures
 
 pub returns-in-None : goal.returns-in-None
 returns-in-None c =
