@@ -8,7 +8,7 @@ use Rattle.std.specs.Prelude as code
 use Rattle.std.specs.declared.ops.ControlFlow.{ControlFlow}
 use Rattle.std.proofs.Common.{ap, inl, inr}
 use Rattle.std.proofs.Math.Option.{Option, none, some}
-use Rattle.record.specs.Answers.{Answer, refused, answered, answer}
+use Rattle.record.specs.Answers.{Answer, refused, answered}
 use Rattle.record.specs.declared.Refusal.{Refusal}
 use Rattle.record.specs.declared.Vertex.{Vertex}
 use Rattle.record.specs.Laws.Settled.{named, named_number, settled, result_of, answer_settles}
