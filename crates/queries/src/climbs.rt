@@ -23,7 +23,9 @@ pub struct Rise {
     pub to: usize,
 }
 
-// The step up by P from vertex u, whose block has the fields from a up to b: to the parent, or none past a root.
+// The step up by P from vertex u, whose block has the fields from a up to b: to the parent, or none past a root. A climb
+// of many steps needs it inlined.
+#[inline(always)]
 pub fn step_up(i: &Indexed, u: usize, a: usize, b: usize) -> Result<Option<Rise>, Refusal>
     requires { (u < i.now.layout.n) × (a ≡ get_or (starts_of (unary i.now.layout.bytes.now)) u 0)
         × (b ≡ get_or (starts_of (unary i.now.layout.bytes.now)) (u + 1) 0) }
