@@ -95,7 +95,8 @@ module _ (bytes index : List ℕ) (u v : ℕ) (i : Indexed)
   tested : out_of_range (terminals bytes) v ≡ b
   tested = sym (ap (λ (k : ℕ). out_of_range k v) (is_n bytes index u i e)) ∙ t
 
-  answers : {a : Answer Bool} → a ≡ tried_then last (ancestor_of (seen i) (u - 1) (v - 1)) → a ≡ ancestor bytes index u v
+  answers : {a : Answer Bool} → a ≡ tried_then last (ancestor_of (seen i) (u - 1) (v - 1))
+      → a ≡ ancestor bytes index u v
   unfolding ancestor ancestor_rules
   answers a =
       query_answered bytes index u i e (λ (w : View). tried_then last (ancestor_of w (u - 1) (v - 1))) a

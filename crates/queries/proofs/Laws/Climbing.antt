@@ -261,7 +261,8 @@ module _ {bytes : List ℕ} {n m : ℕ} (o : Sound bytes n m) where
   starts_long e = ap length e ∙ starts_count (sound_shaped o) ∙ ap (λ (x : ℕ). x + 1) (sym o.is_n)
 
   module _ (index : List ℕ) (v : ℕ) (h : v < n) where
-    pub head_begin : climb (head_next (view_by n m bytes index)) (refused 12) (n - 0) v ≡ head_of (view_by n m bytes index) v
+    pub head_begin : climb (head_next (view_by n m bytes index)) (refused 12) (n - 0) v
+        ≡ head_of (view_by n m bytes index) v
     unfolding head_of
     head_begin =
         let next = head_next (view_by n m bytes index) in
@@ -269,7 +270,8 @@ module _ {bytes : List ℕ} {n m : ℕ} (o : Sound bytes n m) where
         (ap (λ (k : ℕ). walk next (refused 12) (k - 1) v) (sym (sound_vertices o)))
 
     pub ancestor_begin : (x : ℕ)
-        → climb (ancestor_next (view_by n m bytes index) x) (refused 12) (n - 0) v ≡ ancestor_of (view_by n m bytes index) x v
+        → climb (ancestor_next (view_by n m bytes index) x) (refused 12) (n - 0) v
+        ≡ ancestor_of (view_by n m bytes index) x v
     unfolding ancestor_of
     ancestor_begin x =
         let next = ancestor_next (view_by n m bytes index) x in

@@ -48,7 +48,8 @@ module _ (bytes index : List ℕ) (l : Layout) (same : l.bytes.now ≡ bytes) {x
       (told (both b index)
       (append_kept (order_numbered b) (tenth b index) l.sound.kept ∙ first_broken_lem 10 [] (ap not other)))
 
-  pub index_fits : length index ≡ x → answered (both l.bytes.now index) ≡ tried (beside_rules bytes index) (both bytes index)
+  pub index_fits : length index ≡ x
+      → answered (both l.bytes.now index) ≡ tried (beside_rules bytes index) (both bytes index)
   index_fits h =
       let o = l.sound in
       let f : Framed index l.n l.m = record { n_fits = o.n_fits; m_fits = o.m_fits; sized = h ∙ e } in

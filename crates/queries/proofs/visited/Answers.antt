@@ -16,7 +16,8 @@ returns-in_err-asked c =
     ∙ query_refused args.bytes.now args.index.now args.i.0 _ c.in_err-asked.ensures
 
 pub visited_in-requires : goal.visited_in-requires
-visited_in-requires c = query_ranged c.args.bytes.now c.args.index.now c.args.i.0 c.in_ok-asked.asked c.in_ok-asked.ensures
+visited_in-requires c =
+    query_ranged c.args.bytes.now c.args.index.now c.args.i.0 c.in_ok-asked.asked c.in_ok-asked.ensures
 
 pub returns : goal.returns
 unfolding visited

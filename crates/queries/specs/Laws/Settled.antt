@@ -72,7 +72,8 @@ rise_back (some p) = code.Some (record { at = p.0; to = p.1 })
 pub step_back : Answer (Option (ℕ × ℕ)) → Result (code.Option Rise) Refusal
 step_back = result_of rise_back
 
-pub step_settles : (r : Result (code.Option Rise) Refusal) {a : Answer (Option (ℕ × ℕ))} → step_of r ≡ a → r ≡ step_back a
+pub step_settles : (r : Result (code.Option Rise) Refusal) {a : Answer (Option (ℕ × ℕ))} → step_of r ≡ a
+    → r ≡ step_back a
 unfolding step_back rise_back
 step_settles = answer_settles rise_or_none rise_back again
   where

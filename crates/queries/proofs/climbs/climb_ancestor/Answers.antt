@@ -24,7 +24,8 @@ stop : (c : After-ancestor_turn) {a : Answer Bool} → let w = seen c.args.a.now
     inl a ≡ ancestor_next w c.args.x c.loop.u → a ≡ ancestor_of w c.args.x c.args.v
 stop c =
     let i = c.args.a.now.indexed in
-    climb_stop (ancestor_next (seen i) c.args.x) (refused 12) i.layout.n c.loop.counter c.loop.u c.loop.invariant.1 c.loop-test.true
+    let l = c.loop in
+    climb_stop (ancestor_next (seen i) c.args.x) (refused 12) i.layout.n l.counter l.u l.invariant.1 c.loop-test.true
 
 pub returns-in_err-answer : goal.returns-in_err-answer
 returns-in_err-answer c =
@@ -41,10 +42,12 @@ loop-preserved c =
     let i = c.args.a.now.indexed in
     let e = sym (ap turn_of (c.in_ok-answer.was ∙ ap Ok c.in-Continue.is)) ∙ c.ancestor_turn.ensures in (
       omega (arith, ancestor_inside (seen i) c.args.x c.loop.u e, sound_vertices i.layout.sound),
-      climb_on (ancestor_next (seen i) c.args.x) (refused 12) i.layout.n c.loop.counter c.loop.u c.loop.invariant.1 c.loop-test.true e,
+      climb_on (ancestor_next (seen i) c.args.x) (refused 12) i.layout.n c.loop.counter c.loop.u c.loop.invariant.1
+          c.loop-test.true e,
     )
 
 pub returns : goal.returns
 returns c =
     let i = c.args.a.now.indexed in
-    climb_late (ancestor_next (seen i) c.args.x) (refused 12) i.layout.n c.loop.counter c.loop.u c.loop.invariant.1 c.loop-test.false
+    let l = c.loop in
+    climb_late (ancestor_next (seen i) c.args.x) (refused 12) i.layout.n l.counter l.u l.invariant.1 c.loop-test.false

@@ -25,7 +25,8 @@ stop : (c : After-head_move) {a : Answer ℕ} → let w = seen c.args.a.now.inde
     inl a ≡ head_next w c.loop.u → a ≡ head_of w c.args.v
 stop c =
     let i = c.args.a.now.indexed in
-    climb_stop (head_next (seen i)) (refused 12) i.layout.n c.loop.counter c.loop.u c.loop.invariant.1 c.loop-test.true
+    let l = c.loop in
+    climb_stop (head_next (seen i)) (refused 12) i.layout.n l.counter l.u l.invariant.1 c.loop-test.true
 
 pub returns-in_err-head_move : goal.returns-in_err-head_move
 returns-in_err-head_move c =
@@ -42,10 +43,12 @@ loop-preserved c =
     let i = c.args.a.now.indexed in
     let e = sym (ap (move_of c.loop.u) (c.in_ok-head_move.was ∙ ap Ok c.in-Some.is)) ∙ c.head_move.ensures in (
       omega (arith, head_inside (seen i) c.loop.u e, sound_vertices i.layout.sound),
-      climb_on (head_next (seen i)) (refused 12) i.layout.n c.loop.counter c.loop.u c.loop.invariant.1 c.loop-test.true e,
+      climb_on (head_next (seen i)) (refused 12) i.layout.n c.loop.counter c.loop.u c.loop.invariant.1
+          c.loop-test.true e,
     )
 
 pub returns : goal.returns
 returns c =
     let i = c.args.a.now.indexed in
-    climb_late (head_next (seen i)) (refused 12) i.layout.n c.loop.counter c.loop.u c.loop.invariant.1 c.loop-test.false
+    let l = c.loop in
+    climb_late (head_next (seen i)) (refused 12) i.layout.n l.counter l.u l.invariant.1 c.loop-test.false

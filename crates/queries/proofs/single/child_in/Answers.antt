@@ -52,7 +52,8 @@ field-t-requires c = (child_room (chosen (goal.at.field-t-requires c).After-nth_
 
 pub returns-then-i-t : goal.returns-then-i-t
 returns-then-i-t c =
-    stray_told (chosen (goal.at.returns-then-i-t c).After-nth_child-p) c.if-p-eq0.false c.field-t.ensures.0 c.if-i-t.true
+    stray_told (chosen (goal.at.returns-then-i-t c).After-nth_child-p) c.if-p-eq0.false c.field-t.ensures.0
+    c.if-i-t.true
 
 pub returns : goal.returns
 returns c =
