@@ -43,7 +43,15 @@ fn list(rt: &HostRuntime, bytes: &[u8]) -> Result<io::Result<()>, Refusal> {
     let parents = &mut parents[..n];
     let counts = &mut counts[..n];
     let heads = &mut heads[..n];
-    queries::table(layout.bytes, first_start(n), work, visits, parents, counts, heads)?;
+    queries::table(
+        layout.bytes,
+        first_start(n),
+        work,
+        visits,
+        parents,
+        counts,
+        heads,
+    )?;
     let loops = figure(&layout, parents);
     let listing = Listing {
         visits,

@@ -33,15 +33,14 @@ impl Case<'_> {
     fn look_up(&self, rt: &impl Print, list: &[u16], heads: usize, visits: usize) -> io::Result<()>
         requires { (heads ≤ 513) × (visits ≤ 513) }
     {
-        let name = self.name;
-        let list = Front(list);
         let mut first = [901; 513];
         let mut second = [911; 513];
         let heads = &mut first[..heads];
         let visits = &mut second[..visits];
-        print!(rt; "{name} lookup{list} to {} {}: ", heads.len(), visits.len())?;
-        let answer = Ruled(queries::lookup(self.bytes, self.index, list.0, heads, visits));
-        println!(rt; "{answer},{},{}", Front(heads), Front(visits))
+        let answer = Ruled(queries::lookup(self.bytes, self.index, list, heads, visits));
+        print!(rt; "{} lookup{} to", self.name, Front(list))?;
+        print!(rt; " {} {}: {answer}", heads.len(), visits.len())?;
+        println!(rt; ",{},{}", Front(heads), Front(visits))
     }
 
     // All terminals of a record of six; some again; none; numbers that are no terminal last, in front and among others;
