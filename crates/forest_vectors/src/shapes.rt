@@ -1,6 +1,6 @@
 // The largest records: shapes of 4,096 terminals, whose bytes are packed by formula. Terminals count from 0 here, as
 // they do in the fields.
-ghost use Rattle.std.specs.Prelude.{◌+◌, ◌*◌, ◌≤◌, ◌<◌};
+ghost use Rattle.std.specs.Prelude.{◌+◌, ◌*◌, ◌^◌, ◌≤◌, ◌<◌};
 
 #[derive(Clone, Copy)]
 pub enum Shape {
@@ -145,32 +145,19 @@ fn neighbour(s: Shape, v: usize, j: usize) -> usize
     }
 }
 
-// Bit i, where the bytes hold it. It is a zero before.
-fn put_bit(bytes: &mut [u8], i: usize, on: bool) {
-    if on {
-        if i / 8 < bytes.len() {
-            bits::fields::set_bit(bytes, i);
-        }
+// Bit i becomes a one, where the bytes hold it.
+fn put_one(bytes: &mut [u8], i: usize) {
+    if i / 8 < bytes.len() {
+        bits::fields::set_bit(bytes, i);
     }
 }
 
-// The field from bit `start` on, where the bytes hold it.
-fn put_field(bytes: &mut [u8], start: usize, v: usize)
-    requires { (start < 4294967296) × (v < 4096) }
+// The field of WIDTH bits from bit `start` on becomes v, where the bytes hold it.
+fn put_field<const WIDTH: usize>(bytes: &mut [u8], start: usize, v: usize)
+    requires { (9 ≤ WIDTH) × (WIDTH ≤ 16) × (start < 2 ^ 32) × (v < 2 ^ WIDTH) }
 {
-    if (start + 11) / 8 < bytes.len() {
-        bits::fields::write::<12>(bytes, start, v);
-    }
-}
-
-// The number x, in `width` bits from bit `start` on.
-fn put_number(bytes: &mut [u8], start: usize, width: usize, x: usize)
-    requires { (start ≤ 13) × (width ≤ 15) }
-{
-    let mut i = 0;
-    while i < width {
-        put_bit(bytes, start + i, (x >> (width - 1 - i)) & 1 == 1);
-        i += 1;
+    if (start + (WIDTH - 1)) / 8 < bytes.len() {
+        bits::fields::write::<WIDTH>(bytes, start, v);
     }
 }
 
@@ -182,23 +169,19 @@ fn put_block(bytes: &mut [u8], s: Shape, v: usize, p: usize) -> usize
 {
     let fields = 28 + (4096 + 2 * wires(s)) + 12 * p;
     let d = degree(s, v);
-    put_bit(bytes, 28 + v + p, true);
-    let mut j = 0;
-    while j < d {
-        put_field(bytes, fields + 12 * j, neighbour(s, v, j));
-        j += 1;
+    put_one(bytes, 28 + v + p);
+    for j in 0..d {
+        put_field::<12>(bytes, fields + 12 * j, neighbour(s, v, j));
     }
     p + d
 }
 
 // The record of a shape, over bytes that are zeros.
 pub fn pack(bytes: &mut [u8], s: Shape) {
-    put_number(bytes, 0, 13, 4096);
-    put_number(bytes, 13, 15, wires(s));
-    let mut v = 0;
+    put_field::<13>(bytes, 0, 4096);
+    put_field::<15>(bytes, 13, wires(s));
     let mut p = 0;
-    while v < 4096 {
+    for v in 0..4096 {
         p = put_block(bytes, s, v, p);
-        v += 1;
     }
 }
