@@ -1,12 +1,11 @@
 -- What contracts say over a graph in two arrays.
 --   held                            the graph that they hold
---   hand_number                     how `Searching` has what is at hand
 --   SearchingIn                     where the search of that graph stands
 --   Underway                        the same, for some roots, starts that are still to try, and steps that are left
 --   StartTried, NextTried, StepTaken   what one function of the search does
 --   IsLeft                          something is left to do
 --   Holds                           a buffer is the index, for every forest that the work slice shows
-use Rattle.std.specs.Prelude.{◌≡◌, Option, None, Some, List, ◌∷◌, ℕ, suc, ◌-◌, ◌<◌}
+use Rattle.std.specs.Prelude.{◌≡◌, List, ◌∷◌, ℕ, suc, ◌-◌, ◌<◌}
 use Rattle.graph.specs.Graph.{Blocks}
 use Rattle.graph.specs.Search.{Forest, count_up}
 use Rattle.adjacency.specs.Arrays.{cut}
@@ -20,16 +19,10 @@ use Rattle.forest.specs.declared.search.At.{At}
 abbrev pub held : Graph → Blocks
 held g = cut g.starts.now g.nbrs.now
 
--- 0, or 1 + the vertex
-abbrev pub hand_number : Option ℕ → ℕ
-hand_number None = 0
-hand_number (Some u) = suc u
+abbrev pub SearchingIn : Graph → List ℕ → List ℕ → List ℕ → ℕ → ℕ → ℕ → Type 0
+SearchingIn g roots todo work left cur k = Searching (held g) roots todo g.starts.now g.n g.s work left cur k
 
-abbrev pub SearchingIn : Graph → List ℕ → List ℕ → List ℕ → ℕ → Option ℕ → ℕ → Type 0
-SearchingIn g roots todo work left cur k =
-    Searching (held g) roots todo g.starts.now g.n g.s work left (hand_number cur) k
-
-pub record Underway (g : Graph) (work : List ℕ) (cur : Option ℕ) (k : ℕ) : Type 0 where
+pub record Underway (g : Graph) (work : List ℕ) (cur k : ℕ) : Type 0 where
   pub roots : List ℕ
   pub todo : List ℕ
   pub left : ℕ
@@ -39,19 +32,19 @@ pub record Underway (g : Graph) (work : List ℕ) (cur : Option ℕ) (k : ℕ) :
 abbrev pub StartTried : Graph → List ℕ → List ℕ → ℕ → ℕ → Hand → Type 0
 StartTried g work next v k hand =
     (roots todo : List ℕ) (left : ℕ)
-    → SearchingIn g roots (v ∷ todo) work left None k
+    → SearchingIn g roots (v ∷ todo) work left 0 k
     → SearchingIn g roots todo next (left - 1) hand.cur hand.k
 
 -- the vertex u at hand goes on, whatever the roots and the starts are
 abbrev pub NextTried : Graph → List ℕ → List ℕ → ℕ → ℕ → Hand → Type 0
 NextTried g work next u k hand =
     (roots todo : List ℕ) (left : ℕ)
-    → SearchingIn g roots todo work left (Some u) k
+    → SearchingIn g roots todo work left (suc u) k
     → SearchingIn g roots todo next (left - 1) hand.cur hand.k
 
 -- a vertex is at hand, or vertex i is one that is still to try
 abbrev pub IsLeft : ℕ → ℕ → Hand → Type 0
-IsLeft n i hand = hand.cur ≡ None → i < n
+IsLeft n i hand = hand.cur ≡ 0 → i < n
 
 -- one or the other, where the vertices from i on are still to try
 abbrev pub StepTaken : Graph → List ℕ → List ℕ → ℕ → Hand → At → Type 0

@@ -1,6 +1,7 @@
 -- What Build answers, the index buffer that it leaves, and the loop figure (document 01, "Operations and their
 -- answers"; the start, and the figure where there are several looms, are document 02's).
-use Rattle.std.specs.Prelude.{◌≡◌, Bool, not, List, [], ◌∷◌, ◌++◌, ℕ, zero, suc, ◌+◌, ◌-◌, ◌*◌, eqb, ltb, length, get_or}
+use Rattle.std.specs.Prelude.{◌≡◌, Bool, not, List, [], ◌∷◌, ◌++◌, ℕ, zero, suc, ◌+◌, ◌-◌, ◌*◌, eqb, ltb}
+use Rattle.std.specs.Prelude.{length, get_or}
 use Rattle.graph.specs.Search.{forest}
 use Rattle.graph.specs.Forest.{roots}
 use Rattle.graph.specs.Counts.{when, sum}

@@ -9,10 +9,9 @@
 --   cells_of             the parts as the arrays of a search program
 --   Tied                the cells stand for the next positions and the slots
 --   Searching           where the search stands, for a list of roots and the starts that are still to try
---   Begun, Entering     what one function of the search does
---   NextPlace           the next place of a block that leads to an unvisited vertex, if there is one
+--   Begun, Entering, PassedTo   what one function of the search does
 --   Searched            the search is done: the parts are the forest's
-use Rattle.std.specs.Prelude.{◌≡◌, List, ℕ, zero, suc, ◌+◌, ◌*◌, ◌/◌, ◌≤◌, ◌<◌, Option, MatchOption, length, get_or}
+use Rattle.std.specs.Prelude.{◌≡◌, List, ℕ, zero, suc, ◌+◌, ◌*◌, ◌/◌, ◌≤◌, ◌<◌, length, get_or}
 use Rattle.graph.specs.Graph.{Blocks}
 use Rattle.graph.specs.Search.{Forest, all, search}
 use Rattle.graph.specs.Forest.{number, vertex_at, parent}
@@ -88,16 +87,11 @@ abbrev pub AllVisited : List ℕ → ℕ → List ℕ → ℕ → ℕ → Type 0
 AllVisited nbrs s work from p =
     (q : ℕ) → from ≤ q → q < p → get_or work (2 * s + get_or nbrs q 0) 0 ≡ 0 → ⊥
 
--- p is the first of them, before `end`, that leads to an unvisited one
-pub record FirstUnvisited (nbrs : List ℕ) (s : ℕ) (work : List ℕ) (from end p : ℕ) : Type 0 where
+-- and p, where it is before `end`, to an unvisited one
+pub record PassedTo (nbrs : List ℕ) (s : ℕ) (work : List ℕ) (from end p : ℕ) : Type 0 where
   pub low : from ≤ p
-  pub high : p < end
   pub visited : AllVisited nbrs s work from p
-  pub unvisited : get_or work (2 * s + get_or nbrs p 0) 0 ≡ 0
-
-abbrev pub NextPlace : List ℕ → ℕ → List ℕ → ℕ → ℕ → Option ℕ → Type 0
-NextPlace nbrs s work from end place =
-    MatchOption place (AllVisited nbrs s work from end) (FirstUnvisited nbrs s work from end)
+  pub stops : p < end → get_or work (2 * s + get_or nbrs p 0) 0 ≡ 0
 
 -- ---- the search is done
 

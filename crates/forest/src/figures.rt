@@ -54,8 +54,8 @@ fn figure_by(
     Ok(figure_from(&laid.layout, starts, nbrs, work))
 }
 
-// The same in a room of so many cells, in the front parts of its arrays. The room is in this function's frame alone: so a
-// small record takes a small one.
+// The same in a room of so many cells, in the front parts of its arrays. The room is in this function's frame alone, so
+// that a small record takes a small one.
 #[inline(never)]
 fn figure_in<const STARTS: usize, const NBRS: usize, const WORK: usize, const NEXT: usize>(
     laid: &LaidOut,

@@ -70,8 +70,8 @@ fn build_by(
     build_from(&laid.layout, start, work, index, starts, nbrs)
 }
 
-// The same in a room of so many cells, in the front parts of its arrays. The room is in this function's frame alone: so a
-// small record takes a small one.
+// The same in a room of so many cells, in the front parts of its arrays. The room is in this function's frame alone, so
+// that a small record takes a small one.
 #[inline(never)]
 fn build_in<const STARTS: usize, const NBRS: usize, const REVERSE: usize, const NEXT: usize>(
     laid: &LaidOut,

@@ -6,7 +6,13 @@ ghost use Rattle.forest.specs.Operations.{roots_in};
 fn count_roots(parents: &[u16]) -> usize
     ensures { (result ≡ roots_in parents.now) × (result ≤ length parents.now) }
 {
-    parents.iter().filter(|parent| **parent == 0).count()
+    let mut roots = 0;
+    for parent in parents {
+        if *parent == 0 {
+            roots += 1;
+        }
+    }
+    roots
 }
 
 // m − n plus the number of roots, by the parents of all n vertices.

@@ -1,17 +1,18 @@
 // The depth-first search over the work slice, whose parts are listed in specs/Steps.antt. A step holds for any list of
 // roots: the search from a start gives it one.
-ghost use Rattle.std.specs.Prelude.{◌≡◌, ◌+◌, ◌*◌, ◌≤◌, ◌<◌, length};
+ghost use Rattle.std.specs.Prelude.{◌≡◌, suc, ◌+◌, ◌*◌, ◌≤◌, ◌<◌, length};
 ghost use Rattle.graph.specs.Search.{all, search as search_of, starts_from};
-ghost use Rattle.forest.specs.Steps.{stride as stride_of, Room, Begun, Entering, NextPlace, Searched};
+ghost use Rattle.forest.specs.Steps.{stride as stride_of, Room, Begun, Entering, PassedTo, Searched};
 ghost use Rattle.forest.specs.Graphs.{held, Underway, StartTried, NextTried, IsLeft, StepTaken};
 
 use super::graphs::Graph;
 use adjacency::cells::{get, put};
 
-// The vertex at hand, if there is one, and how many vertices are entered.
+// 0, or 1 + the vertex at hand, as the cells have a parent, and how many vertices are entered. An Option in place of the
+// 0 takes more instructions for each step of the search.
 #[derive(Clone, Copy)]
 pub struct Hand {
-    pub cur: Option<usize>,
+    pub cur: usize,
     pub k: usize,
 }
 
@@ -44,53 +45,57 @@ fn enter(g: &Graph, work: &mut [u16], v: usize, k: usize, up: usize, bit: usize)
 
 // No vertex is at hand: v becomes a root if it is unvisited.
 fn try_start(g: &Graph, work: &mut [u16], v: usize, k: usize) -> Hand
-    requires { (v < g.now.n) × (Underway g.now work.old None k) }
+    requires { (v < g.now.n) × (Underway g.now work.old 0 k) }
     ensures { StartTried g.now work.old work.new v k result }
 {
     if get(work, 2 * g.s + v) == 0 {
         enter(g, work, v, k, 0, 0);
         return Hand {
-            cur: Some(v),
+            cur: v + 1,
             k: k + 1,
         };
     }
-    Hand { cur: None, k }
+    Hand { cur: 0, k }
 }
 
-// The first place from `from` on and before `end` that leads to an unvisited vertex.
-fn next_unvisited(g: &Graph, work: &[u16], from: usize, end: usize) -> Option<usize>
+// The first place from `from` on and before `end` that leads to an unvisited vertex; where there is none, a place that
+// is not before `end`. The index is counted by hand and no Option is returned: a `for`, and an Option, take an
+// instruction more for each place.
+fn pass_visited(g: &Graph, work: &[u16], from: usize, end: usize) -> usize
     requires { (Room g.now.n g.now.s work.now) × (end ≤ length g.now.nbrs.now) }
-    ensures { NextPlace g.now.nbrs.now g.now.s work.now from end result }
+    ensures { PassedTo g.now.nbrs.now g.now.s work.now from end result }
 {
-    for p in from..end {
+    let mut p = from;
+    while p < end {
         if get(work, 2 * g.s + get(g.nbrs, p)) == 0 {
-            return Some(p);
+            return p;
         }
+        p += 1;
     }
-    None
+    p
 }
 
 // Vertex u is at hand: its next unvisited neighbour is entered; where there is none, the parent comes to hand.
 fn try_next(g: &Graph, work: &mut [u16], u: usize, k: usize) -> Hand
-    requires { (u < g.now.n) × (Underway g.now work.old (Some u) k) }
+    requires { (u < g.now.n) × (Underway g.now work.old (suc u) k) }
     ensures { NextTried g.now work.old work.new u k result }
 {
     let from = get(work, u);
     let end = get(g.starts, u + 1);
-    match next_unvisited(g, work, from, end) {
-        Some(p) => {
-            let v = get(g.nbrs, p);
-            put(work, u, p + 1);
-            enter(g, work, v, k, u + 1, p + u + 1);
-            Hand {
-                cur: Some(v),
-                k: k + 1,
-            }
+    let p = pass_visited(g, work, from, end);
+    if p < end {
+        let v = get(g.nbrs, p);
+        put(work, u, p + 1);
+        enter(g, work, v, k, u + 1, p + u + 1);
+        Hand {
+            cur: v + 1,
+            k: k + 1,
         }
-        None => Hand {
-            cur: get(work, g.s + u).checked_sub(1),
+    } else {
+        Hand {
+            cur: get(work, g.s + u),
             k,
-        },
+        }
     }
 }
 
@@ -99,15 +104,16 @@ fn step(g: &Graph, work: &mut [u16], i: usize, hand: Hand) -> At
     requires { (IsLeft g.now.n i hand) × (Underway g.now work.old hand.cur hand.k) }
     ensures { StepTaken g.now work.old work.new i hand result }
 {
-    match hand.cur {
-        Some(u) => At {
+    if 0 < hand.cur {
+        At {
             i,
-            hand: try_next(g, work, u, hand.k),
-        },
-        None => At {
+            hand: try_next(g, work, hand.cur - 1, hand.k),
+        }
+    } else {
+        At {
             i: i + 1,
             hand: try_start(g, work, i, hand.k),
-        },
+        }
     }
 }
 
@@ -129,14 +135,16 @@ pub fn search(g: &Graph, first: usize, work: &mut [u16])
     requires { (Room g.now.n g.now.s work.old) × (first < g.now.n) }
     ensures { Searched (held g.now) (search_of (held g.now) all (starts_from g.now.n first)) g.now.n g.now.s work.new }
 {
-    begin(g, work);
+    // a copy of its own, which no store to the work slice can reach
+    let g = *g;
+    begin(&g, work);
     let mut left = 2 * g.n + 4 * g.m + 1;
     let mut at = At {
         i: 0,
-        hand: try_start(g, work, first, 0),
+        hand: try_start(&g, work, first, 0),
     };
     while at.hand.k < g.n {
-        at = step(g, work, at.i, at.hand);
+        at = step(&g, work, at.i, at.hand);
         left -= 1;
     }
 }

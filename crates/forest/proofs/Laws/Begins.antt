@@ -5,11 +5,10 @@
 --   searching_busy, still_busy, search_ended     before a step, and after the last
 use mathlib.Core.Path.{◌≡◌, refl, sym, ap, ap₂, subst, ◌∙◌}
 use mathlib.Core.List.{List, ◌∷◌}
-use Prim.Native.Nat.{ℕ, suc, ◌+◌, ◌-◌, ◌*◌, ◌≤◌, ◌<◌}
+use Prim.Native.Nat.{ℕ, zero, suc, ◌+◌, ◌-◌, ◌*◌, ◌≤◌, ◌<◌}
 use native.Mathlib.Numerals.{add-one}
 use native.Mathlib.Omega.{arith}
 use native.Mathlib.Decide.{dec_lt}
-use Rattle.std.specs.Prelude.{Option, None, Some}
 use lib.ListN.{length, get_or}
 use Rattle.graph.specs.Search.{Forest, all, search, count_up, starts_from}
 use Rattle.graph.specs.Forest.{number}
@@ -31,8 +30,8 @@ use Rattle.forest.proofs.Laws.Graphs.{many, in_range}
 
 -- no vertex is at hand, and i is the next start
 pub next_start : (g : Graph) {roots work : List ℕ} {left k : ℕ} (i : ℕ) → i < g.n
-    → SearchingIn g roots (count_up i (g.n - i)) work left None k
-    → SearchingIn g roots (i ∷ count_up (i + 1) (g.n - (i + 1))) work left None k
+    → SearchingIn g roots (count_up i (g.n - i)) work left 0 k
+    → SearchingIn g roots (i ∷ count_up (i + 1) (g.n - (i + 1))) work left 0 k
 next_start g i h t =
     let f = count_more g.n i h ∙ ap (λ (x : ℕ). i ∷ count_up x (g.n - x)) (sym (add-one i)) in
     rw f at t
@@ -42,10 +41,10 @@ abbrev pub From : Graph → ℕ → List ℕ → ℕ → At → Type 0
 From g first work left at =
     SearchingIn g (starts_from g.n first) (count_up at.i (g.n - at.i)) work left at.hand.cur at.hand.k
 
-pub searching_busy : (g : Graph) {roots work : List ℕ} {left k : ℕ} (i : ℕ) (cur : Option ℕ)
-    → SearchingIn g roots (count_up i (g.n - i)) work left cur k → (cur ≡ None → i < g.n) → 0 < left
-searching_busy g i None t e = loop_busy_start (rw (count_more g.n i (e refl)) at t.loop)
-searching_busy g i (Some u) t e = loop_busy t.loop
+pub searching_busy : (g : Graph) {roots work : List ℕ} {left k : ℕ} (i cur : ℕ)
+    → SearchingIn g roots (count_up i (g.n - i)) work left cur k → (cur ≡ 0 → i < g.n) → 0 < left
+searching_busy g i zero t e = loop_busy_start (rw (count_more g.n i (e refl)) at t.loop)
+searching_busy g i (suc u) t e = loop_busy t.loop
 
 -- ---- begin and end
 
@@ -55,7 +54,7 @@ module _ (g : Graph) {first : ℕ} (h : first < g.n) where
 
   -- before the start is tried
   pub search_begun : {work : List ℕ} → Begun g.starts.now g.n g.s work
-      → SearchingIn g (starts_from g.n first) (first ∷ count_up 0 g.n) work (2 * g.n + 4 * g.m + 2) None 0
+      → SearchingIn g (starts_from g.n first) (first ∷ count_up 0 g.n) work (2 * g.n + 4 * g.m + 2) 0 0
   search_begun {work} b =
       let size = many g in
       let c = starts_many g.n first (omega arith) in
@@ -77,7 +76,7 @@ module _ (g : Graph) {first : ℕ} (h : first < g.n) where
       }
 
   -- behind it all vertices are to try
-  pub search_first : {work : List ℕ} {k : ℕ} (cur : Option ℕ)
+  pub search_first : {work : List ℕ} {k : ℕ} (cur : ℕ)
       → SearchingIn g (starts_from g.n first) (count_up 0 g.n) work (2 * g.n + 4 * g.m + 2 - 1) cur k
       → SearchingIn g (starts_from g.n first) (count_up 0 (g.n - 0)) work (2 * g.n + 4 * g.m + 1) cur k
   search_first cur t =
@@ -96,7 +95,7 @@ module _ (g : Graph) {first : ℕ} (h : first < g.n) where
 
   module _ {work : List ℕ} {left : ℕ} (at : At) (t : From g first work left at) where
     -- not every vertex is entered, so something is left to try
-    pub still_busy : at.hand.k < g.n → at.hand.cur ≡ None → at.i < g.n
+    pub still_busy : at.hand.k < g.n → at.hand.cur ≡ 0 → at.i < g.n
     still_busy l e = elim (dec_lt at.i g.n) [ yes q ↦ q | no q ↦ over (omega arith) ]
       where
         over : g.n ≤ at.i → at.i < g.n

@@ -14,7 +14,8 @@ pub mark_bridge-requires : goal.mark_bridge-requires
 mark_bridge-requires c =
     let g = c.args.g.now in
     let k = marks_sized g c.requires.0 in
-    let (room, inside) = bridging_asks g.formed c.loop-c.invariant k c.fill.ensures.len c.requires.1 c.loop-c-test.true in
+    let z = c.fill.ensures.len in
+    let (room, inside) = bridging_asks g.formed c.loop-c.invariant k z c.requires.1 c.loop-c-test.true in
     record { room = room; bits_in = inside }
 
 pub loop-c-preserved : goal.loop-c-preserved
