@@ -8,8 +8,8 @@ ghost use Rattle.forest.specs.Graphs.{held, Underway, StartTried, NextTried, IsL
 use super::graphs::Graph;
 use adjacency::cells::{get, put};
 
-// 0, or 1 + the vertex at hand, as the cells have a parent, and how many vertices are entered. An Option in place of the
-// 0 takes more instructions for each step of the search.
+// 0, or 1 + the vertex at hand, as the cells have a parent, and how many vertices are entered. An Option in place of
+// the 0 takes more instructions for each step of the search.
 #[derive(Clone, Copy)]
 pub struct Hand {
     pub cur: usize,

@@ -43,7 +43,8 @@ fn index_length(n: usize, m: usize) -> usize
 }
 
 impl Record<'_> {
-    // Build: the name, what the work slice and the buffer hold before the call, the start, their lengths, and the answer.
+    // Build: the name, what the work slice and the buffer hold before the call, the start, their lengths, and the
+    // answer.
     fn build(
         &self,
         rt: &impl Print,
@@ -121,7 +122,8 @@ impl Case<'_> {
         show_bytes(rt, index)
     }
 
-    // What the work slice and the buffer hold before does not matter, nor does more work. The loop figure takes no start.
+    // What the work slice and the buffer hold before does not matter, nor does more work. The loop figure takes no
+    // start.
     fn start(&self, rt: &impl Print, start: usize) -> io::Result<()> {
         self.build(rt, "zeros", start, 0, 0, 0)?;
         self.build(rt, "ones", start, 0xFFFF, 0xFF, 0)?;

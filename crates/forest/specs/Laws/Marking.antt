@@ -1,5 +1,6 @@
 -- A section without marks, and a section with one more mark.
-use Rattle.std.specs.Prelude.{◌≡◌, refl, Bool, true, false, ◌&&◌, ◌||◌, ℕ, zero, suc, ◌+◌, ◌<◌, eqb, length, take, set, replicate}
+use Rattle.std.specs.Prelude.{◌≡◌, refl, Bool, true, false, ◌&&◌, ◌||◌, ℕ, zero, suc, ◌+◌}
+use Rattle.std.specs.Prelude.{◌<◌, eqb, length, take, set, replicate}
 use Rattle.std.proofs.Common.{sym, ap, ap₂, ◌∙◌, arith, eq-eqb, ne_eqb, length-append}
 use mathlib.Core.List.{List, [], ◌∷◌, ◌++◌, map, flatten}
 use Rattle.std.proofs.lemmas.List.{replicate-append-replicate, set-append_left}
@@ -84,7 +85,8 @@ laid_also test t (b ∷ g) zero j h k =
     let inside : j < length (marks_of test t b) = rw (length_each (test t) 0 (length b)) k in
     let rest = marks_same test (also test (t + 0) j) (suc t) g
     (λ x i l m. sym (also_other test (t + 0) j (suc t + x) i (λ q. omega arith))) in
-    rw e (ap (λ (x : List Bool). false ∷ x) (set-append_left (marks_of test t b) (laid_from test (suc t) g) j true inside
+    rw e (ap (λ (x : List Bool). false ∷ x)
+    (set-append_left (marks_of test t b) (laid_from test (suc t) g) j true inside
     ∙ ap₂ (λ (x y : List Bool). x ++ y) (marks_also test t b j k) (ap (lay_out false) rest)))
 laid_also test t (b ∷ g) (suc u) j h k =
     let e : length (b ++ flatten (take u g)) + suc u + 1 + j ≡ suc (length b + place_bit g u j) =
