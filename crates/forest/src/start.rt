@@ -6,6 +6,7 @@ use record::Vertex;
 use record::range::out_of_range;
 
 // Rule 14: the start is 0 or above n, except that an empty record takes 0 only.
+#[tactic(auto, unfolding(crate::specs::Operations::no_start))]
 pub fn no_start(n: usize, start: usize) -> bool
     ensures { result ≡ no_start_of n start }
 {
@@ -16,6 +17,7 @@ pub fn no_start(n: usize, start: usize) -> bool
 }
 
 // The start that a listing takes: terminal 1, and 0 for the empty record.
+#[tactic(auto, unfolding(crate::specs::Operations::first_start))]
 pub fn first_start(n: usize) -> Vertex
     ensures { result.0 ≡ first_start_of n }
 {

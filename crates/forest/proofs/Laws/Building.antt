@@ -2,10 +2,10 @@
 use mathlib.Core.Path.{◌≡◌, refl, sym, ap, ap₂, ◌∙◌}
 use mathlib.Core.Bool.{true, false, not}
 use mathlib.Core.List.{List, [], ◌∷◌, flatten}
-use Prim.Native.Nat.{ℕ, zero, suc, ◌+◌, ◌-◌, ◌*◌, ◌≤◌, ◌<◌}
+use Prim.Native.Nat.{ℕ, suc, ◌+◌, ◌-◌, ◌*◌, ◌≤◌, ◌<◌}
 use native.Mathlib.Omega.{arith}
 use borrow.Author.Tests.{eq-eqb, ne_eqb, lt-ltb, le-ltb}
-use lib.Dec.{eqb, ltb}
+use lib.Dec.{ltb}
 use lib.ListN.{length}
 use Rattle.graph.specs.Graph.{Blocks, WellFormed}
 use Rattle.graph.specs.Search.{forest}
@@ -13,7 +13,7 @@ use Rattle.record.specs.Record.{blocks}
 use Rattle.record.specs.Rules.{first_broken, layout_rules, check_rules}
 use Rattle.record.specs.Answers.{refused, answered, tried}
 use Rattle.adjacency.specs.Arrays.{cut, Arrays}
-use Rattle.record.specs.Operations.{other_length, out_of_range, Accepted}
+use Rattle.record.specs.Operations.{other_length, Accepted}
 use Rattle.record.specs.Steps.{Sound, ArraysOf}
 use Rattle.record.specs.Laws.First.{first_broken_lem, first_kept, append_kept, append_broken, check_numbered}
 use Rattle.record.specs.Laws.Sounded.{sound_vertices, sound_all}
@@ -21,7 +21,7 @@ use Rattle.record.specs.Laws.Told.{told, untold, told_back, told_append, buffer_
 use Rattle.record.specs.Laws.Sound.{accepted_well_formed}
 use Rattle.record.specs.Laws.Unpacked.{graph_of, starts_of_lem, nbrs_of, arrays_of}
 use Rattle.forest.specs.Index.{mark_bytes, number_bytes, index_of, index_length}
-use Rattle.forest.specs.Operations.{no_start, build_rules, build, built, BuildDone, first_start}
+use Rattle.forest.specs.Operations.{no_start, build_rules, build, built, BuildDone}
 use Rattle.forest.specs.Laws.Bytes.{length_index}
 
 -- ---- the empty record
@@ -132,24 +132,3 @@ module _ {bytes : List ℕ} {start : ℕ} {work index : List ℕ} where
 pub graph_asked : {bytes starts nbrs : List ℕ} {n m : ℕ} → Accepted bytes → ArraysOf bytes starts nbrs n m
     → Arrays starts nbrs × WellFormed (cut starts nbrs) × (n + 1 ≡ length starts) × (length nbrs ≡ 2 * m)
 graph_asked a r = (arrays_of r a, rw (graph_of r) (accepted_well_formed a), sym (starts_of_lem r), nbrs_of r)
-
--- ---- the start
-
-pub none_to_start : (n start : ℕ) → n ≡ 0 → not (eqb start 0) ≡ no_start n start
-unfolding no_start
-none_to_start n start e = rw e
-
-pub some_to_start : (n start : ℕ) → (n ≡ 0 → ⊥) → out_of_range n start ≡ no_start n start
-unfolding no_start
-some_to_start zero start h = absurd (h refl)
-some_to_start (suc n) start h = refl
-
-pub first_none : (n : ℕ) → n ≤ 0 → 0 ≡ first_start n
-unfolding first_start
-first_none zero h = refl
-first_none (suc n) h = absurd (omega arith)
-
-pub first_some : (n : ℕ) → 0 < n → 1 ≡ first_start n
-unfolding first_start
-first_some zero h = absurd (omega arith)
-first_some (suc n) h = refl

@@ -27,9 +27,6 @@ enter-requires c =
     let f = next_fits g t c.get-from.ensures.0 c.get-end.ensures.0 c.pass_visited-p.ensures h c.get-v.ensures.0 in
     record { room = search rules; fits = (f.0, f.1, omega arith, p.1) }
 
-pub overflow_add-result : goal.overflow_add-result
-overflow_add-result c = omega arith
-
 pub returns-then-p-end : goal.returns-then-p-end
 returns-then-p-end c = λ roots todo left t.
     next_entered c.args.g.now t c.get-from.ensures.0 c.get-end.ensures.0 c.pass_visited-p.ensures c.if-p-end.true
