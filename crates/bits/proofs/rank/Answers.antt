@@ -34,11 +34,6 @@ up_to bytes start places p m e em = go (dec_le p places)
         let q : m ≡ places = omega arith in
         rw q (sym (rank_beyond bytes start places p e (omega arith)))
 
-pub ones_from-requires : goal.ones_from-requires
-ones_from-requires c =
-    let h = held (goal.at.ones_from-requires c).After-holds c.if-holds.true in
-    omega arith
-
 pub returns-then-holds : goal.returns-then-holds
 returns-then-holds c =
     let a = c.args in

@@ -2,7 +2,6 @@
 use mathlib.Core.Path.{◌≡◌, ◌∙◌, ap, sym}
 use mathlib.Core.Bool.{Bool, true}
 use Prim.Native.Nat.{ℕ, ◌+◌, ◌*◌, ◌≤◌}
-use native.Mathlib.Omega.{arith}
 use borrow.Author.Tests.{leb-true}
 use lib.Dec.{leb}
 use lib.ListN.{length}
@@ -29,11 +28,6 @@ told c e = sym c.holds.ensures ∙ e
 held : (c : After-holds) → c.holds.result ≡ true
     → c.args.start + c.args.places ≤ 8 * length c.args.bytes.now
 held c e = leb-true _ _ (told c e)
-
-pub place_from-requires : goal.place_from-requires
-place_from-requires c =
-    let h = held (goal.at.place_from-requires c).After-holds c.if-holds.true in
-    omega arith
 
 pub returns-then-holds : goal.returns-then-holds
 returns-then-holds c =

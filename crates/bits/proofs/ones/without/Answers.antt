@@ -3,9 +3,6 @@ use Rattle.bits.proofs.Joined.{shifted_one}
 use Rattle.bits.proofs.Tops.{top_turned}
 use Rattle.bits.proofs.ones.without.Goals as goal
 
-pub overflow_shl-result : goal.overflow_shl-result
-overflow_shl-result c = c.requires.0
-
 pub returns : goal.returns
 returns c =
     let h = c.args.h in

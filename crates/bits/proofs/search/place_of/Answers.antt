@@ -5,12 +5,6 @@ use Rattle.bits.proofs.Joined.{byte_in}
 use Rattle.bits.proofs.Found.{passed_byte, found_bounds, found_within, missing}
 use Rattle.bits.proofs.search.place_of.Goals as goal
 
-pub skip_from-reached-requires : goal.skip_from-reached-requires
-skip_from-reached-requires c = (omega arith, c.requires)
-
-pub loop-at-init : goal.loop-at-init
-loop-at-init c = c.skip_from-reached.ensures.sought
-
 pub within-requires : goal.within-requires
 within-requires c =
     found_bounds (byte_in c.loop-at.at (λ i. (c.type_inv.bytes i).fits) c.loop-at-test.true) c.loop-at.invariant (omega arith) c.in_byte.ensures

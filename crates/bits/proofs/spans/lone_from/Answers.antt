@@ -30,12 +30,6 @@ loop-at-init c =
     let a = c.args in
     cleared_start (bits a.bytes.now) a.start (a.start + a.places) (omega arith)
 
-pub top-h-requires : goal.top-h-requires
-top-h-requires c = let h = c.if-part-ne0.true in omega arith
-
-pub without-requires : goal.without-requires
-without-requires c = c.top-h.ensures
-
 pub returns-then-without-ne0 : goal.returns-then-without-ne0
 returns-then-without-ne0 c =
     lone_second c.args.places (topped (goal.at.returns-then-without-ne0 c).After-top-h) c.without.ensures c.if-without-ne0.true

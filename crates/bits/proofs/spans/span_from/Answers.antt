@@ -3,11 +3,10 @@ use mathlib.Core.Path.{◌≡◌}
 use Prim.Native.Nat.{ℕ, ◌+◌, ◌-◌, ◌*◌, ◌%◌, ◌^◌, ◌≤◌, ◌<◌}
 use native.Mathlib.Omega.{arith}
 use lib.Bits.{bit_and}
-use lib.Pow.{pow_pos}
 use Rattle.bits.specs.Bits.{bits}
 use Rattle.bits.specs.Laws.Bytes.{length_bits}
 use Rattle.bits.specs.Laws.Spans.{between_count}
-use Rattle.bits.proofs.Joined.{shifted_one, masked}
+use Rattle.bits.proofs.Joined.{masked}
 use Rattle.bits.proofs.Windows.{Standing, span_bounds, span_top, span_here, span_beyond}
 use Rattle.bits.proofs.spans.span_from.Goals as goal
 use Rattle.bits.proofs.spans.span_from.Goals.{After-in_word-left, After-top}
@@ -40,11 +39,6 @@ window_of-w-requires c =
     let a = c.args in
     let e = between_count (bits a.bytes.now) a.start a.places in
     omega arith
-
-pub overflow_sub-rest : goal.overflow_sub-rest
-overflow_sub-rest c =
-    let left = 64 - c.in_word-left.result in
-    rw (shifted_one left (omega arith)) (pow_pos left)
 
 pub overflow_sub-from : goal.overflow_sub-from
 overflow_sub-from c = let b = span_bounds (standing (goal.at.overflow_sub-from c).After-in_word-left) in omega arith

@@ -5,7 +5,7 @@ use Rattle.bits.specs.Bits.{bits}
 use Rattle.bits.specs.Spans.{NextAt, PartOf}
 use Rattle.bits.specs.Laws.Bytes.{length_bits}
 use Rattle.bits.specs.Laws.Spans.{next_end}
-use Rattle.bits.proofs.Passes.{part_aligned, part_less, cleared_start, cleared_more, cleared_end, topped_next}
+use Rattle.bits.proofs.Passes.{part_aligned, cleared_start, cleared_more, cleared_end, topped_next}
 use Rattle.bits.proofs.parts.Front.next_from.Goals as goal
 use Rattle.bits.proofs.parts.Front.next_from.Goals.{After-part_from-part, After-top}
 
@@ -33,27 +33,14 @@ loop-at-init c =
     let a = c.args in
     (cleared_start (bits a.self.now.bytes.now) a.from a.self.now.end c.requires.0, c.requires.1)
 
-pub overflow_add-result : goal.overflow_add-result
-overflow_add-result c = let p = part (goal.at.overflow_add-result c).After-part_from-part in omega arith
-
 pub overflow_sub-result : goal.overflow_sub-result
 overflow_sub-result c = let p = part (goal.at.overflow_sub-result c).After-part_from-part in omega arith
-
-pub top-requires : goal.top-requires
-top-requires c = let h = c.if-part-ne0.true in omega arith
 
 pub overflow_sub-result-then-part-ne0 : goal.overflow_sub-result-then-part-ne0
 overflow_sub-result-then-part-ne0 c = let b = (found (goal.at.overflow_sub-result-then-part-ne0 c).After-top).0 in omega arith
 
 pub returns-then-part-ne0 : goal.returns-then-part-ne0
 returns-then-part-ne0 c = (found (goal.at.returns-then-part-ne0 c).After-top).1
-
-pub overflow_add-at : goal.overflow_add-at
-overflow_add-at c = let p = part (goal.at.overflow_add-at c).After-part_from-part in omega arith
-
-pub loop-at-smaller : goal.loop-at-smaller
-loop-at-smaller c =
-    part_less (part (goal.at.loop-at-smaller c).After-part_from-part) c.loop-at-test.true
 
 pub loop-at-preserved : goal.loop-at-preserved
 loop-at-preserved c =
