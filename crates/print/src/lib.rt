@@ -1,31 +1,7 @@
-// What programs print: words, numbers, lists, bytes and digests. It rests on none of the crates that they ask.
+// What programs print: lists, bytes and digests. It rests on none of the crates that they ask.
 #![tactic(auto)]
 
 use std::io;
-
-pub fn text(rt: &impl Print, s: &[u8]) -> io::Result<()> {
-    rt.write_all(s)
-}
-
-pub fn number(rt: &impl Print, n: usize) -> io::Result<()> {
-    print!(rt; "{n}")
-}
-
-// A space and a number.
-pub fn value(rt: &impl Print, n: usize) -> io::Result<()> {
-    print!(rt; " {n}")
-}
-
-// A name, a number and a colon.
-pub fn label(rt: &impl Print, name: &[u8], n: usize) -> io::Result<()> {
-    text(rt, name)?;
-    print!(rt; "{n}:")
-}
-
-// A refusal, by its number.
-pub fn refused(rt: &impl Print, k: usize) -> io::Result<()> {
-    print!(rt; "refused {k}")
-}
 
 // The numbers of a list, to the end of the line.
 pub fn show_numbers(rt: &impl Print, list: &[u16]) -> io::Result<()> {
