@@ -59,8 +59,7 @@ fn try_start(g: &Graph, work: &mut [u16], v: usize, k: usize) -> Hand
 }
 
 // The first place from `from` on and before `end` that leads to an unvisited vertex; where there is none, a place that
-// is not before `end`. The index is counted by hand and no Option is returned: a `for`, and an Option, take an
-// instruction more for each place.
+// is not before `end`: with an Option the loop takes an instruction more for each place.
 fn pass_visited(g: &Graph, work: &[u16], from: usize, end: usize) -> usize
     requires { (Room g.now.n g.now.s work.now) × (end ≤ length g.now.nbrs.now) }
     ensures { PassedTo g.now.nbrs.now g.now.s work.now from end result }
