@@ -1,6 +1,7 @@
 -- Bit strings over bytes (document 01, "Bits"): what the contracts of this crate mean. A byte is a number below 256 and
 -- a bit is a Boolean, true for a one. A list of bits has its most significant bit first.
-use Rattle.std.specs.Prelude.{Bool, true, false, List, [], ◌∷◌, ◌++◌, ℕ, zero, suc, ◌+◌, ◌*◌, ◌/◌, ◌%◌, ◌^◌, eqb, leb, length, take, drop, get_or, replicate}
+use Rattle.std.specs.Prelude.{Bool, true, false, List, [], ◌∷◌, ◌++◌, ℕ, zero, suc, ◌+◌, ◌*◌, ◌/◌, ◌%◌, ◌^◌, eqb, leb}
+use Rattle.std.specs.Prelude.{length, take, drop, get_or, replicate}
 
 -- the w lowest bits of a number, most significant first
 unfoldable pub to_bits : ℕ → ℕ → List Bool

@@ -11,7 +11,8 @@
 --   Skipped      how many after whole words
 --   WindowOf     at most 64 bits in which the k-th one of a part stands
 --   Narrowed     the half of a number in which its k-th one stands
-use Rattle.std.specs.Prelude.{◌≡◌, Bool, true, false, List, ℕ, suc, ◌+◌, ◌-◌, ◌*◌, ◌%◌, ◌^◌, ◌≤◌, ◌<◌, min, ltb, length, take, drop, get_or}
+use Rattle.std.specs.Prelude.{◌≡◌, Bool, true, false, List, ℕ, suc, ◌+◌, ◌-◌, ◌*◌, ◌%◌, ◌^◌, ◌≤◌, ◌<◌, min, ltb, length}
+use Rattle.std.specs.Prelude.{take, drop, get_or}
 use Rattle.std.specs.Int.Count.{ones}
 use Rattle.bits.specs.Bits.{to_bits, count, select, field}
 use Rattle.bits.specs.declared.spans.Lone.{Lone}

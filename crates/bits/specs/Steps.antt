@@ -14,7 +14,8 @@
 --   Blank     only zeros stand from a bit on
 --   Begun     the bits of some bytes begin with others, and are zeros after them
 --   replace   a number with a field replaced
-use Rattle.std.specs.Prelude.{◌≡◌, Bool, true, false, List, [], ◌∷◌, ◌++◌, ℕ, ◌+◌, ◌-◌, ◌*◌, ◌/◌, ◌%◌, ◌^◌, ◌≤◌, ◌<◌, leb, length, drop, get_or, replicate}
+use Rattle.std.specs.Prelude.{◌≡◌, Bool, true, false, List, [], ◌∷◌, ◌++◌, ℕ, ◌+◌, ◌-◌, ◌*◌, ◌/◌, ◌%◌, ◌^◌, ◌≤◌, ◌<◌}
+use Rattle.std.specs.Prelude.{leb, length, drop, get_or, replicate}
 use Rattle.bits.specs.Bits.{bits, field}
 
 -- the bytes, one below the other, below the number a

@@ -32,8 +32,8 @@ pub struct Front<'a> {
 }
 
 impl Front<'_> {
-    // The part from bit `at` on, to the end of the 64 bits that begin with its byte, or to the last bit. Each caller has
-    // it in its own loop.
+    // The part from bit `at` on, to the end of the 64 bits that begin with its byte, or to the last bit. Each caller
+    // has it in its own loop.
     #[inline(always)]
     pub fn part_from(&self, at: usize) -> Part
         requires { at < self.now.end }
@@ -50,7 +50,8 @@ impl Front<'_> {
     pub fn window_of(&self, start: usize, k: usize) -> Window
         requires { (1 ≤ k) × (k ≤ ones_between (bits self.now.bytes.now) start self.now.end) × (start ≤ self.now.end)
             × (self.now.end ≤ 1048576) }
-        ensures { WindowOf (bits self.now.bytes.now) start self.now.end k result.from result.width result.bits result.left }
+        ensures { WindowOf (bits self.now.bytes.now) start self.now.end k
+            result.from result.width result.bits result.left }
     {
         let first = self.part_from(start);
         let c = first.bits.count_ones() as usize;

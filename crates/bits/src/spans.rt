@@ -1,4 +1,5 @@
-// The k-th one of a string that its bytes hold, by words, what lies between it and the next, and the only one of a string.
+// The k-th one of a string that its bytes hold, by words, what lies between it and the next, and the only one of a
+// string.
 ghost use Rattle.std.specs.Prelude.{◌≡◌, ◌+◌, ◌*◌, ◌≤◌, length, take, drop};
 ghost use Rattle.bits.specs.Bits.{bits, count, select as select_of};
 ghost use Rattle.bits.specs.Spans.{SpanOf, LoneOf};

@@ -4,7 +4,8 @@
 -- index; the answers are those of the operations, as `Operations`, `Lookup` and `Filing` define them and as the
 -- contracts of the code say. Terminal v is vertex v - 1 of the graph; positions of a block and cells of a list count
 -- from 0. The rest, what no operation answers and what no answer reads, stands in proofs/Demands.antt.
-use Rattle.std.specs.Prelude.{◌≡◌, ◌⊎◌, ◌↔◌, Bool, true, false, List, map, ℕ, suc, ◌+◌, ◌-◌, ◌*◌, ◌/◌, ◌≤◌, ◌<◌, length, get_or, take}
+use Rattle.std.specs.Prelude.{◌≡◌, ◌⊎◌, ◌↔◌, Bool, true, false, List, map, ℕ, suc, ◌+◌, ◌-◌, ◌*◌, ◌/◌, ◌≤◌, ◌<◌, length}
+use Rattle.std.specs.Prelude.{get_or, take}
 use Rattle.std.proofs.Common.{sym, ap, subst, ◌∙◌, arith}
 use Rattle.std.proofs.Math.Option.{none}
 use Rattle.bits.specs.Laws.Bytes.{AreBytes}

@@ -12,7 +12,8 @@ use Rattle.graph.specs.Counts.{sum as add_up, different}
 use Rattle.graph.specs.Walk.{walk}
 use Rattle.record.specs.Record.{terminals, wires, used_bits, record_length, unary, fields_from, fields, zeros, parts}
 use Rattle.record.specs.Record.{blocks, lay_out, unary_of, field_bits, record_bits, record_of}
-use Rattle.record.specs.Rules.{first_broken, begins_with_zero, order_r, spare_set, place_rules, layout_rules, check_rules}
+use Rattle.record.specs.Rules.{first_broken, begins_with_zero, order_r, spare_set, place_rules, layout_rules}
+use Rattle.record.specs.Rules.{check_rules}
 use Rattle.adjacency.specs.Places.{any_in, any_from, stray, one_sided}
 use Rattle.record.specs.Answers.{Answer, refused, answered, outcome, otherwise, buffer_after, said}
 use Rattle.record.specs.Operations.{check, other_length, out_of_range}

@@ -23,8 +23,8 @@ pub struct Rise {
     pub to: usize,
 }
 
-// The step up by P from vertex u, whose block has the fields from a up to b: to the parent, or none past a root. A climb
-// of many steps needs it inlined.
+// The step up by P from vertex u, whose block has the fields from a up to b: to the parent, or none past a root. A
+// climb of many steps needs it inlined.
 #[inline(always)]
 pub fn step_up(i: &Indexed, u: usize, a: usize, b: usize) -> Result<Option<Rise>, Refusal>
     requires { (u < i.now.layout.n) × (a ≡ get_or (starts_of (unary i.now.layout.bytes.now)) u 0)

@@ -1,5 +1,6 @@
 -- What the operations on a record answer (document 01, "Operations and their answers").
-use Rattle.std.specs.Prelude.{Bool, true, false, not, ◌||◌, ◌&&◌, List, [], ◌∷◌, ◌++◌, map, ℕ, suc, ◌+◌, ◌-◌, ◌*◌, eqb, ltb, length, get_or, ◌≡◌}
+use Rattle.std.specs.Prelude.{Bool, true, false, not, ◌||◌, ◌&&◌, List, [], ◌∷◌, ◌++◌, map, ℕ, suc, ◌+◌, ◌-◌, ◌*◌, eqb}
+use Rattle.std.specs.Prelude.{ltb, length, get_or, ◌≡◌}
 use Rattle.graph.specs.Graph.{Blocks, block}
 use Rattle.record.specs.Record.{terminals, wires, unary, fields, parts, blocks}
 use Rattle.record.specs.Starts.{starts_of}

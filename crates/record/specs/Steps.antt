@@ -12,7 +12,8 @@
 --   Numbers                      neighbours from 1 that a field has room for
 --   unary_bits                    the bits of D by the degrees
 --   Laying                       the fields while they are written
-use Rattle.std.specs.Prelude.{◌≡◌, Bool, true, false, List, ◌++◌, map, ℕ, zero, suc, ◌+◌, ◌-◌, ◌*◌, ◌%◌, ◌≤◌, ◌<◌, length, take, drop, get_or, replicate}
+use Rattle.std.specs.Prelude.{◌≡◌, Bool, true, false, List, ◌++◌, map, ℕ, zero, suc, ◌+◌, ◌-◌, ◌*◌, ◌%◌, ◌≤◌, ◌<◌}
+use Rattle.std.specs.Prelude.{length, take, drop, get_or, replicate}
 use Rattle.bits.specs.Bits.{count, field}
 use Rattle.bits.specs.Steps.{Begun}
 use Rattle.graph.specs.Graph.{Blocks}

@@ -33,11 +33,11 @@ impl<'a> Row<'a> {
     fn write_four(&self, bytes: &mut [u8], i: usize, front: u64) -> u64
         requires fits { (i + 5 ≤ length self.now.neighbours.now)
             × (self.now.start + 12 * length self.now.neighbours.now ≤ 8 * length bytes.old) }
-        requires laying { (Laying self.now.start (bits_of bytes.old) (map (λ v. v - 1) self.now.neighbours.now) bytes.old
-            i)
+        requires laying { (Laying self.now.start (bits_of bytes.old)
+            (map (λ v. v - 1) self.now.neighbours.now) bytes.old i)
             × (front ≡ front_of (bits_of bytes.old) (self.now.start + 12 * i)) }
-        ensures { (Laying self.now.start (bits_of bytes.old) (map (λ v. v - 1) self.now.neighbours.now) bytes.new
-            (i + 4))
+        ensures { (Laying self.now.start (bits_of bytes.old)
+            (map (λ v. v - 1) self.now.neighbours.now) bytes.new (i + 4))
             × (result ≡ front_of (bits_of bytes.new) (self.now.start + 12 * (i + 4))) }
     {
         let a = self.number(i);

@@ -24,7 +24,8 @@ module _ (starts nbrs : List ℕ) (u p v : ℕ) where
 
 module _ {starts nbrs : List ℕ} (i : Divided starts nbrs) (u p v : ℕ) where
   count_next : Holds starts u p
-      → mentions v (up_to starts nbrs u (p + 1)) ≡ mentions v (up_to starts nbrs u p) + mentions v (get_or nbrs p 0 ∷ [])
+      → mentions v (up_to starts nbrs u (p + 1))
+      ≡ mentions v (up_to starts nbrs u p) + mentions v (get_or nbrs p 0 ∷ [])
   count_next h = ap (mentions v) (upto_next i h) ∙ mentions_append v (up_to starts nbrs u p) (get_or nbrs p 0 ∷ [])
 
   pub count_hit : Holds starts u p → v ≡ get_or nbrs p 0
@@ -36,7 +37,8 @@ module _ {starts nbrs : List ℕ} (i : Divided starts nbrs) (u p v : ℕ) where
       → mentions v (up_to starts nbrs u p) + 1 ≤ mentions v (block (cut starts nbrs) u)
   count_more h e = omega (arith, count_hit h e, count_part starts nbrs u (p + 1) v)
 
-  pub count_miss : (v ≡ get_or nbrs p 0 → ⊥) → mentions v (up_to starts nbrs u (p + 1)) ≡ mentions v (up_to starts nbrs u p)
+  pub count_miss : (v ≡ get_or nbrs p 0 → ⊥)
+      → mentions v (up_to starts nbrs u (p + 1)) ≡ mentions v (up_to starts nbrs u p)
   count_miss n = go (step i u p)
     where
       go : Step starts nbrs u p → mentions v (up_to starts nbrs u (p + 1)) ≡ mentions v (up_to starts nbrs u p)

@@ -147,7 +147,8 @@ module _ {starts nbrs reverse next : List ℕ} {u p : ℕ} (t : Turning starts n
       go (yes e) (no n) = t.others w x (rw (upto_other t.turned.divided h n) at m)
       go (yes e) (yes f) = (omega arith, λ d. o (sym e ∙ d ∙ f))
 
-  module _ (k : v + 1 < length starts) {q : ℕ} (is-q : q ≡ get_or next v 0) (free : q ≡ get_or starts (v + 1) 0 → ⊥) where
+  module _ (k : v + 1 < length starts) {q : ℕ} (is-q : q ≡ get_or next v 0)
+      (free : q ≡ get_or starts (v + 1) 0 → ⊥) where
     -- past the store, part v has one vertex more, and the others what they had
     data Grown (x r : ℕ) : Type 0 where
       last : r ≡ q → x ≡ v → Grown x r
@@ -190,7 +191,8 @@ module _ {starts nbrs reverse next : List ℕ} {u p : ℕ} (t : Turning starts n
             let c = t.rising x r o m in
             omega arith
 
-  pub turning_more : v < length starts - 1 → (v ≡ u → ⊥) → {q : ℕ} → q ≡ get_or next v 0 → (q ≡ get_or starts (v + 1) 0 → ⊥)
+  pub turning_more : v < length starts - 1 → (v ≡ u → ⊥) → {q : ℕ} → q ≡ get_or next v 0
+      → (q ≡ get_or starts (v + 1) 0 → ⊥)
       → {reverse' next' : List ℕ} → reverse' ≡ set reverse q u → next' ≡ set next v (q + 1)
       → Turning starts nbrs reverse' next' u (p + 1)
   turning_more k o {q} is-q free e f =

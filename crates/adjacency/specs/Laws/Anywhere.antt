@@ -1,6 +1,7 @@
--- What `any_in` and `any_place` say: a test fails for each number of a list, or at each place of the blocks, or holds at
--- one.
-use Rattle.std.specs.Prelude.{◌≡◌, refl, Bool, true, false, ◌||◌, ◌&&◌, List, [], ◌∷◌, ◌↔◌, ℕ, zero, suc, ◌<◌, length, get_or}
+-- What `any_in` and `any_place` say: a test fails for each number of a list, or at each place of the blocks, or holds
+-- at one.
+use Rattle.std.specs.Prelude.{◌≡◌, refl, Bool, true, false, ◌||◌, ◌&&◌, List, [], ◌∷◌, ◌↔◌, ℕ, zero, suc, ◌<◌, length}
+use Rattle.std.specs.Prelude.{get_or}
 use Rattle.std.proofs.Common.{sym, ◌∙◌, arith}
 use Rattle.std.proofs.Math.Path.{ap}
 use Rattle.std.proofs.Math.Bool.{not, not-not}
@@ -43,12 +44,13 @@ any_in_lem test i [] = refl
 any_in_lem test i (v ∷ l) =
     either (not (test v)) (each_of (λ j w. not (test w)) (suc i) l) (sym (not-not (test v))) (any_in_lem test (suc i) l)
 
-any_from_lem : (test : ℕ → ℕ → Bool) (u : ℕ) (g : Blocks) → any_from test u g ≡ not (each_from (λ w j v. not (test w v)) u g)
+any_from_lem : (test : ℕ → ℕ → Bool) (u : ℕ) (g : Blocks)
+    → any_from test u g ≡ not (each_from (λ w j v. not (test w v)) u g)
 unfolding any_from each_from
 any_from_lem test u [] = refl
 any_from_lem test u (b ∷ g) =
-    either (each_of (λ j v. not (test u v)) 0 b) (each_from (λ w j v. not (test w v)) (suc u) g) (any_in_lem (test u) 0 b)
-    (any_from_lem test (suc u) g)
+    either (each_of (λ j v. not (test u v)) 0 b) (each_from (λ w j v. not (test w v)) (suc u) g)
+    (any_in_lem (test u) 0 b) (any_from_lem test (suc u) g)
 
 -- a test fails at a place
 fails : (ℕ → ℕ → Bool) → ℕ → ℕ → ℕ → Bool

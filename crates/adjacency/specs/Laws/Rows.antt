@@ -12,7 +12,8 @@
 --   place_known    what a block mentions is a vertex
 --   flatten_cut    the blocks in a row are the row
 use Rattle.std.specs.Prelude.{ℕ, zero, suc, ◌+◌, ◌-◌, ◌≤◌, ◌<◌, ◌≡◌, refl, length, get_or, take, drop}
-use Rattle.std.proofs.Common.{sym, ◌∙◌, ap, ap₂, arith, length-drop, length-take-le, get_or-take, get_or-drop, drop-drop, take-add, take_all}
+use Rattle.std.proofs.Common.{sym, ◌∙◌, ap, ap₂, arith, length-drop, length-take-le, get_or-take, get_or-drop}
+use Rattle.std.proofs.Common.{drop-drop, take-add, take_all}
 use mathlib.Core.List.{List, [], ◌∷◌, ◌++◌, flatten}
 use Rattle.std.proofs.Math.Decide.{dec_lt}
 use Rattle.std.proofs.Math.ListN.{get_or-eq_default}

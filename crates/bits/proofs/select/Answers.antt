@@ -22,7 +22,7 @@ returns-then-k-eq0 c =
     ]
 
 told : (c : After-holds) {t : Bool} → c.holds.result ≡ t
-    → leb (c.before.before.before.before.args.start + c.before.before.before.before.args.places) (8 * length c.before.before.before.before.args.bytes.now) ≡ t
+    → (let a = c.before.before.before.before.args in leb (a.start + a.places) (8 * length a.bytes.now) ≡ t)
 told c e = sym c.holds.ensures ∙ e
 
 held : (c : After-holds) → c.holds.result ≡ true

@@ -1,6 +1,8 @@
 -- The bits of bytes: how many they are, and where whole bytes stand among them.
-use Rattle.std.specs.Prelude.{◌≡◌, refl, List, [], ◌∷◌, ◌++◌, ℕ, zero, suc, ◌+◌, ◌*◌, ◌/◌, ◌≤◌, ◌<◌, length, take, drop, get_or}
-use Rattle.std.proofs.Common.{sym, ap, ◌∙◌, append_assoc, arith, lit<, length-append, drop-cons, drop-drop, drop_at, take_at, take-add, take-take, get_or-drop}
+use Rattle.std.specs.Prelude.{◌≡◌, refl, List, [], ◌∷◌, ◌++◌, ℕ, zero, suc, ◌+◌, ◌*◌, ◌/◌, ◌≤◌, ◌<◌, length, take, drop}
+use Rattle.std.specs.Prelude.{get_or}
+use Rattle.std.proofs.Common.{sym, ap, ◌∙◌, append_assoc, arith, lit<, length-append, drop-cons, drop-drop, drop_at}
+use Rattle.std.proofs.Common.{take_at, take-add, take-take, get_or-drop}
 use Rattle.std.proofs.Math.Seq.{drop-nil, take-nil}
 use Rattle.bits.specs.Bits.{to_bits, bits}
 use Rattle.bits.specs.Laws.Digits.{length_to_bits}

@@ -1,6 +1,8 @@
 -- Numbers and their bits: `to_bits` and `value` are inverse to each other at each width.
-use Rattle.std.specs.Prelude.{◌≡◌, refl, Bool, true, false, List, [], ◌∷◌, ◌++◌, ℕ, zero, suc, ◌+◌, ◌*◌, ◌/◌, ◌%◌, ◌^◌, ◌<◌, eqb, length}
-use Rattle.std.proofs.Common.{sym, ap, ap₂, ◌∙◌, mul_assoc, add-mul, mod-lt, mod-eq_of_lt, one-add, arith, lit<, length-append, pow-add}
+use Rattle.std.specs.Prelude.{◌≡◌, refl, Bool, true, false, List, [], ◌∷◌, ◌++◌, ℕ, zero, suc, ◌+◌, ◌*◌, ◌/◌, ◌%◌, ◌^◌}
+use Rattle.std.specs.Prelude.{◌<◌, eqb, length}
+use Rattle.std.proofs.Common.{sym, ap, ap₂, ◌∙◌, mul_assoc, add-mul, mod-lt, mod-eq_of_lt, one-add, arith, lit<}
+use Rattle.std.proofs.Common.{length-append, pow-add}
 use Rattle.std.proofs.Math.Nat.{mod-one}
 use Rattle.std.proofs.Math.Arith.{digits_lt}
 use Rattle.std.proofs.lemmas.Nat.{mod-pow-add}

@@ -1,6 +1,9 @@
 -- Fields of any width at any starting bit: a field inside a field is cut out by a shift and a mask.
-use Rattle.std.specs.Prelude.{◌≡◌, refl, Bool, false, List, [], ◌∷◌, ◌++◌, ℕ, zero, suc, ◌+◌, ◌/◌, ◌%◌, ◌^◌, ◌≤◌, ◌<◌, length, take, drop, get_or}
-use Rattle.std.proofs.Common.{sym, ap, ◌∙◌, append_assoc, div-one, lt_of_lt_of_le, mod-eq_of_lt, arith, length-take, length-drop, take-append-drop, pow_mono, shr_lt, drop-cons, drop-drop, drop_at, take_at, take-take, length-take-le}
+use Rattle.std.specs.Prelude.{◌≡◌, refl, Bool, false, List, [], ◌∷◌, ◌++◌, ℕ, zero, suc, ◌+◌, ◌/◌, ◌%◌, ◌^◌, ◌≤◌, ◌<◌}
+use Rattle.std.specs.Prelude.{length, take, drop, get_or}
+use Rattle.std.proofs.Common.{sym, ap, ◌∙◌, append_assoc, div-one, lt_of_lt_of_le, mod-eq_of_lt, arith, length-take}
+use Rattle.std.proofs.Common.{length-drop, take-append-drop, pow_mono, shr_lt, drop-cons, drop-drop, drop_at, take_at}
+use Rattle.std.proofs.Common.{take-take, length-take-le}
 use Rattle.std.proofs.Math.Nat.{min-le_left}
 use Rattle.std.proofs.Math.Pow.{high, low}
 use Rattle.std.proofs.lemmas.List.{take-append-le, drop-append-le}

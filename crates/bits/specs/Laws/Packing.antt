@@ -1,6 +1,9 @@
 -- Packing: packed bits read back, and so do unpacked bytes.
-use Rattle.std.specs.Prelude.{◌≡◌, refl, Bool, false, List, [], ◌∷◌, ◌++◌, ℕ, zero, suc, ◌+◌, ◌-◌, ◌*◌, ◌/◌, ◌≤◌, length, take, drop, replicate}
-use Rattle.std.proofs.Common.{sym, ap, ap₂, ◌∙◌, append_assoc, lt_of_lt_of_le, mod-eq_of_lt, le-leb, lit<, pow_mono, arith, length-append, length-drop, take-append-drop, drop_of_length-le, length-take, take_at, drop_at, length-take-le}
+use Rattle.std.specs.Prelude.{◌≡◌, refl, Bool, false, List, [], ◌∷◌, ◌++◌, ℕ, zero, suc, ◌+◌, ◌-◌, ◌*◌, ◌/◌, ◌≤◌}
+use Rattle.std.specs.Prelude.{length, take, drop, replicate}
+use Rattle.std.proofs.Common.{sym, ap, ap₂, ◌∙◌, append_assoc, lt_of_lt_of_le, mod-eq_of_lt, le-leb, lit<, pow_mono}
+use Rattle.std.proofs.Common.{arith, length-append, length-drop, take-append-drop, drop_of_length-le, length-take}
+use Rattle.std.proofs.Common.{take_at, drop_at, length-take-le}
 use Rattle.std.proofs.Math.Decide.{dec_le}
 use Rattle.std.proofs.Math.Nat.{min-le_left}
 use Rattle.std.proofs.lemmas.List.{replicate-append-replicate, take-append-le}

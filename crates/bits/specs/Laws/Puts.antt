@@ -1,7 +1,8 @@
 -- A number put into a field: it is what the field then reads, and nothing else changes.
 use Rattle.std.specs.Prelude.{◌≡◌, true, false, ℕ, ◌+◌, ◌-◌, ◌*◌, ◌/◌, ◌%◌, ◌^◌, ◌≤◌, ◌<◌, set}
 use Rattle.std.proofs.Math.Path.{sym, ap}
-use Rattle.std.proofs.Common.{ap₂, ◌∙◌, add_assoc, add_comm, mod-eq_of_lt, mod-lt, add-one, take-append-drop, pow_pos, shr-shr, take_at, drop_at, take-add, take-take, length-take-le}
+use Rattle.std.proofs.Common.{ap₂, ◌∙◌, add_assoc, add_comm, mod-eq_of_lt, mod-lt, add-one, take-append-drop, pow_pos}
+use Rattle.std.proofs.Common.{shr-shr, take_at, drop_at, take-add, take-take, length-take-le}
 use Rattle.std.proofs.Math.Bool.{Bool}
 use mathlib.Core.List.{List, ◌++◌, append_assoc}
 use native.Mathlib.Omega.{arith}

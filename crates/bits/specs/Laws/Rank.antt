@@ -1,6 +1,8 @@
 -- Counting ones: in a number, in a field, in bytes, and up to a place of a bit string.
-use Rattle.std.specs.Prelude.{◌≡◌, refl, Bool, true, false, List, [], ◌∷◌, ◌++◌, ℕ, ◌+◌, ◌*◌, ◌^◌, ◌≤◌, ◌<◌, leb, length, take, drop, get_or}
-use Rattle.std.proofs.Common.{sym, ap, ap₂, ◌∙◌, le_trans, mod-eq_of_lt, arith, le-leb, length-take, length-drop, take-append-drop, take-add, take_all, take-take, length-take-le, get_or-take, get_or-drop}
+use Rattle.std.specs.Prelude.{◌≡◌, refl, Bool, true, false, List, [], ◌∷◌, ◌++◌, ℕ, ◌+◌, ◌*◌, ◌^◌, ◌≤◌, ◌<◌, leb}
+use Rattle.std.specs.Prelude.{length, take, drop, get_or}
+use Rattle.std.proofs.Common.{sym, ap, ap₂, ◌∙◌, le_trans, mod-eq_of_lt, arith, le-leb, length-take, length-drop}
+use Rattle.std.proofs.Common.{take-append-drop, take-add, take_all, take-take, length-take-le, get_or-take, get_or-drop}
 use Rattle.std.proofs.Math.Nat.{min-le_left}
 use Rattle.std.specs.Int.Count.{ones}
 use Rattle.std.proofs.lemmas.Nat.{ones_cat}

@@ -21,7 +21,8 @@
 --   lone_more       a string with more
 use Rattle.std.specs.Prelude.{◌≡◌, refl, true, ℕ, zero, suc, ◌+◌, ◌-◌, ◌^◌, ◌≤◌, ◌<◌, length, take}
 use Rattle.std.proofs.Math.Path.{sym, ap}
-use Rattle.std.proofs.Common.{◌∙◌, add-one, lt-ltb, le-ltb, length-drop, pow_mono, drop-cons, drop-drop, take-take, length-take-le, get_or-take, get_or-drop}
+use Rattle.std.proofs.Common.{◌∙◌, add-one, lt-ltb, le-ltb, length-drop, pow_mono, drop-cons, drop-drop, take-take}
+use Rattle.std.proofs.Common.{length-take-le, get_or-take, get_or-drop}
 use Rattle.std.proofs.Math.Bool.{Bool, false}
 use mathlib.Core.List.{List, [], ◌∷◌}
 use Rattle.std.proofs.Math.Decide.{dec_le}

@@ -1,6 +1,8 @@
 -- Numbers laid one after another in fields of 12 bits: fields read, and fields written and read back.
-use Rattle.std.specs.Prelude.{◌≡◌, refl, Bool, List, [], ◌∷◌, ◌++◌, ℕ, zero, suc, ◌+◌, ◌*◌, ◌≤◌, ◌<◌, length, take, drop, get_or}
-use Rattle.std.proofs.Common.{sym, ap, ap₂, ◌∙◌, append_assoc, mod-eq_of_lt, arith, length-append, length-drop, drop-drop, take-add, length-take-le}
+use Rattle.std.specs.Prelude.{◌≡◌, refl, Bool, List, [], ◌∷◌, ◌++◌, ℕ, zero, suc, ◌+◌, ◌*◌, ◌≤◌, ◌<◌, length, take}
+use Rattle.std.specs.Prelude.{drop, get_or}
+use Rattle.std.proofs.Common.{sym, ap, ap₂, ◌∙◌, append_assoc, mod-eq_of_lt, arith, length-append, length-drop}
+use Rattle.std.proofs.Common.{drop-drop, take-add, length-take-le}
 use Rattle.bits.specs.Bits.{to_bits, field}
 use Rattle.bits.specs.Laws.Digits.{length_to_bits, to_bits_value}
 use Rattle.bits.specs.Laws.Fields.{field_laid}

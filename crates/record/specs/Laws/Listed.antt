@@ -8,7 +8,8 @@
 --   lengths_back      and the degrees
 --   total_lengths     the degrees of some blocks add up to the number of their neighbours
 use Rattle.std.specs.Prelude.{◌≡◌, refl, false, ℕ, ◌*◌, ◌/◌, ◌%◌, eqb, ltb, length, take, drop}
-use Rattle.std.proofs.Common.{ap, ap₂, ◌∙◌, arith, ltb-false, le-ltb, eqb-true, eq-eqb, ne_eqb, length-append, length-drop, take-append-drop, take_at, drop_at, length-take-le}
+use Rattle.std.proofs.Common.{ap, ap₂, ◌∙◌, arith, ltb-false, le-ltb, eqb-true, eq-eqb, ne_eqb, length-append}
+use Rattle.std.proofs.Common.{length-drop, take-append-drop, take_at, drop_at, length-take-le}
 use mathlib.Core.List.{List, [], ◌∷◌, ◌++◌, flatten, map, sum}
 use Rattle.std.proofs.lemmas.Bool.{eqb-false, not-false}
 use Rattle.graph.specs.Graph.{Blocks}

@@ -1,6 +1,7 @@
 -- D and the blocks' numbers in one list, and the blocks: each made from the other.
 use Rattle.std.specs.Prelude.{◌≡◌, refl, Bool, true, false, ℕ, zero, suc, ◌+◌, ◌≤◌, length, take, drop, replicate}
-use Rattle.std.proofs.Common.{ap, ◌∙◌, arith, length-append, length-drop, take-append-drop, take_at, drop_at, length-take-le}
+use Rattle.std.proofs.Common.{ap, ◌∙◌, arith, length-append, length-drop, take-append-drop, take_at, drop_at}
+use Rattle.std.proofs.Common.{length-take-le}
 use mathlib.Core.List.{List, [], ◌∷◌, ◌++◌, flatten}
 use Rattle.std.proofs.lemmas.List.{length-replicate}
 use Rattle.bits.specs.Bits.{count}

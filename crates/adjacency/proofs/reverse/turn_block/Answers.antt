@@ -13,6 +13,7 @@ loop-p-preserved c = told_yes c.turn_place.ensures c.if-not-turn_place.false
 
 pub returns : goal.returns
 returns c =
+    let divided = c.args.lists.now.divided in
     yea (turning_on c.loop-p.invariant
-    (block_end c.args.u c.args.lists.now.divided c.requires.1 c.get-from.ensures.0 c.get-end.ensures.0 c.loop-p.auto.p-end
+    (block_end c.args.u divided c.requires.1 c.get-from.ensures.0 c.get-end.ensures.0 c.loop-p.auto.p-end
     c.loop-p-test.false))

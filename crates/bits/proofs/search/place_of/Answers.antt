@@ -7,7 +7,8 @@ use Rattle.bits.proofs.search.place_of.Goals as goal
 
 pub within-requires : goal.within-requires
 within-requires c =
-    found_bounds (byte_in c.loop-at.at (λ i. (c.type_inv.bytes i).fits) c.loop-at-test.true) c.loop-at.invariant (omega arith) c.in_byte.ensures
+    let byte = byte_in c.loop-at.at (λ i. (c.type_inv.bytes i).fits) c.loop-at-test.true in
+    found_bounds byte c.loop-at.invariant (omega arith) c.in_byte.ensures
 
 pub returns-then-left-c : goal.returns-then-left-c
 returns-then-left-c c =

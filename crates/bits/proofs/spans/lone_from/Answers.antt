@@ -32,7 +32,8 @@ loop-at-init c =
 
 pub returns-then-without-ne0 : goal.returns-then-without-ne0
 returns-then-without-ne0 c =
-    lone_second c.args.places (topped (goal.at.returns-then-without-ne0 c).After-top-h) c.without.ensures c.if-without-ne0.true
+    let at = (goal.at.returns-then-without-ne0 c).After-top-h in
+    lone_second c.args.places (topped at) c.without.ensures c.if-without-ne0.true
 
 -- the ones after it
 later : (c : After-ones_from)
@@ -43,21 +44,27 @@ later c = between_told (bits c.args.bytes.now) _ _ c.ones_from.ensures
 
 pub returns-then-ones_from-ne0 : goal.returns-then-ones_from-ne0
 returns-then-ones_from-ne0 c =
-    lone_further c.args.places (topped (goal.at.returns-then-ones_from-ne0 c).After-top-h) (later (goal.at.returns-then-ones_from-ne0 c).After-ones_from) c.if-ones_from-ne0.true
+    let at = goal.at.returns-then-ones_from-ne0 c in
+    lone_further c.args.places (topped at.After-top-h) (later at.After-ones_from) c.if-ones_from-ne0.true
 
 pub overflow_sub-result : goal.overflow_sub-result
 overflow_sub-result c = let l = (topped_one (topped (goal.at.overflow_sub-result c).After-top-h)).0 in omega arith
 
 pub overflow_sub-result-then-part-ne0 : goal.overflow_sub-result-then-part-ne0
-overflow_sub-result-then-part-ne0 c = let l = (topped_one (topped (goal.at.overflow_sub-result-then-part-ne0 c).After-top-h)).0 in omega arith
+overflow_sub-result-then-part-ne0 c =
+    let l = (topped_one (topped (goal.at.overflow_sub-result-then-part-ne0 c).After-top-h)).0 in
+    omega arith
 
 pub overflow_sub-result-then-part-ne0-2 : goal.overflow_sub-result-then-part-ne0-2
-overflow_sub-result-then-part-ne0-2 c = let l = (topped_one (topped (goal.at.overflow_sub-result-then-part-ne0-2 c).After-top-h)).0 in omega arith
+overflow_sub-result-then-part-ne0-2 c =
+    let l = (topped_one (topped (goal.at.overflow_sub-result-then-part-ne0-2 c).After-top-h)).0 in
+    omega arith
 
 pub returns-then-part-ne0 : goal.returns-then-part-ne0
 returns-then-part-ne0 c =
     let none = later (goal.at.returns-then-part-ne0 c).After-ones_from ∙ c.if-ones_from-ne0.false in
-    lone_only c.args.places (topped (goal.at.returns-then-part-ne0 c).After-top-h) c.without.ensures c.if-without-ne0.false none
+    let at = (goal.at.returns-then-part-ne0 c).After-top-h in
+    lone_only c.args.places (topped at) c.without.ensures c.if-without-ne0.false none
 
 pub loop-at-preserved : goal.loop-at-preserved
 loop-at-preserved c =

@@ -32,7 +32,16 @@ end c = c.window_of-w.result.from + c.window_of-w.result.width
 
 next : (c : After-top)
     → (c.top.result < end c) × (c.args.start ≤ end c - 1 - c.top.result)
-next c = span_top (let it : Standing (bits c.args.bytes.now) c.args.start c.args.places c.args.k c.window_of-w.result.from c.window_of-w.result.width c.window_of-w.result.bits c.window_of-w.result.left c.in_word-left.result = let l = length_bits c.args.bytes.now in let pre = c.requires in record { held = omega arith; window = c.window_of-w.ensures; place = c.in_word-left.ensures.0 } in it) c.top.result (let it : bit_and c.window_of-w.result.bits (1 * 2 ^ (64 - c.in_word-left.result) % 2 ^ 64 - 1) ≡ c.window_of-w.result.bits % 2 ^ (64 - c.in_word-left.result) = masked c.window_of-w.result.bits (64 - c.in_word-left.result) (omega arith) in it) c.top.ensures.1 c.top.ensures.2
+next c =
+    let a = c.args in
+    let w = c.window_of-w.result in
+    let left = 64 - c.in_word-left.result in
+    let stands : Standing (bits a.bytes.now) a.start a.places a.k w.from w.width w.bits w.left c.in_word-left.result =
+    let l = length_bits a.bytes.now in
+    let pre = c.requires in
+    record { held = omega arith; window = c.window_of-w.ensures; place = c.in_word-left.ensures.0 } in
+    let cut : bit_and w.bits (1 * 2 ^ left % 2 ^ 64 - 1) ≡ w.bits % 2 ^ left = masked w.bits left (omega arith) in
+    span_top stands c.top.result cut c.top.ensures.1 c.top.ensures.2
 
 pub window_of-w-requires : goal.window_of-w-requires
 window_of-w-requires c =
@@ -50,15 +59,21 @@ pub overflow_sub-result : goal.overflow_sub-result
 overflow_sub-result c = let b = span_bounds (standing (goal.at.overflow_sub-result c).After-in_word-left) in omega arith
 
 pub overflow_sub-result-then-rest-ne0 : goal.overflow_sub-result-then-rest-ne0
-overflow_sub-result-then-rest-ne0 c = let b = next (goal.at.overflow_sub-result-then-rest-ne0 c).After-top in omega arith
+overflow_sub-result-then-rest-ne0 c =
+    let b = next (goal.at.overflow_sub-result-then-rest-ne0 c).After-top in
+    omega arith
 
 pub overflow_sub-result-then-rest-ne0-2 : goal.overflow_sub-result-then-rest-ne0-2
-overflow_sub-result-then-rest-ne0-2 c = let b = next (goal.at.overflow_sub-result-then-rest-ne0-2 c).After-top in omega arith
+overflow_sub-result-then-rest-ne0-2 c =
+    let b = next (goal.at.overflow_sub-result-then-rest-ne0-2 c).After-top in
+    omega arith
 
 pub returns-then-rest-ne0 : goal.returns-then-rest-ne0
 returns-then-rest-ne0 c =
-    span_here (standing (goal.at.returns-then-rest-ne0 c).After-in_word-left) c.top.result (rest (goal.at.returns-then-rest-ne0 c).After-in_word-left) c.top.ensures.1 c.top.ensures.2
+    let at = (goal.at.returns-then-rest-ne0 c).After-in_word-left in
+    span_here (standing at) c.top.result (rest at) c.top.ensures.1 c.top.ensures.2
 
 pub returns : goal.returns
 returns c =
-    span_beyond (standing (goal.at.returns c).After-in_word-left) (rest (goal.at.returns c).After-in_word-left) c.if-rest-ne0.false c.next_from.ensures
+    let at = (goal.at.returns c).After-in_word-left in
+    span_beyond (standing at) (rest at) c.if-rest-ne0.false c.next_from.ensures
