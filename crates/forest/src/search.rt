@@ -129,7 +129,7 @@ fn begin(g: &Graph, work: &mut [u16])
 
 // The search that begins at the vertex `first` and then takes all vertices in order. It ends once all are entered: what
 // is left to try then leads to none. What the work slice held before does not matter. `left` bounds the steps that are
-// still to come.
+// still to come, for the proof that it ends.
 pub fn search(g: &Graph, first: usize, work: &mut [u16])
     requires { (Room g.now.n g.now.s work.old) × (first < g.now.n) }
     ensures { Searched (held g.now) (search_of (held g.now) all (starts_from g.now.n first)) g.now.n g.now.s work.new }

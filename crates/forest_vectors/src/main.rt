@@ -4,27 +4,14 @@
 
 ghost use Rattle.std.specs.Prelude.{◌+◌, ◌*◌, ◌≤◌};
 
-use print::{digest, show_bytes};
-use record::{Refusal, Vertex};
+use print::{Told, digest, show_bytes, verdict};
+use record::{Vertex, number_of};
 use records::*;
 use shapes::Shape;
-use std::{fmt, io};
+use std::io;
 
 mod records; // records.rt: the records that are asked about
 mod shapes; // shapes.rt: the largest records
-
-// What an operation answers: its value, or the refusal's number.
-#[derive(Drop)]
-struct Told<T>(Result<T, Refusal>);
-
-impl<T: fmt::Display> fmt::Display for Told<T> {
-    fn fmt<W: fmt::Write>(&self, f: &mut fmt::Formatter<W>) -> fmt::Result {
-        match &self.0 {
-            Ok(value) => write!(f, "{value}"),
-            Err(r) => write!(f, "refused {}", record::number_of(*r)),
-        }
-    }
-}
 
 // The bytes of a section of marks.
 fn mark_bytes(n: usize, m: usize) -> usize
@@ -60,7 +47,7 @@ impl Record<'_> {
             self.name,
             sizes.0,
             sizes.1,
-            Told(answer.map(|()| "accepted"))
+            verdict(answer.map_err(number_of))
         )
     }
 
@@ -68,7 +55,7 @@ impl Record<'_> {
         println!(rt;
             "{} loops: {}",
             self.name,
-            Told(forest::loop_figure(self.bytes))
+            Told(forest::loop_figure(self.bytes).map_err(number_of))
         )
     }
 

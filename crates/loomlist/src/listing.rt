@@ -1,5 +1,5 @@
 // What the program prints.
-ghost use Rattle.std.specs.Prelude.{◌≡◌, length, Some};
+ghost use Rattle.std.specs.Prelude.{◌≡◌, ◌≤◌, length, Some};
 ghost use Rattle.loomlist.specs.Text.{line, listing};
 
 use arrayvec::ArrayString;
@@ -55,6 +55,7 @@ pub struct Listing<'a> {
     pub counts: &'a [u16],
     pub heads: &'a [u16],
     pub loops: usize,
+    ghost few: { length visits.now ≤ 4096 },
     ghost parents_fit: { length parents.now ≡ length visits.now },
     ghost counts_fit: { length counts.now ≡ length visits.now },
     ghost heads_fit: { length heads.now ≡ length visits.now },

@@ -1,7 +1,25 @@
-// What programs print: lists, bytes and digests. It rests on none of the crates that they ask.
+// What programs print: answers, lists, bytes and digests. It rests on none of the crates that they ask.
 #![tactic(auto)]
 
-use std::io;
+use std::{fmt, io};
+
+// What a call answers: its value, or the number of its refusal.
+#[derive(Drop)]
+pub struct Told<T>(pub Result<T, usize>);
+
+impl<T: fmt::Display> fmt::Display for Told<T> {
+    fn fmt<W: fmt::Write>(&self, f: &mut fmt::Formatter<W>) -> fmt::Result {
+        match &self.0 {
+            Ok(value) => write!(f, "{value}"),
+            Err(k) => write!(f, "refused {k}"),
+        }
+    }
+}
+
+// The same of a call that answers no more than that nothing is refused.
+pub fn verdict(answer: Result<(), usize>) -> Told<&'static str> {
+    Told(answer.map(|()| "accepted"))
+}
 
 // The numbers of a list, to the end of the line.
 pub fn show_numbers(rt: &impl Print, list: &[u16]) -> io::Result<()> {

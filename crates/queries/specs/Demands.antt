@@ -311,7 +311,8 @@ module _ {bytes index : List ℕ} (w : Written bytes index) where
   -- ---- The number of sections: terminals that share a head are one section
 
   -- the lists of what Head and Parent answer are Table's: each cell is an answer, 0 for a root's parent
-  pub heads_answered : {v : ℕ} → Terminal bytes v → head bytes index v ≡ answered (get_or (heads_on bytes index) (v - 1) 0)
+  pub heads_answered : {v : ℕ} → Terminal bytes v
+      → head bytes index v ≡ answered (get_or (heads_on bytes index) (v - 1) 0)
   unfolding table_on
   heads_answered = (table_cells w).heads_are
 

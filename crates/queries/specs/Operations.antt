@@ -12,7 +12,8 @@ use Rattle.queries.specs.Queries.{visit_of, visited_of}
 
 -- order R, then 10 for the index
 unfoldable pub beside_rules : List ℕ → List ℕ → List Rule
-beside_rules bytes index = order_r bytes ++ ((10, other_length index (index_length (terminals bytes) (wires bytes))) ∷ [])
+beside_rules bytes index =
+    order_r bytes ++ ((10, other_length index (index_length (terminals bytes) (wires bytes))) ∷ [])
 
 -- order Q: these, then 11 for a number that counts from 1, a terminal's or a visit's
 unfoldable pub order_q : List ℕ → List ℕ → ℕ → List Rule
@@ -29,7 +30,8 @@ unfoldable pub ancestor_rules : List ℕ → List ℕ → ℕ → ℕ → List R
 ancestor_rules bytes index u v = order_q bytes index u ++ ((11, out_of_range (terminals bytes) v) ∷ [])
 
 unfoldable pub ancestor : List ℕ → List ℕ → ℕ → ℕ → Answer Bool
-ancestor bytes index u v = tried_then (ancestor_rules bytes index u v) (ancestor_of (view_of bytes index) (u - 1) (v - 1))
+ancestor bytes index u v =
+    tried_then (ancestor_rules bytes index u v) (ancestor_of (view_of bytes index) (u - 1) (v - 1))
 
 unfoldable pub children : List ℕ → List ℕ → ℕ → Answer ℕ
 children bytes index v = tried_then (order_q bytes index v) (answered (child_count (view_of bytes index) (v - 1)))

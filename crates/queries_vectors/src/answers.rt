@@ -14,16 +14,3 @@ impl<T: fmt::Display> fmt::Display for Told<T> {
         }
     }
 }
-
-// What Table and Lookup answer.
-#[derive(Clone, Copy)]
-pub struct Ruled(pub Result<(), Refusal>);
-
-impl fmt::Display for Ruled {
-    fn fmt<W: fmt::Write>(&self, f: &mut fmt::Formatter<W>) -> fmt::Result {
-        match self.0 {
-            Ok(()) => write!(f, "accepted"),
-            Err(r) => write!(f, "refused {}", record::number_of(r)),
-        }
-    }
-}

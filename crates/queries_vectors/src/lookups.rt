@@ -2,8 +2,8 @@
 // after the call.
 ghost use Rattle.std.specs.Prelude.{◌≤◌};
 
-use crate::answers::Ruled;
 use crate::records::*;
+use print::verdict;
 use std::{fmt, io};
 
 // The numbers of a list, of a longer one the first six.
@@ -37,7 +37,8 @@ impl Case<'_> {
         let mut second = [911; 513];
         let heads = &mut first[..heads];
         let visits = &mut second[..visits];
-        let answer = Ruled(queries::lookup(self.bytes, self.index, list, heads, visits));
+        let done = queries::lookup(self.bytes, self.index, list, heads, visits);
+        let answer = verdict(done.map_err(record::number_of));
         print!(rt; "{} lookup{} to", self.name, Front(list))?;
         print!(rt; " {} {}: {answer}", heads.len(), visits.len())?;
         println!(rt; ",{},{}", Front(heads), Front(visits))

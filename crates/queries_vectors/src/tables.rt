@@ -2,9 +2,8 @@
 // list after the call.
 ghost use Rattle.std.specs.Prelude.{◌≤◌};
 
-use crate::answers::Ruled;
 use crate::records::*;
-use print::show_numbers;
+use print::{show_numbers, verdict};
 use record::Vertex;
 use std::{fmt, io};
 
@@ -63,7 +62,10 @@ fn table(rt: &impl Print, name: &str, bytes: &[u8], start: usize, lent: Lent) ->
     let counts = &mut third[..lent.counts];
     let heads = &mut fourth[..lent.heads];
     let answer = queries::table(bytes, Vertex(start), work, visits, parents, counts, heads);
-    println!(rt; "{name} table {start} {lent}: {}", Ruled(answer))?;
+    println!(rt;
+        "{name} table {start} {lent}: {}",
+        verdict(answer.map_err(record::number_of))
+    )?;
     print!(rt; "{name} visits:")?;
     show_numbers(rt, visits)?;
     print!(rt; "{name} parents:")?;

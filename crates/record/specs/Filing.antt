@@ -42,4 +42,5 @@ unfoldable pub file : List ℕ → List ℕ → List ℕ → Answer (Unit {0})
 file degrees neighbours bytes = tried (file_rules degrees neighbours bytes) tt
 
 unfoldable pub filed : List ℕ → List ℕ → List ℕ → List ℕ
-filed degrees neighbours bytes = buffer_after (file_rules degrees neighbours bytes) (record_from degrees neighbours) bytes
+filed degrees neighbours bytes =
+    buffer_after (file_rules degrees neighbours bytes) (record_from degrees neighbours) bytes

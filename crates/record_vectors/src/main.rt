@@ -4,26 +4,9 @@
 
 ghost use Rattle.std.specs.Prelude.{◌≤◌};
 
-use print::{show_bytes, show_numbers};
-use record::{Refusal, Vertex};
-use std::{fmt, io};
-
-// What an operation answers: its value, or the refusal's number.
-#[derive(Drop)]
-struct Told<T>(Result<T, Refusal>);
-
-impl<T: fmt::Display> fmt::Display for Told<T> {
-    fn fmt<W: fmt::Write>(&self, f: &mut fmt::Formatter<W>) -> fmt::Result {
-        match &self.0 {
-            Ok(value) => write!(f, "{value}"),
-            Err(r) => write!(f, "refused {}", record::number_of(*r)),
-        }
-    }
-}
-
-fn verdict(answer: Result<(), Refusal>) -> Told<&'static str> {
-    Told(answer.map(|()| "accepted"))
-}
+use print::{Told, show_bytes, show_numbers, verdict};
+use record::{Vertex, number_of};
+use std::io;
 
 // A record, and the sizes to ask with.
 #[derive(Clone, Copy)]
@@ -40,18 +23,18 @@ impl Case<'_> {
         println!(rt;
             "{} check: {}",
             self.name,
-            verdict(record::check(self.bytes))
+            verdict(record::check(self.bytes).map_err(number_of))
         )
     }
 
     fn degree(&self, rt: &impl Print, v: usize) -> io::Result<()> {
-        let answer = Told(record::degree(self.bytes, Vertex(v)));
+        let answer = Told(record::degree(self.bytes, Vertex(v)).map_err(number_of));
         println!(rt; "{} degree {v}: {answer}", self.name)
     }
 
     // Unpack, with the list after it.
     fn unpack(&self, rt: &impl Print, list: &mut [u16]) -> io::Result<()> {
-        let answer = verdict(record::unpack(self.bytes, list));
+        let answer = verdict(record::unpack(self.bytes, list).map_err(number_of));
         print!(rt; "{} unpack {}: {answer},", self.name, list.len())?;
         show_numbers(rt, list)
     }
@@ -501,7 +484,7 @@ fn file(
 {
     let mut marks = [0xA5; 22];
     let bytes = &mut marks[..length];
-    let answer = verdict(record::file(degrees, neighbours, bytes));
+    let answer = verdict(record::file(degrees, neighbours, bytes).map_err(number_of));
     print!(rt; "{name} file {length}: {answer},")?;
     show_bytes(rt, bytes)
 }

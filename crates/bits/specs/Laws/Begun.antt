@@ -91,7 +91,8 @@ module _ {bytes : List ℕ} {s : List Bool} (b : Begun bytes s) where
       ∙ ap (λ (i : ℕ). replicate {A = Bool} i false) left in
       record {
         fits = omega arith;
-        holds = o ∙ ap₂ (λ (x y : List Bool). x ++ (to_bits w v ++ y)) front back ∙ sym (append_assoc s (to_bits w v) _);
+        holds =
+            o ∙ ap₂ (λ (x y : List Bool). x ++ (to_bits w v ++ y)) front back ∙ sym (append_assoc s (to_bits w v) _);
       }
 
   pub begun_one : {out : List ℕ} {i : ℕ} → i ≡ length s → i < 8 * length bytes

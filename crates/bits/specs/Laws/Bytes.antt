@@ -23,7 +23,8 @@ take_bytes (suc n) (b ∷ bytes) h (suc i) = take_bytes n bytes (λ j. h (suc j)
 pub length_bits : (bytes : List ℕ) → length (bits bytes) ≡ 8 * length bytes
 unfolding bits
 length_bits [] = refl
-length_bits (b ∷ bytes) = length-append (to_bits 8 b) (bits bytes) ∙ omega (arith, length_to_bits 8 b, length_bits bytes)
+length_bits (b ∷ bytes) =
+    length-append (to_bits 8 b) (bits bytes) ∙ omega (arith, length_to_bits 8 b, length_bits bytes)
 
 pub bits_append : (xs ys : List ℕ) → bits (xs ++ ys) ≡ bits xs ++ bits ys
 unfolding bits

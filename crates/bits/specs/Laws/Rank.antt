@@ -86,8 +86,10 @@ module _ (bytes : List ℕ) (start places : ℕ) (h : start + places ≤ 8 * len
       rw whole (length-take-le places (drop start (bits bytes)) (simp length-drop (omega arith)))
 
   -- and its bits are those of the bytes
-  pub bit_held : (i : ℕ) → i < places → get_or (string bytes start places) i false ≡ get_or (bits bytes) (start + i) false
-  bit_held i k = rw whole (get_or-take places (drop start (bits bytes)) i false k ∙ get_or-drop start (bits bytes) i false)
+  pub bit_held : (i : ℕ) → i < places
+      → get_or (string bytes start places) i false ≡ get_or (bits bytes) (start + i) false
+  bit_held i k =
+      rw whole (get_or-take places (drop start (bits bytes)) i false k ∙ get_or-drop start (bits bytes) i false)
 
 -- ---- rank
 

@@ -1,4 +1,4 @@
--- The roots in a list of parents, as an iterator counts them.
+-- The roots in a list of parents, by the library's count.
 use mathlib.Core.Path.{◌≡◌, refl, ◌∙◌}
 use mathlib.Core.Bool.{Bool, true, false, cond}
 use mathlib.Core.List.{List, ◌∷◌}

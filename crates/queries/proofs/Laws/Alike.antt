@@ -88,11 +88,13 @@ module _ {bytes a b : List ℕ} (s : Alike bytes a b) where
       long = long_a ∙ sym long_b
 
       each : (u i : ℕ) → i < length (block (blocks bytes) u)
-          → get_or (section_of n m a k) (place_of bytes u i) false ≡ get_or (section_of n m b k) (place_of bytes u i) false
+          → get_or (section_of n m a k) (place_of bytes u i) false
+          ≡ get_or (section_of n m b k) (place_of bytes u i) false
       each u i l = go (dec_lt (place_of bytes u i) (n + 2 * m))
         where
           go : Dec (place_of bytes u i < n + 2 * m)
-              → get_or (section_of n m a k) (place_of bytes u i) false ≡ get_or (section_of n m b k) (place_of bytes u i) false
+              → get_or (section_of n m a k) (place_of bytes u i) false
+              ≡ get_or (section_of n m b k) (place_of bytes u i) false
           go (yes p) =
               section_bit_lem a n m s.first_length k (place_of bytes u i) h p
               ∙ s.same_marks k u i h l

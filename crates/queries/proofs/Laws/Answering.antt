@@ -32,7 +32,9 @@ module _ (bytes index list : List ℕ) (lent : Lists) where
         unfolding lookup
         stops e =
             let ask = head_and_visit bytes index in
-            let left = questions_left bytes index list lent b g ∙ passed_to ask list i (omega arith) (λ j l. both_answered (before j l)) in
+            let left =
+            questions_left bytes index list lent b g
+            ∙ passed_to ask list i (omega arith) (λ j l. both_answered (before j l)) in
             sym (told_number (first_broken (lookup_rules bytes index list lent)) tt (left ∙ asked_refused ask list h e)
             (both_some bytes index (get_or list i 0) k e))
 

@@ -47,7 +47,8 @@ module _ {w : View} {n : ℕ} where
     heads = λ u s. cell u s (kept.cells u);
   }
     where
-      cell : (u : ℕ) → 0 < get_or after u 0 → (get_or after u 0 ≡ get_or before u 0) ⊎ ((get_or after u 0 ≡ h) × OnWay way k u)
+      cell : (u : ℕ) → 0 < get_or after u 0
+          → (get_or after u 0 ≡ get_or before u 0) ⊎ ((get_or after u 0 ≡ h) × OnWay way k u)
           → HeadIs w u (get_or after u 0)
       cell u s (inl e) = subst (HeadIs w u) (sym e) (known.heads u (omega arith))
       cell u s (inr e) =

@@ -118,7 +118,8 @@ module _ (bytes index list : List ℕ) where
     pub looking_visits : length found.visits ≡ length list
     looking_visits = l.visits_to.size ∙ length_visits
 
-    pub looking_stops : i < length list → (q : Refusal) → refused (number q) ≡ head_and_visit bytes index (get_or list i 0)
+    pub looking_stops : i < length list → (q : Refusal)
+        → refused (number q) ≡ head_and_visit bytes index (get_or list i 0)
         → LookedAll bytes index list found (refused (number q))
     looking_stops h q e = record {
       answers = told_number (first_broken (asks (head_and_visit bytes index) list)) tt
@@ -201,7 +202,8 @@ module _ (bytes index list : List ℕ) (lent : Lists) where
             leaves = buffer_kept (lookup_rules bytes index list lent) (lookup_lists bytes index list) lent h;
           }
 
-      pub lookup_filled : {after : Lists} → answered tt ≡ tried {A = Unit {0}} (asks (head_and_visit bytes index) list) tt
+      pub lookup_filled : {after : Lists}
+          → answered tt ≡ tried {A = Unit {0}} (asks (head_and_visit bytes index) list) tt
           → after ≡ lookup_lists bytes index list → LookupDone bytes index list lent after (answered tt)
       unfolding lookup looked_up
       lookup_filled e f =

@@ -89,11 +89,13 @@ module _ (w : View) where
 
         child_there : t < length w.graph → answered (t + 1) ≡ tried_then ((13, rule) ∷ []) (child_of w u j)
         unfolding child_of
-        child_there l = vertex_yes l ∙ ap (vertex_or w) (sym is_t) ∙ then_untold ((13, rule) ∷ []) (child_of w u j) enough
+        child_there l =
+            vertex_yes l ∙ ap (vertex_or w) (sym is_t) ∙ then_untold ((13, rule) ∷ []) (child_of w u j) enough
 
         child_stray : length w.graph ≤ t → refused 12 ≡ tried_then ((13, rule) ∷ []) (child_of w u j)
         unfolding child_of
-        child_stray l = vertex_no l ∙ ap (vertex_or w) (sym is_t) ∙ then_untold ((13, rule) ∷ []) (child_of w u j) enough
+        child_stray l =
+            vertex_no l ∙ ap (vertex_or w) (sym is_t) ∙ then_untold ((13, rule) ∷ []) (child_of w u j) enough
 
   -- ---- Visit
 

@@ -258,11 +258,14 @@ module _ {bytes index : List ℕ} {n m : ℕ} (r : Ready bytes index n m) where
         let w = r.written in
         let v = column (λ i. i) (visit bytes index) (λ u. suc (number F u)) (λ v t. visit_answer w t)
         {l = visits} cv.size (λ i h. cv.cells i h ∙ ap suc (stored_is h)) in
-        let p = column or_zero (the_parent_answer bytes index) (λ u. unless_zero (parent F u)) (λ v t. parent_answer w t)
+        let p =
+        column or_zero (the_parent_answer bytes index) (λ u. unless_zero (parent F u)) (λ v t. parent_answer w t)
         {l = parents} cp.size (λ i h. cp.cells i h (stored_inside h)
         ∙ ap (said or_zero) (parent_shown formed covered shows i (inside h))) in
-        let c = column (λ k. k) (the_children_answer bytes index) (λ u. length (children F u)) (λ v t. children_answer w t)
+        let c =
+        column (λ k. k) (the_children_answer bytes index) (λ u. length (children F u)) (λ v t. children_answer w t)
         {l = counts} cc.size (λ i h. cc.cells i h ∙ count_shown formed covered shows i (inside h)) in
-        let t = column (λ u. u) (the_head_answer bytes index) (λ u. suc (head (blocks bytes) F u)) (λ v t. head_answer w t)
+        let t =
+        column (λ u. u) (the_head_answer bytes index) (λ u. suc (head (blocks bytes) F u)) (λ v t. head_answer w t)
         {l = heads} ch.size (λ i h. ch.cells i h (stored_inside h) ∙ head_is h) in
         rw (v, p, c, t)

@@ -159,7 +159,8 @@ module _ {bytes : List ℕ} (a : Accepted bytes) where
         ∙ mark_bit (marking k) g u j h p.fits
 
     pub built_e : {u j v : ℕ} → Place (blocks bytes) u j v
-        → section_bit bytes (index_of (blocks bytes) s) 0 (place_of bytes u j) ≡ child_mark (forest (blocks bytes) s) u j
+        → section_bit bytes (index_of (blocks bytes) s) 0 (place_of bytes u j)
+        ≡ child_mark (forest (blocks bytes) s) u j
     built_e = marked_bit 0 (omega arith)
 
     pub built_p : {u j v : ℕ} → Place (blocks bytes) u j v

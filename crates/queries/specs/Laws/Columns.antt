@@ -44,7 +44,8 @@ module _ {A : Type 0} (number : A → ℕ) (ask : ℕ → Answer A) (n : ℕ) wh
         ∙ sym column_is
 
   -- the cell of a terminal that is answered
-  pub cell_told : {v : ℕ} {a : A} → Ranged n v → ask v ≡ answered a → get_or (answers_of number ask n) (v - 1) 0 ≡ number a
+  pub cell_told : {v : ℕ} {a : A} → Ranged n v → ask v ≡ answered a
+      → get_or (answers_of number ask n) (v - 1) 0 ≡ number a
   unfolding answers_of said
   cell_told {v} r e =
       let s = r.some in

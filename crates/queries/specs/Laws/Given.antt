@@ -55,7 +55,8 @@ module _ (bytes index : List ℕ) where
   lacks_7 (v ∷ list) = rw (asked_7 v (head_and_visit bytes index v) refl, lacks_7 list)
 
 pub never_seven : (bytes : List ℕ) → NeverGiven 7 bytes
-unfolding has order_r layout_rules place_rules check_rules degree_rules unpack_rules file_rules build_rules beside_rules order_q
+unfolding has order_r layout_rules place_rules check_rules degree_rules unpack_rules file_rules build_rules
+    beside_rules order_q
     ancestor_rules child_rules table_rules lookup_rules check degree unpack file loop_figure build parent ancestor children
     child visited table lookup child_of
 never_seven bytes = record {

@@ -78,7 +78,8 @@ module _ (bytes index list : List ℕ) {i h x : ℕ} (k : i < length list)
 -- ---- which refusals are given
 
 -- by rules, and then by an answer that refuses with 12 alone
-then_some : {A : Type 0} (rules : List Rule) {a : Answer A} → Twelve a → {k : ℕ} → refused k ≡ tried_then rules a → 1 ≤ k
+then_some : {A : Type 0} (rules : List Rule) {a : Answer A} → Twelve a → {k : ℕ} → refused k ≡ tried_then rules a
+    → 1 ≤ k
 unfolding otherwise
 then_some {A} rules {a} t {k} e = go (first_broken rules) e
   where

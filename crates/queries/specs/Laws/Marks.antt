@@ -101,7 +101,8 @@ ones_each f i p (v ∷ l) k h = go (f i) refl k h (λ q j a. ones_each f (suc i)
   where
     go : (b : Bool) → f i ≡ b → (k : ℕ) → k < count (f i ∷ map f (count_up (suc i) (length l)))
         → ((q j : ℕ) → j < count (map f (count_up (suc i) (length l)))
-        → get_or l (get_or (ones_at q (map f (count_up (suc i) (length l)))) j 0 - q) 0 ≡ get_or (marked f (suc i) l) j 0)
+        → get_or l (get_or (ones_at q (map f (count_up (suc i) (length l)))) j 0 - q) 0
+        ≡ get_or (marked f (suc i) l) j 0)
         → get_or (v ∷ l) (get_or (ones_at p (f i ∷ map f (count_up (suc i) (length l)))) k 0 - p) 0
         ≡ get_or (marked f i (v ∷ l)) k 0
     go true e zero h rec = let z : p - p ≡ 0 = omega arith in rw (e, marked, ones_at, z)
@@ -126,7 +127,8 @@ select_each f l k h = ones_each f 0 1 l k h
 -- ---- the block's part of a section
 
 pub block_part : (test : PlaceTest) (g : Blocks) (u : ℕ) → u < length g
-    → take (length (block g u)) (drop (place_bit g u 0) (section test g)) ≡ map (test u) (count_up 0 (length (block g u)))
+    → take (length (block g u)) (drop (place_bit g u 0) (section test g))
+    ≡ map (test u) (count_up 0 (length (block g u)))
 block_part test g u h =
     let k : ℕ = length (block g u) in
     let a = start_more g u h in

@@ -3,7 +3,8 @@
 --   above_settles, terminal_settles, related_settles, numbered_settles    what the queries answer
 --   step_settles, move_settles, turn_settles                              one step of a climb
 --   looked_settles                                                        one terminal of a list
-use Rattle.std.specs.Prelude.{◌≡◌, refl, Bool, ◌⊎◌, ℕ, Result, Ok, Err}
+--   read_settles                                                          the record and the index that the rules let pass
+use Rattle.std.specs.Prelude.{◌≡◌, refl, Bool, ◌⊎◌, List, ℕ, Result, Ok, Err}
 use Rattle.std.specs.Prelude as code
 use Rattle.std.specs.declared.ops.ControlFlow.{ControlFlow}
 use Rattle.std.proofs.Common.{ap, inl, inr}
@@ -16,6 +17,8 @@ use Rattle.forest.specs.declared.Dfi.{Dfi}
 use Rattle.queries.specs.Answers.{terminal_or_none, above, terminal, related, numbered}
 use Rattle.queries.specs.Steps.{rise_or_none, step_of, move_of, turn_of}
 use Rattle.queries.specs.Looking.{looked_of}
+use Rattle.queries.specs.Seen.{read}
+use Rattle.queries.specs.declared.indexed.Indexed.{Indexed}
 use Rattle.queries.specs.declared.climbs.Rise.{Rise}
 use Rattle.queries.specs.declared.lookups.Seen.{Seen}
 
@@ -120,3 +123,18 @@ looked_back = result_of seen_back
 pub looked_settles : (r : Result Seen Refusal) {a : Answer (ℕ × ℕ)} → looked_of r ≡ a → r ≡ looked_back a
 unfolding looked_back seen_back vertex_back dfi_back
 looked_settles = answer_settles (λ (s : Seen). (s.head.0, s.visit.0)) seen_back (λ s. refl)
+
+-- ---- the record and the index that the rules let pass
+
+pub read_pair : Result Indexed Refusal → Result (List ℕ × List ℕ) Refusal
+read_pair (Ok i) = Ok (i.layout.bytes.now, i.index.now)
+read_pair (Err r) = Err r
+
+pub pair_of : Answer (List ℕ × List ℕ) → Result (List ℕ × List ℕ) Refusal
+pair_of = result_of (λ (p : List ℕ × List ℕ). p)
+
+pub read_settles : (r : Result Indexed Refusal) {a : Answer (List ℕ × List ℕ)} → read r ≡ a → read_pair r ≡ pair_of a
+unfolding read_pair pair_of
+read_settles (Ok i) e =
+    answer_settles (λ (p : List ℕ × List ℕ). p) (λ p. p) (λ p. refl) (Ok (i.layout.bytes.now, i.index.now)) e
+read_settles (Err r) e = answer_settles (λ (p : List ℕ × List ℕ). p) (λ p. p) (λ p. refl) (Err r) e

@@ -37,5 +37,6 @@ write_record-requires c =
 pub returns : goal.returns
 returns c =
     let l = passed (goal.at.returns c).Else-bad_lists in
-    let (told, left) = file_done l _ c.in_ok-in_room.ensures (c.if-bytes-record_length.false ∙ c.record_length.ensures) in
+    let (told, left) =
+    file_done l _ c.in_ok-in_room.ensures (c.if-bytes-record_length.false ∙ c.record_length.ensures) in
     (told, c.write_record.ensures ∙ left)

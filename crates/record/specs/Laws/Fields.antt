@@ -20,7 +20,8 @@ pub fields_from_at : (s : List Bool) (start k p : ℕ) → p < k
 unfolding fields_from
 fields_from_at s start zero p h = absurd (omega arith)
 fields_from_at s start (suc k) zero h = ap (field 12 s) (omega arith)
-fields_from_at s start (suc k) (suc p) h = fields_from_at s (start + 12) k p (omega arith) ∙ ap (field 12 s) (omega arith)
+fields_from_at s start (suc k) (suc p) h =
+    fields_from_at s (start + 12) k p (omega arith) ∙ ap (field 12 s) (omega arith)
 
 -- ---- written
 

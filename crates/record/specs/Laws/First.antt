@@ -43,7 +43,8 @@ only_one n true e = sym e
 only_one n false e = absurd (omega arith)
 
 -- the first or the second of two
-pub one_of_two : (n m : ℕ) (a b : Bool) {k : ℕ} → first_broken ((n, a) ∷ (m, b) ∷ []) ≡ suc k → (suc k ≡ n) ⊎ (suc k ≡ m)
+pub one_of_two : (n m : ℕ) (a b : Bool) {k : ℕ} → first_broken ((n, a) ∷ (m, b) ∷ []) ≡ suc k
+    → (suc k ≡ n) ⊎ (suc k ≡ m)
 unfolding first_broken
 one_of_two n m true b e = inl (sym e)
 one_of_two n m false b e = inr (only_one m b e)

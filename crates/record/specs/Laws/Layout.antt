@@ -81,6 +81,7 @@ module _ {bytes : List ℕ} (s : Shaped bytes) where
       omega (arith, start_last (unary bytes), length_unary, s.ones)
 
   pub degree_starts : (u : ℕ) → u < terminals bytes
-      → length (block (blocks bytes) u) ≡ get_or (starts_of (unary bytes)) (u + 1) 0 - get_or (starts_of (unary bytes)) u 0
+      → length (block (blocks bytes) u)
+      ≡ get_or (starts_of (unary bytes)) (u + 1) 0 - get_or (starts_of (unary bytes)) u 0
   unfolding blocks
   degree_starts u h = length_block (unary bytes) s.begins (fields bytes) unary_whole u (omega (arith, s.ones))

@@ -218,7 +218,8 @@ module _ (bytes list : List ℕ) (v : ℕ) where
   given_lies : neighbours_given bytes list v ≡ true → Lies bytes list v
   unfolding neighbours_given other_length degree_rules
   given_lies e =
-      let (d, l) = and_parts (eqb (first_broken (degree_rules bytes v)) 0) (not (other_length list (2 * wires bytes))) e in
+      let (d, l) =
+      and_parts (eqb (first_broken (degree_rules bytes v)) 0) (not (other_length list (2 * wires bytes))) e in
       let (r, more) = both_kept (order_numbered bytes) _ (eqb-true _ _ d) in
       let (i, _) = rule_kept 10 (out_of_range (terminals bytes) v) [] more in
       part_lies (sound_of bytes r refl refl) v i refl refl list (eqb-true _ _ (not-false _ (not-true _ l)))

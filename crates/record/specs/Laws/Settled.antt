@@ -5,13 +5,14 @@
 --   number_bounds    the numbers that refusals have
 --   settled          what has a way back is settled
 --   result_of, answer_settles    a call's result, by its answer
---   verdict_settles, counted_settles, shape_settles    the results of this crate
+--   verdict_settles, counted_settles, shape_settles, laid_settles    the results of this crate
 use Rattle.std.specs.Prelude.{◌≡◌, refl, List, [], ◌∷◌, ℕ, ◌-◌, ◌≤◌, get_or, Result, Ok, Err}
 use Rattle.std.proofs.Common.{sym, ap, ◌∙◌, arith}
 use Rattle.record.specs.Answers.{Answer, refused, answered, number, answer, verdict, counted}
-use Rattle.record.specs.Sized.{Sizes, sizes, shape}
+use Rattle.record.specs.Sized.{Sizes, sizes, shape, laid_shape}
 use Rattle.record.specs.declared.Refusal.{Refusal}
 use Rattle.record.specs.declared.layout.Layout.{Layout}
+use Rattle.record.specs.declared.layout.LaidOut.{LaidOut}
 
 -- ---- refusals
 
@@ -126,3 +127,12 @@ pub shape_settles : (r : Result Layout Refusal) {a : Answer Sizes} → shape r �
 unfolding sized shape_of
 shape_settles (Ok l) e = answer_settles (λ s. s) (λ s. s) (λ s. refl) (Ok (sizes l)) e
 shape_settles (Err r) e = answer_settles (λ s. s) (λ s. s) (λ s. refl) (Err r) e
+
+pub laid_sized : Result LaidOut Refusal → Result Sizes Refusal
+laid_sized (Ok l) = Ok (sizes l.layout)
+laid_sized (Err r) = Err r
+
+pub laid_settles : (r : Result LaidOut Refusal) {a : Answer Sizes} → laid_shape r ≡ a → laid_sized r ≡ shape_of a
+unfolding laid_sized shape_of
+laid_settles (Ok l) e = answer_settles (λ s. s) (λ s. s) (λ s. refl) (Ok (sizes l.layout)) e
+laid_settles (Err r) e = answer_settles (λ s. s) (λ s. s) (λ s. refl) (Err r) e

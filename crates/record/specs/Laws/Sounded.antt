@@ -141,7 +141,8 @@ module _ {bytes : List ℕ} {n m : ℕ} (s : Sound bytes n m) where
 
   -- what lies between it and the next
   pub sound_span : {v from to : ℕ} → v < n → SpanOf (take (n + 2 * m) (drop 28 (bits bytes))) (v + 1) from to
-      → (from ≡ get_or (starts_of (unary bytes)) v 0 + (v + 1)) × (to ≡ get_or (starts_of (unary bytes)) (v + 1) 0 + (v + 1))
+      → (from ≡ get_or (starts_of (unary bytes)) v 0 + (v + 1)) × (to
+      ≡ get_or (starts_of (unary bytes)) (v + 1) 0 + (v + 1))
   sound_span {v} h e =
       let d = unary_held in
       let c : v < count (unary bytes) = omega (arith, sound_ones) in
@@ -157,7 +158,8 @@ module _ {bytes : List ℕ} {n m : ℕ} (s : Sound bytes n m) where
 
   -- rule 5, by the ones of the bits after the used ones
   pub spare_counted : (spare : ℕ) → spare ≡ 8 * length bytes - (28 + (n + 2 * m) + 12 * (2 * m))
-      → {r : ℕ} → r ≡ rank (string bytes (28 + (n + 2 * m) + 12 * (2 * m)) spare) spare → not (eqb r 0) ≡ spare_set bytes
+      → {r : ℕ} → r ≡ rank (string bytes (28 + (n + 2 * m) + 12 * (2 * m)) spare) spare → not (eqb r 0)
+      ≡ spare_set bytes
   unfolding spare_set used_bits
   spare_counted spare e {r} er =
       let used : ℕ = 28 + (n + 2 * m) + 12 * (2 * m) in

@@ -40,7 +40,8 @@ module _ {bytes : List ℕ} {n m : ℕ} (s : Sound bytes n m) {u : ℕ} (h : u <
   pub span_one : get_or (starts_of (unary bytes)) u 0 + u + 1 ≡ select (unary bytes) (suc u)
   span_one =
       let e : u + 1 ≡ suc u = omega arith in
-      let f : get_or (starts_of (unary bytes)) u 0 + u + 1 ≡ get_or (starts_of (unary bytes)) u 0 + (u + 1) = omega arith in
+      let f : get_or (starts_of (unary bytes)) u 0 + u + 1 ≡ get_or (starts_of (unary bytes)) u 0 + (u + 1) =
+      omega arith in
       f ∙ start_select (unary bytes) u counted ∙ ap (select (unary bytes)) e
 
   -- the neighbour at position j

@@ -14,7 +14,8 @@ returns c =
     let a = c.args in
     let room = 8 - a.start % 8 in
     let b = get_or a.bytes.now (a.start / 8) 0 in
-    let byte : IsByte a.bytes.now (a.start / 8) b = byte_in (a.start / 8) (λ i. (c.type_inv.bytes i).fits) (omega arith) in
+    let byte : IsByte a.bytes.now (a.start / 8) b =
+    byte_in (a.start / 8) (λ i. (c.type_inv.bytes i).fits) (omega arith) in
     rw (shifted_ones 8 room (a.start % 8) (omega arith)) (record {
       inside = c.requires;
       same = and_mask b room ∙ ap (λ (x : ℕ). x % 2 ^ room) (sym (div-one b))

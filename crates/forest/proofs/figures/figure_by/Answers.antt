@@ -10,17 +10,6 @@ use Rattle.forest.specs.Operations.{loops, loop_figure}
 use Rattle.forest.specs.Laws.Figures.{figure_told}
 use Rattle.forest.proofs.figures.figure_by.Goals as goal
 
-pub slice_bounds-check_arrays-end-2 : goal.slice_bounds-check_arrays-end-2
-slice_bounds-check_arrays-end-2 c = sym (length-take-le _ _ c.requires.room.0)
-
-pub check_arrays-requires : goal.check_arrays-requires
-check_arrays-requires c = record {
-  all_starts = c.requires.arrays.0;
-  all_nbrs = c.requires.arrays.1;
-  all_reverse = length-take-le _ _ c.requires.room.0;
-  all_next = c.requires.arrays.2;
-}
-
 pub figure_from-requires-clause-accepted : goal.figure_from-requires-clause-accepted
 figure_from-requires-clause-accepted c =
     let (told, arrays) = c.in_ok-check_arrays.ensures in

@@ -13,10 +13,6 @@ invariant_of-g c =
     let (arrays, formed, sized, places) = graph_asked c.requires.accepted.0 c.requires.accepted.1 in
     record { arrays = arrays; formed = formed; sized = sized; places = places; apart = c.stride-s.ensures }
 
-pub search-requires : goal.search-requires
-search-requires c =
-    search_asked c.requires.accepted.0 c.requires.accepted.1 c.stride-s.ensures c.if-n-eq0.false c.requires.room
-
 pub loops_by-requires : goal.loops_by-requires
 loops_by-requires c =
     parents_asked c.requires.accepted.0 c.requires.accepted.1 c.search.ensures

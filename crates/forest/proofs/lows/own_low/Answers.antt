@@ -4,9 +4,6 @@ use native.Mathlib.Omega.{arith}
 use Rattle.forest.proofs.Laws.Lowest.{looked_begin, looked_inside, looked_more, looked_end}
 use Rattle.forest.proofs.lows.own_low.Goals as goal
 
-pub loop-p-init : goal.loop-p-init
-loop-p-init c = looked_begin c.args.g.now c.requires.1 c.args.work.now c.get-p.ensures.0 refl
-
 pub next_low-own-requires : goal.next_low-own-requires
 next_low-own-requires c =
     let inside = looked_inside c.args.g.now c.requires.1 c.get-p-end.ensures.0 c.loop-p-test.true in

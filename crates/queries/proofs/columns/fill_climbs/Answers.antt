@@ -12,7 +12,8 @@ at_hand : (c : After-from-v)
     → (c.from-v.result < c.args.b.now.indexed.layout.n)
     × ((seen c.args.b.now.indexed).stored c.from-v.result ≡ c.loop-x.x-index)
 at_hand c =
-    let inside : c.loop-x.x-index < c.args.b.now.indexed.layout.n = omega (arith, c.loop-x-test.true, c.requires.1.size) in
+    let inside : c.loop-x.x-index < c.args.b.now.indexed.layout.n =
+    omega (arith, c.loop-x-test.true, c.requires.1.size) in
     order_cell (built_ready c.args.b.now) c.requires.1 inside c.from-v.ensures
 
 pub place_of-p-requires : goal.place_of-p-requires

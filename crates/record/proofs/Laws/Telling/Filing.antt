@@ -27,7 +27,8 @@ module _ (degrees neighbours bytes : List ℕ) where
   file_broken : {k : ℕ} → first_broken (file_rules degrees neighbours bytes) ≡ suc k
       → (refused (suc k) ≡ file degrees neighbours bytes) × (bytes ≡ filed degrees neighbours bytes)
   unfolding file filed
-  file_broken e = (told tt e, buffer_kept (file_rules degrees neighbours bytes) (record_from degrees neighbours) bytes e)
+  file_broken e =
+      (told tt e, buffer_kept (file_rules degrees neighbours bytes) (record_from degrees neighbours) bytes e)
 
   -- rule 16 is
   pub file_bad_lists : bad_lists degrees neighbours ≡ true

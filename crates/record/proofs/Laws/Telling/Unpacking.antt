@@ -108,7 +108,8 @@ module _ {bytes list after : List ℕ} {a : Answer (Unit {0})} (h : Handed bytes
   accept_refused e = (told_same (check_rules bytes) tt (sizes_of bytes) (sym e ∙ h.told), h.left)
 
   pub accept_passed : {n m : ℕ} → Laid bytes n m → a ≡ answered tt
-      → (answered (record { n = n; m = m }) ≡ tried (check_rules bytes) (sizes_of bytes)) × (after ≡ unpacked bytes list)
+      → (answered (record { n = n; m = m }) ≡ tried (check_rules bytes) (sizes_of bytes))
+      × (after ≡ unpacked bytes list)
   unfolding check
   accept_passed l e =
       let sized : ℕ → ℕ → Answer Sizes = λ x y. answered (record { n = x; m = y }) in

@@ -37,7 +37,8 @@ pub overflow_sub-result : goal.overflow_sub-result
 overflow_sub-result c = let p = part (goal.at.overflow_sub-result c).After-part_from-part in omega arith
 
 pub overflow_sub-result-then-part-ne0 : goal.overflow_sub-result-then-part-ne0
-overflow_sub-result-then-part-ne0 c = let b = (found (goal.at.overflow_sub-result-then-part-ne0 c).After-top).0 in omega arith
+overflow_sub-result-then-part-ne0 c =
+    let b = (found (goal.at.overflow_sub-result-then-part-ne0 c).After-top).0 in omega arith
 
 pub returns-then-part-ne0 : goal.returns-then-part-ne0
 returns-then-part-ne0 c = (found (goal.at.returns-then-part-ne0 c).After-top).1
