@@ -1,6 +1,5 @@
 -- `figures::figure_by` meets its contract: Check first, in the front part of the work slice.
 use mathlib.Core.Path.{sym, ap, ◌∙◌}
-use lib.Seq.{length-take-le}
 use Rattle.record.specs.Rules.{check_rules}
 use Rattle.record.specs.Answers.{answered}
 use Rattle.record.specs.Operations.{check}

@@ -1,7 +1,7 @@
 -- `figures::figure_from` meets its contract: the search, and the roots among the parents.
 use mathlib.Core.Path.{◌∙◌}
 use Rattle.forest.proofs.Laws.Building.{graph_asked}
-use Rattle.forest.proofs.Laws.Figuring.{figure_none, search_asked, parents_asked, figure_shown}
+use Rattle.forest.proofs.Laws.Figuring.{figure_none, parents_asked, figure_shown}
 use Rattle.forest.proofs.figures.figure_from.Goals as goal
 
 pub returns-then-n-eq0 : goal.returns-then-n-eq0

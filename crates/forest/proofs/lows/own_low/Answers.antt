@@ -1,7 +1,6 @@
 -- `lows::own_low` meets its contract: before p every place is looked at.
-use mathlib.Core.Path.{refl}
 use native.Mathlib.Omega.{arith}
-use Rattle.forest.proofs.Laws.Lowest.{looked_begin, looked_inside, looked_more, looked_end}
+use Rattle.forest.proofs.Laws.Lowest.{looked_inside, looked_more, looked_end}
 use Rattle.forest.proofs.lows.own_low.Goals as goal
 
 pub next_low-own-requires : goal.next_low-own-requires

@@ -1,9 +1,7 @@
 -- `lows::own_lows` meets its contract: the vertices before c have their numbers.
-use mathlib.Core.Path.{refl, ap}
 use native.Mathlib.Omega.{arith}
-use lib.ListN.{set}
 use Rattle.forest.proofs.Laws.Graphs.{many}
-use Rattle.forest.proofs.Laws.Lifted.{filled_begin, filled_more, filled_end}
+use Rattle.forest.proofs.Laws.Lifted.{filled_end}
 use Rattle.forest.proofs.lows.own_lows.Goals as goal
 
 pub returns : goal.returns

@@ -1,6 +1,6 @@
 -- `marks::mark_listed` meets its contract: the bits of the list so far are set.
 use lib.ListN.{length}
-use Rattle.forest.proofs.Laws.Listed.{marking_begin, marking_more, marking_end}
+use Rattle.forest.proofs.Laws.Listed.{marking_begin, marking_more}
 use Rattle.forest.proofs.marks.mark_listed.Goals as goal
 
 pub loop-bit-init : goal.loop-bit-init
@@ -10,8 +10,3 @@ loop-bit-init c =
 pub loop-bit-preserved : goal.loop-bit-preserved
 loop-bit-preserved c =
     marking_more c.loop-bit.invariant c.loop-bit-test.true c.from.ensures c.set_bit.ensures
-
-pub returns-clause-section_after : goal.returns-clause-section_after
-returns-clause-section_after c =
-    let k = length c.args.section.now in
-    marking_end c.loop-bit.invariant k c.fill.ensures.len c.loop-bit-test.false c.clear_first.ensures.0
