@@ -58,20 +58,18 @@ fn try_start(g: &Graph, work: &mut [u16], v: usize, k: usize) -> Hand
     Hand { cur: 0, k }
 }
 
-// The first place from `from` on and before `end` that leads to an unvisited vertex; where there is none, a place that
-// is not before `end`: with an Option the loop takes an instruction more for each place.
+// The first place from `from` on and before `end` that leads to an unvisited vertex; where there is none, one that is
+// not before `end`: with an Option the loop takes an instruction more for each place.
 fn pass_visited(g: &Graph, work: &[u16], from: usize, end: usize) -> usize
     requires { (Room g.now.n g.now.s work.now) × (end ≤ length g.now.nbrs.now) }
     ensures { PassedTo g.now.nbrs.now g.now.s work.now from end result }
 {
-    let mut p = from;
-    while p < end {
+    for p in from..end {
         if get(work, 2 * g.s + get(g.nbrs, p)) == 0 {
             return p;
         }
-        p += 1;
     }
-    p
+    from.max(end)
 }
 
 // Vertex u is at hand: its next unvisited neighbour is entered; where there is none, the parent comes to hand.

@@ -38,8 +38,5 @@ overflow_sub-left c = left_more (goal.at.overflow_sub-left c).In-loop-at
 pub loop-at-smaller : goal.loop-at-smaller
 loop-at-smaller c = let h = left_more (goal.at.loop-at-smaller c).In-loop-at in omega arith
 
-pub loop-at-preserved : goal.loop-at-preserved
-loop-at-preserved c = c.step-at.ensures _ _ c.loop-at.invariant
-
 pub returns : goal.returns
 returns c = search_ended c.args.g.now c.requires.1 c.loop-at.at c.loop-at.invariant c.loop-at-test.false

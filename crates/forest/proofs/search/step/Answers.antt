@@ -17,11 +17,6 @@ returns-then-hand-gt0 c = λ roots left t.
     let e : c.args.hand.cur ≡ suc (c.args.hand.cur - 1) = omega arith in
     c.try_next.ensures roots _ left (rw e at t)
 
-pub try_start-requires : goal.try_start-requires
-try_start-requires c =
-    let e : c.args.hand.cur ≡ 0 = omega arith in
-    (omega (arith, c.requires.0 e), rw e at c.requires.1)
-
 pub returns-else-hand-gt0 : goal.returns-else-hand-gt0
 returns-else-hand-gt0 c = λ roots left t.
     let e : c.args.hand.cur ≡ 0 = omega arith in
