@@ -1,17 +1,11 @@
 -- From an operation's answer to the number that is returned.
 use mathlib.Core.Path.{◌≡◌, refl, sym, ap, subst, ◌∙◌}
 use Prim.Native.Nat.{ℕ, ◌<◌}
-use native.Mathlib.Omega.{arith}
 use Rattle.std.specs.Prelude.{Result, Ok, Err, IfOk}
-use Rattle.record.specs.Answers.{Answer, answer, number}
+use Rattle.record.specs.Answers.{Answer, answer}
 use Rattle.record.specs.declared.Refusal.{Refusal}
-use Rattle.record.specs.Laws.Settled.{number_bounds}
 use Rattle.record.specs.Laws.Valued.{Valued, value_at}
 use Rattle.celduga.specs.Code.{code, coded}
-
--- a refusal's number fits the high half
-pub number_small : (r : Refusal) → number r < 65536
-number_small r = omega (arith, (number_bounds r).1)
 
 -- the call answers what the definition says, b
 module _ {T A : Type 0} (value : T → A) (low : A → ℕ) where
