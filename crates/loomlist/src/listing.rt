@@ -59,6 +59,37 @@ pub struct Listing<'a> {
     ghost parents_fit: { length parents.now ≡ length visits.now },
     ghost counts_fit: { length counts.now ≡ length visits.now },
     ghost heads_fit: { length heads.now ≡ length visits.now },
+    ghost fits: { length (listing
+        visits.now parents.now counts.now heads.now (length visits.now) loops) ≤ 122943 },
+}
+
+impl<'a> Listing<'a> {
+    // The text has at most 36 bytes, 30 for each terminal, and 27.
+    pub fn new(
+        visits: &'a [u16],
+        parents: &'a [u16],
+        counts: &'a [u16],
+        heads: &'a [u16],
+        loops: usize,
+    ) -> Self
+        requires few { length visits.now ≤ 4096 }
+        requires parents_fit { length parents.now ≡ length visits.now }
+        requires counts_fit { length counts.now ≡ length visits.now }
+        requires heads_fit { length heads.now ≡ length visits.now }
+        ensures visits { result.visits.now ≡ visits.now }
+        ensures parents { result.parents.now ≡ parents.now }
+        ensures counts { result.counts.now ≡ counts.now }
+        ensures heads { result.heads.now ≡ heads.now }
+        ensures loops { result.loops ≡ loops }
+    {
+        Listing {
+            visits,
+            parents,
+            counts,
+            heads,
+            loops,
+        }
+    }
 }
 
 // A heading, a line for each terminal, and the loop figure's.
@@ -82,8 +113,7 @@ impl fmt::Display for Listing<'_> {
     }
 }
 
-// Prints the listing of at most 4,096 terminals, which takes at most 36 bytes, 30 for each terminal, and 27. It is put
-// together first, and goes out in one piece.
+// Prints the listing. It is put together first, and goes out in one piece: the room holds every listing.
 pub fn accepted(rt: &HostRuntime, listing: &Listing) -> io::Result<()> {
     let mut text = ArrayString::<122943>::new();
     write!(text, "{listing}")?;

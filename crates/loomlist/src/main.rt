@@ -53,13 +53,7 @@ fn list(rt: &HostRuntime, bytes: &[u8]) -> Result<io::Result<()>, Refusal> {
         heads,
     )?;
     let loops = figure(&layout, parents);
-    let listing = Listing {
-        visits,
-        parents,
-        counts,
-        heads,
-        loops,
-    };
+    let listing = Listing::new(visits, parents, counts, heads, loops);
     Ok(listing::accepted(rt, &listing))
 }
 
