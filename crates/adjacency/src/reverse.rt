@@ -11,7 +11,7 @@ ghost use Rattle.adjacency.specs.Reverse.{Turned, Turning, TurnedBefore, Matchin
 ghost use Rattle.adjacency.specs.Reverse.{Reversed, Kept, Orderly};
 ghost use Rattle.adjacency.specs.Tally.{Tells};
 
-use super::cells::{get, put};
+use super::cells::{copy, get, put};
 use super::lists::Lists;
 
 // A row that the starts cut into the blocks of some row, turned round.
@@ -133,11 +133,11 @@ pub fn all_mutual(lists: &Lists, reverse: &mut [u16], next: &mut [u16]) -> bool
     ensures { let g : Blocks = cut lists.now.starts.now lists.now.nbrs.now in Tells (Kept g) (Kept g) result }
 {
     let begins = &lists.starts[..lists.starts.len() - 1];
-    next.copy_from_slice(begins);
+    copy(begins, next);
     if !turn_all(lists, reverse, next) {
         return false;
     }
-    next.copy_from_slice(begins);
+    copy(begins, next);
     let parts = Parts {
         starts: lists.starts,
         row: reverse,

@@ -6,7 +6,7 @@ ghost use Rattle.forest.specs.Steps.{stride as stride_of, Room, Begun, Entering,
 ghost use Rattle.forest.specs.Graphs.{held, Underway, StartTried, NextTried, IsLeft, StepTaken};
 
 use super::graphs::Graph;
-use adjacency::cells::{get, put};
+use adjacency::cells::{copy, get, put};
 
 // 0, or 1 + the vertex at hand, as the cells have a parent, and how many vertices are entered. An Option in place of
 // the 0 takes more instructions for each step of the search.
@@ -122,7 +122,7 @@ fn begin(g: &Graph, work: &mut [u16])
     let n = g.n;
     let visits = 2 * g.s;
     work[visits..visits + n].fill(0);
-    work[..n].copy_from_slice(&g.starts[..n]);
+    copy(&g.starts[..n], &mut work[..n]);
 }
 
 // The search that begins at the vertex `first` and then takes all vertices in order. It ends once all are entered: what

@@ -10,7 +10,7 @@ ghost use Rattle.queries.specs.Seen.{seen};
 use super::indexed::{Ascent, Indexed};
 use super::known::find_head;
 use super::visits::visit_in;
-use adjacency::cells::put;
+use adjacency::cells::{copy, put};
 use forest::Dfi;
 use record::range::out_of_range;
 use record::starts::fill_starts;
@@ -100,8 +100,8 @@ fn lookup_by(
         starts,
     };
     look_all(&ascent, known, way, list, first, second)?;
-    heads.copy_from_slice(first);
-    visits.copy_from_slice(second);
+    copy(first, heads);
+    copy(second, visits);
     Ok(())
 }
 

@@ -28,17 +28,17 @@ returns-in_err-look_all c =
     (beside i) c.requires.0 c.in_err-look_all.ensures.answers in
     rw (p.1, p.2) d
 
-pub copy_from_slice-requires : goal.copy_from_slice-requires
-copy_from_slice-requires c =
-    (fit (goal.at.copy_from_slice-requires c).Start).1 ∙ sym (c.look_all.auto.heads ∙ c.requires.4)
+pub copy-requires : goal.copy-requires
+copy-requires c =
+    (fit (goal.at.copy-requires c).Start).1 ∙ sym (c.look_all.auto.heads ∙ c.requires.4)
 
-pub copy_from_slice-requires-2 : goal.copy_from_slice-requires-2
-copy_from_slice-requires-2 c =
-    (fit (goal.at.copy_from_slice-requires-2 c).Start).2 ∙ sym (c.look_all.auto.visits ∙ c.requires.5)
+pub copy-requires-2 : goal.copy-requires-2
+copy-requires-2 c =
+    (fit (goal.at.copy-requires-2 c).Start).2 ∙ sym (c.look_all.auto.visits ∙ c.requires.5)
 
 pub returns : goal.returns
 returns c =
     let i = c.args.i.now in
     lookup_filled i.layout.bytes.now i.index.now c.args.list.now (lent (goal.at.returns c).Start) (beside i)
     c.requires.0 c.in_ok-look_all.ensures.answers
-    (ap₂ lists c.copy_from_slice.ensures.after c.copy_from_slice-2.ensures.after ∙ c.in_ok-look_all.ensures.finds refl)
+    (ap₂ lists c.copy.ensures c.copy-2.ensures ∙ c.in_ok-look_all.ensures.finds refl)
