@@ -91,8 +91,8 @@ pub fn in_room(laid: &LaidOut) -> Result<usize, Refusal>
     } else if n <= 512 && m <= 1024 {
         figure_in::<576, 2208, 3264, 512>(laid)
     } else if m <= 4096 {
-        figure_in::<4160, 8352, 26112, 4096>(laid)
+        figure_in::<4160, 8352, 26112, 4160>(laid)
     } else {
-        figure_in::<4160, 32928, 33120, 4096>(laid)
+        figure_in::<4160, 32928, 33120, 4160>(laid)
     }
 }

@@ -117,8 +117,8 @@ pub fn in_room(
     } else if n <= 512 && m <= 1024 {
         build_in::<576, 2208, 2400, 512>(laid, start, work, index)
     } else if m <= 4096 {
-        build_in::<4160, 8352, 8544, 4096>(laid, start, work, index)
+        build_in::<4160, 8352, 8544, 4160>(laid, start, work, index)
     } else {
-        build_in::<4160, 32928, 33120, 4096>(laid, start, work, index)
+        build_in::<4160, 32928, 33120, 4160>(laid, start, work, index)
     }
 }

@@ -42,8 +42,8 @@ pub fn in_room(lists: &Listing) -> Result<(), Refusal>
     } else if n <= 512 && places <= 2048 {
         try_in::<576, 2208, 2400, 512>(lists)
     } else if places <= 8192 {
-        try_in::<4160, 8352, 8544, 4096>(lists)
+        try_in::<4160, 8352, 8544, 4160>(lists)
     } else {
-        try_in::<4160, 32928, 33120, 4096>(lists)
+        try_in::<4160, 32928, 33120, 4160>(lists)
     }
 }

@@ -75,8 +75,8 @@ pub fn in_room(laid: &LaidOut, list: &mut [u16]) -> Result<(), Refusal>
     } else if n <= 512 && m <= 1024 {
         unpack_in::<576, 2208, 2400, 512>(laid, list)
     } else if m <= 4096 {
-        unpack_in::<4160, 8352, 8544, 4096>(laid, list)
+        unpack_in::<4160, 8352, 8544, 4160>(laid, list)
     } else {
-        unpack_in::<4160, 32928, 33120, 4096>(laid, list)
+        unpack_in::<4160, 32928, 33120, 4160>(laid, list)
     }
 }
