@@ -22,16 +22,19 @@ fn next_low(g: &Graph, work: &[u16], c: usize, up: usize, p: usize, so_far: Low)
     ensures { let v = get_or g.now.nbrs.now p 0 in
         LowStep c up p v (get_or work.now (2 * g.now.s + v) 0) so_far result }
 {
+    // the values are picked without a branch, which the machine would guess wrong once for each vertex
     let v = get(g.nbrs, p);
-    if v + 1 == up && so_far.back.is_none() {
-        return Low {
-            low: so_far.low,
-            back: Some((p + c + 1) as u16),
-        };
-    }
+    let x = so_far.low.min(work[2 * g.s + v]);
+    let is_parent = v + 1 == up;
+    let passes = is_parent & so_far.back.is_none();
+    let place = if is_parent {
+        Some((p + c + 1) as u16)
+    } else {
+        None
+    };
     Low {
-        low: so_far.low.min(work[2 * g.s + v]),
-        back: so_far.back,
+        low: if passes { so_far.low } else { x },
+        back: so_far.back.or(place),
     }
 }
 
