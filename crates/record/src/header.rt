@@ -22,7 +22,8 @@ fn bad_unary(bytes: &[u8], n: usize, m: usize) -> bool
     bits::rank(bytes, 28, places, places) != n || places != 0 && !bits::fields::read_bit(bytes, 28)
 }
 
-// Order R, with the record's layout handed on.
+// Order R, with the record's layout handed on. Inlined: handing a layout on costs a small record's Degree a third more.
+#[inline(always)]
 pub fn order_r(bytes: &[u8]) -> Result<Layout<'_>, Refusal>
     ensures sizes { shape result ≡ tried (order_r_of bytes.now) (sizes_of bytes.now) }
     ensures same { IfOk result (λ l. l.bytes.now ≡ bytes.now) }
