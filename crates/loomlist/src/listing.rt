@@ -1,5 +1,6 @@
 // What the program prints.
-ghost use Rattle.std.specs.Prelude.{◌≡◌, ◌≤◌, length, Some};
+ghost use Rattle.std.specs.Prelude.{◌≡◌, ◌≤◌, ◌+◌, ◌++◌, length, Some, OnOk};
+ghost use Rattle.arrayvec.specs.ArrayString.{array_string_len};
 ghost use Rattle.loomlist.specs.Text.{line, listing};
 
 use arrayvec::ArrayString;
@@ -113,10 +114,25 @@ impl fmt::Display for Listing<'_> {
     }
 }
 
-// Prints the listing. It is put together first, and goes out in one piece: the room holds every listing.
+// Puts a listing behind a text that has room for it.
+fn put<const ROOM: usize>(text: &mut ArrayString<ROOM>, l: &Listing) -> fmt::Result
+    requires { array_string_len text.old
+        + length (listing
+        l.now.visits.now l.now.parents.now l.now.counts.now l.now.heads.now
+        (length l.now.visits.now) l.now.loops) ≤ ROOM }
+    ensures { OnOk result (text.new.bytes ≡ text.old.bytes ++ listing
+        l.now.visits.now l.now.parents.now l.now.counts.now l.now.heads.now
+        (length l.now.visits.now) l.now.loops) }
+{
+    write!(text, "{l}")
+}
+
+// Prints the listing. It is put together first, and goes out in one piece: the room holds every listing, and is in this
+// function's frame alone.
+#[inline(never)]
 pub fn accepted(rt: &HostRuntime, listing: &Listing) -> io::Result<()> {
     let mut text = ArrayString::<122943>::new();
-    write!(text, "{listing}")?;
+    put(&mut text, listing)?;
     rt.write_all(text.as_bytes())
 }
 
