@@ -1,10 +1,11 @@
--- What contracts inside this crate say of bytes joined to a number, of a byte, of a search for ones, and of a number
--- with a field replaced, and what callers are told of four fields.
+-- What contracts and proofs inside this crate say of bytes joined to a number, of a byte, of a search for ones, and of
+-- a number with a field replaced, and what callers are told of four fields.
 --   joined    bytes joined to a number
 --   eight     eight bytes of a list
 --   two       two bytes of a list
 --   three     two bytes of a list in a row, and a third
 --   byte_of    a byte of a number
+--   low_bytes  the lowest bytes of a number, the lowest first
 --   IsByte    a number is a byte of a list
 --   IsRest    a number is what is left of a byte from a bit on
 --   within    a place, or 0 past a limit
@@ -15,7 +16,7 @@
 --   Begun     the bits of some bytes begin with others, and are zeros after them
 --   replace   a number with a field replaced
 use Rattle.std.specs.Prelude.{◌≡◌, Bool, true, false, List, [], ◌∷◌, ◌++◌, ℕ, ◌+◌, ◌-◌, ◌*◌, ◌/◌, ◌%◌, ◌^◌, ◌≤◌, ◌<◌}
-use Rattle.std.specs.Prelude.{leb, length, drop, get_or, replicate}
+use Rattle.std.specs.Prelude.{zero, suc, leb, length, drop, get_or, replicate}
 use Rattle.bits.specs.Bits.{bits, field}
 
 -- the bytes, one below the other, below the number a
@@ -40,6 +41,11 @@ three bytes f l = get_or bytes f 0 ∷ get_or bytes (f + 1) 0 ∷ get_or bytes l
 -- the byte of x above its k lowest bits
 unfoldable pub byte_of : ℕ → ℕ → ℕ
 byte_of x k = x / 2 ^ k % 256
+
+-- n bytes of x above its k lowest bits, the lowest first
+abbrev pub low_bytes : ℕ → ℕ → ℕ → List ℕ
+low_bytes zero k x = []
+low_bytes (suc n) k x = byte_of x k ∷ low_bytes n (k + 8) x
 
 -- b is byte `at`
 pub record IsByte (bytes : List ℕ) (at b : ℕ) : Type 0 where
