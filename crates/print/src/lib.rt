@@ -1,6 +1,9 @@
 // What programs print: answers, lists, bytes and digests. It rests on none of the crates that they ask.
 #![tactic(auto)]
 
+ghost use Rattle.std.specs.Prelude.{◌≡◌, codes};
+ghost use Rattle.print.specs.Told.{told, worded};
+
 use std::{fmt, io};
 
 // What a call answers: its value, or the number of its refusal.
@@ -8,6 +11,8 @@ use std::{fmt, io};
 pub struct Told<T>(pub Result<T, usize>);
 
 impl<T: fmt::Display> fmt::Display for Told<T> {
+    ghost output = { λ t. told T.output t.0 };
+
     fn fmt<W: fmt::Write>(&self, f: &mut fmt::Formatter<W>) -> fmt::Result {
         match &self.0 {
             Ok(value) => write!(f, "{value}"),
@@ -17,7 +22,9 @@ impl<T: fmt::Display> fmt::Display for Told<T> {
 }
 
 // The same of a call that answers no more than that nothing is refused.
-pub fn verdict(answer: Result<(), usize>) -> Told<&'static str> {
+pub fn verdict(answer: Result<(), usize>) -> Told<&'static str>
+    ensures { worded (λ s. s.now) result.0 ≡ worded (λ _. codes "accepted") answer }
+{
     Told(answer.map(|()| "accepted"))
 }
 

@@ -1,0 +1,2 @@
+-- What contracts here cite.
+pub mod Told
